@@ -1,0 +1,56 @@
+-- The claims that are made of the rule: what a log that the table lets through is, what a split must be, and the wear
+-- bound. They are proved in proofs/ (docs/CONTRACTS.md names each). Assumes nothing.
+use mathlib.Core.Path.{_≡_}
+use mathlib.Core.Bool.{false}
+use mathlib.Core.List.{List}
+use Prim.Native.Nat.{ℕ, _+_, _*_, _-_, _≤_, _<_, _%_}
+use lib.ListN.{length, getD}
+use Rattle.landlord.specs.declared.Step.{Step}
+use Rattle.landlord.specs.declared.Step.the-variants.{Flush}
+use Rattle.landlord.specs.Fold.{sumTo}
+use Rattle.landlord.specs.Catalog.{Catalog, CatalogOk, CapacityOk, unit}
+use Rattle.landlord.specs.Slot.{Split, loadCredit}
+use Rattle.landlord.specs.Rule.{State, size, slotAt}
+use Rattle.landlord.specs.Figures.{season, totalCost}
+use Rattle.landlord.specs.Plan.{Plan, price, costs}
+use Rattle.landlord.specs.Calls.{callOf, refusalAt}
+
+-- a list of steps that the table of refusals lets through, each at its place in an open log
+pub record Allowed (k : ℕ) (cat : Catalog) (steps : List Step) : Type 0 where
+  pub each : (i : ℕ) → i < length steps → refusalAt k cat i false (callOf (getD steps i Flush)) ≡ 0
+
+-- s divides n: dividing leaves nothing over
+abbrev pub Divides : ℕ → ℕ → Type 0
+Divides s n = n % s ≡ 0
+
+-- What a split "in multiples of the item's blocks" lets the write credit bear, t, of a loss: a multiple of the blocks, no
+-- more than the loss and no more than the write credit, and no more than the load credit is left to the load credit.
+pub record Bears (s loss a b t : ℕ) : Type 0 where
+  pub whole : Divides s t
+  pub part : t ≤ loss
+  pub within : t ≤ b
+  pub rest : loss ≤ t + a
+
+-- a split that does so wherever the two credits together can bear the loss, and all three are multiples of the blocks
+pub record SplitOk (split : Split) : Type 0 where
+  pub each :
+      (s loss a b : ℕ) → 1 ≤ s → Divides s loss → Divides s a → Divides s b → loss ≤ a + b → Bears s loss a b (split s loss a b)
+
+-- The wear bound of one log: the rule's total over the steps and the closing, times k - h + 1, is at most k times the
+-- cost of every plan that is legal over those steps with h blocks.
+abbrev pub WearBound : Split → ℕ → Catalog → List Step → Type 0
+WearBound split k cat steps =
+    (h : ℕ) → 1 ≤ h → h ≤ k → (plan : Plan) (c : ℕ) → price cat h plan steps ≡ costs c →
+    totalCost (season split k cat steps .figures) * (k - h + 1) ≤ k * c
+
+-- the load credits held, in shares
+abbrev pub loadCredits : State → ℕ
+loadCredits x = sumTo (size x) (λ i. loadCredit (slotAt x i))
+
+-- The sharper line: (h - 1) times the load credits held at the close is added on the left. All is in shares, that is,
+-- multiplied by 720,720.
+abbrev pub SharpBound : Split → ℕ → Catalog → List Step → Type 0
+SharpBound split k cat steps =
+    (h : ℕ) → 1 ≤ h → h ≤ k → (plan : Plan) (c : ℕ) → price cat h plan steps ≡ costs c →
+    totalCost (season split k cat steps .figures) * (k - h + 1) * unit + (h - 1) * loadCredits (season split k cat steps .state)
+    ≤ k * c * unit

@@ -1,0 +1,152 @@
+-- What the rule pays and counts: a table of what each event adds, and the sums over a log from an empty cache.
+-- Paper 01, 'The step rule' and the report's names. Assumes nothing.
+use mathlib.Core.Bool.{Bool, true, false}
+use mathlib.Core.List.{List, [], _∷_}
+use Prim.Native.Nat.{ℕ, _+_, _/_}
+use lib.ListN.{length, getD}
+use lib.Dec.{eqb}
+use Rattle.landlord.specs.declared.Step.{Step}
+use Rattle.landlord.specs.Fold.{cond, tab, fold}
+use Rattle.landlord.specs.Catalog.{Catalog, itemAt}
+use Rattle.landlord.specs.Slot.{Split}
+use Rattle.landlord.specs.Rule.{State, Event, hit, loaded, evicted, wroteBack, wrote, landed, Moved, emptied, flush, step}
+
+-- The totals of paper 01's report, with the steps and the flushes (landings). The closing is neither a step nor a flush.
+pub record Totals : Type 0 where
+  pub steps : ℕ
+  pub hits : ℕ
+  pub loads : ℕ
+  pub loadCost : ℕ
+  pub evictions : ℕ
+  pub dirtyEvictions : ℕ
+  pub writebacks : ℕ
+  pub writeCost : ℕ
+  pub flushes : ℕ
+
+-- an item's line of the report
+pub record Use : Type 0 where
+  pub tenths : ℕ
+  pub loads : ℕ
+  pub writebacks : ℕ
+
+pub record Figures : Type 0 where
+  pub totals : Totals
+  pub uses : List Use
+
+abbrev pub totalsOf : ℕ → ℕ → ℕ → ℕ → ℕ → ℕ → ℕ → ℕ → ℕ → Totals
+totalsOf s h l lc e de w wc f =
+    record {
+      steps = s;
+      hits = h;
+      loads = l;
+      loadCost = lc;
+      evictions = e;
+      dirtyEvictions = de;
+      writebacks = w;
+      writeCost = wc;
+      flushes = f;
+    }
+
+-- What an event adds, in the order: steps, hits, loads, load cost, evictions, dirty evictions, writebacks, write cost,
+-- flushes. A dirty eviction is a writeback, whatever its cost.
+abbrev pub adds : Catalog → Event → Totals
+adds cat (hit i) = totalsOf 1 1 0 0 0 0 0 0 0
+adds cat (loaded i) = totalsOf 1 0 1 (itemAt cat i .load) 0 0 0 0 0
+adds cat (evicted i false) = totalsOf 0 0 0 0 1 0 0 0 0
+adds cat (evicted i true) = totalsOf 0 0 0 0 1 1 1 (itemAt cat i .write) 0
+adds cat (wroteBack i) = totalsOf 0 0 0 0 0 0 1 (itemAt cat i .write) 0
+adds cat (wrote i minutes) = totalsOf 0 0 0 0 0 0 0 0 0
+adds cat landed = totalsOf 1 0 0 0 0 0 0 0 1
+
+-- "A write adds minutes / 6, rounded down, to the sail's tenths of an hour"
+abbrev pub tenthsOf : ℕ → ℕ
+tenthsOf minutes = minutes / 6
+
+abbrev pub useOf : ℕ → ℕ → ℕ → Use
+useOf t l w = record { tenths = t; loads = l; writebacks = w }
+
+-- what an event adds to the line of the item that it is about: tenths, loads, writebacks
+abbrev pub usage : Event → Use
+usage (hit i) = useOf 0 0 0
+usage (loaded i) = useOf 0 1 0
+usage (evicted i false) = useOf 0 0 0
+usage (evicted i true) = useOf 0 0 1
+usage (wroteBack i) = useOf 0 0 1
+usage (wrote i minutes) = useOf (tenthsOf minutes) 0 0
+usage landed = useOf 0 0 0
+
+-- whether an event is about item i
+abbrev pub isAbout : ℕ → Event → Bool
+isAbout i (hit j) = eqb i j
+isAbout i (loaded j) = eqb i j
+isAbout i (evicted j d) = eqb i j
+isAbout i (wroteBack j) = eqb i j
+isAbout i (wrote j minutes) = eqb i j
+isAbout i landed = false
+
+abbrev pub plusTotals : Totals → Totals → Totals
+plusTotals a b =
+    totalsOf (a .steps + b .steps) (a .hits + b .hits) (a .loads + b .loads) (a .loadCost + b .loadCost)
+    (a .evictions + b .evictions) (a .dirtyEvictions + b .dirtyEvictions) (a .writebacks + b .writebacks)
+    (a .writeCost + b .writeCost) (a .flushes + b .flushes)
+
+abbrev pub noUse : Use
+noUse = useOf 0 0 0
+
+abbrev pub useAt : Figures → ℕ → Use
+useAt f i = getD (f .uses) i noUse
+
+abbrev pub plusUse : Use → Use → Use
+plusUse a b = useOf (a .tenths + b .tenths) (a .loads + b .loads) (a .writebacks + b .writebacks)
+
+-- the figures after one event more
+abbrev pub tally : Catalog → Figures → Event → Figures
+tally cat f e =
+    record {
+      totals = plusTotals (f .totals) (adds cat e);
+      uses = tab (length cat) (λ i. plusUse (useAt f i) (cond (isAbout i e) (usage e) noUse));
+    }
+
+abbrev pub nothing : Catalog → Figures
+nothing cat = record { totals = totalsOf 0 0 0 0 0 0 0 0 0; uses = tab (length cat) (λ i. noUse) }
+
+-- "Total is loadcost + writecost"
+abbrev pub totalCost : Figures → ℕ
+totalCost f = f .totals .loadCost + f .totals .writeCost
+
+-- where the rule stands in a season: the capacity, the cache, what it has counted, and whether the log is closed
+pub record Standing : Type 0 where
+  pub k : ℕ
+  pub state : State
+  pub figures : Figures
+  pub closed : Bool
+
+-- at opening: "empty", nothing counted
+abbrev pub opened : ℕ → Catalog → Standing
+opened k cat = record { k = k; state = emptied cat; figures = nothing cat; closed = false }
+
+-- a standing moved on: the next state, and the events counted
+abbrev pub moved : Standing → Moved → Bool → Standing
+moved v m isClosed =
+    record {
+      k = v .k;
+      state = m .state;
+      figures = fold (tally (v .state .catalog)) (v .figures) (m .events);
+      closed = isClosed;
+    }
+
+-- one step more
+unfoldable pub took : Split → Standing → Step → Standing
+took split v s = moved v (step split (v .k) s (v .state)) (v .closed)
+
+-- "Closing does what a landing does, is not counted as a step, and closes the locker"
+unfoldable pub closes : Standing → Standing
+closes v = moved v (flush (v .state)) true
+
+-- the rule over a list of steps, from an empty cache
+abbrev pub ran : Split → ℕ → Catalog → List Step → Standing
+ran split k cat steps = fold (took split) (opened k cat) steps
+
+-- the rule over a list of steps and the closing
+abbrev pub season : Split → ℕ → Catalog → List Step → Standing
+season split k cat steps = closes (ran split k cat steps)

@@ -1,0 +1,10 @@
+pub mod Fold
+pub mod Types
+pub mod Catalog
+pub mod Slot
+pub mod Rule
+pub mod Figures
+pub mod Plan
+pub mod Calls
+pub mod Bound
+pub mod Rows

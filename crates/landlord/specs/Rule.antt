@@ -1,0 +1,147 @@
+-- The step rule of paper 01: the published Writeback-Aware Landlord, with blocks, and with flushes.
+-- Each definition answers the next state and the events, in order; specs/Figures.antt says what each event pays.
+-- `split` is how a loss is split between the two credits (specs/Slot.antt), `k` the capacity. Assumes nothing.
+use mathlib.Core.Bool.{Bool, true, false}
+use mathlib.Core.List.{List, [], _∷_, _++_}
+use Prim.Native.Nat.{ℕ, zero, suc, _+_, _*_, _/_}
+use lib.ListN.{length, getD, set}
+use lib.Dec.{leb, ltb, eqb}
+use Rattle.landlord.specs.declared.Step.{Step}
+use Rattle.landlord.specs.declared.Step.the-variants.{Read, Write, Flush}
+use Rattle.landlord.specs.Fold.{cond, sumTo, tab, bestTo}
+use Rattle.landlord.specs.Catalog.{Catalog, Item, itemAt, full}
+use Rattle.landlord.specs.Slot.{Slot, absent, held, isDirty, loadCredit, writeCredit, Split, lose, brought, refilled, written, flushed}
+
+-- the rule's state: the catalog, and a slot for each item of it
+pub record State : Type 0 where
+  pub catalog : Catalog
+  pub slots : List Slot
+
+abbrev pub size : State → ℕ
+size x = length (x .catalog)
+
+abbrev pub slotAt : State → ℕ → Slot
+slotAt x i = getD (x .slots) i absent
+
+abbrev pub blocksAt : State → ℕ → ℕ
+blocksAt x i = itemAt (x .catalog) i .blocks
+
+-- the cache at opening: every place empty
+abbrev pub emptied : Catalog → State
+emptied cat = record { catalog = cat; slots = tab (length cat) (λ i. absent) }
+
+-- what happens to an item, and what the figures are counted from
+pub data Event : Type 0 where
+  hit : (item : ℕ) → Event
+  loaded : (item : ℕ) → Event
+  evicted : (item : ℕ) (wasDirty : Bool) → Event
+  wroteBack : (item : ℕ) → Event
+  wrote : (item minutes : ℕ) → Event
+  landed : Event
+
+pub record Moved : Type 0 where
+  pub state : State
+  pub events : List Event
+
+abbrev pub stay : State → Moved
+stay x = record { state = x; events = [] }
+
+-- first one, then the other, which began where the first ended
+abbrev pub joined : Moved → Moved → Moved
+joined a b = record { state = b .state; events = a .events ++ b .events }
+
+-- the blocks held
+unfoldable pub used : State → ℕ
+used x = sumTo (size x) (λ i. cond (held (slotAt x i)) (blocksAt x i) 0)
+
+-- how many items are held
+unfoldable pub heldCount : State → ℕ
+heldCount x = sumTo (size x) (λ i. cond (held (slotAt x i)) 1 0)
+
+-- "(load credit + write credit) / blocks"; credits are multiples of the blocks, so nothing is rounded
+abbrev pub rank : State → ℕ → ℕ
+rank x i = (loadCredit (slotAt x i) + writeCredit (slotAt x i)) / blocksAt x i
+
+-- a held item goes before the best so far if its rank is less, or if there is none so far
+abbrev pub goesBefore : State → ℕ → ℕ → Bool
+goesBefore x i best = cond (held (slotAt x i)) (cond (eqb best (size x)) true (ltb (rank x i) (rank x best))) false
+
+-- "the least value among held sails; equal values go to the lowest sail number"; the count of items if none is held
+unfoldable pub victim : State → ℕ
+victim x = bestTo (goesBefore x) (size x) (size x)
+
+-- "That sail is dropped. Each other held sail loses blocks × that value"
+unfoldable pub evictItem : Split → ℕ → State → State
+evictItem split v x =
+    record {
+      catalog = x .catalog;
+      slots =
+          tab (size x) (λ i. cond (eqb i v) absent (lose split (blocksAt x i) (blocksAt x i * rank x v) (slotAt x i)));
+    }
+
+abbrev pub evict : Split → State → Moved
+evict split x =
+    record {
+      state = evictItem split (victim x) x;
+      events = evicted (victim x) (isDirty (slotAt x (victim x))) ∷ [];
+    }
+
+-- "While free blocks are fewer than the sail's": evict, at most `turns` times
+unfoldable pub evictFor : ℕ → Split → ℕ → ℕ → State → Moved
+evictFor zero split k blocks x = stay x
+evictFor (suc turns) split k blocks x =
+    let e = evict split x in
+    let more = joined e (evictFor turns split k blocks (e .state)) in
+    cond (leb (used x + blocks) k) (stay x) more
+
+-- A miss makes room for the item; a hit needs none. An eviction takes one held item away, so there are never more
+-- evictions than held items, and room is left (proofs/Keeps.antt, room-left).
+unfoldable pub makeRoom : Split → ℕ → ℕ → State → Moved
+makeRoom split k i x =
+    let room = evictFor (heldCount x) split k (blocksAt x i) x in
+    cond (held (slotAt x i)) (stay x) room
+
+-- one slot changed
+abbrev pub put : State → ℕ → Slot → State
+put x i s = record { catalog = x .catalog; slots = set (x .slots) i s }
+
+-- a hit, or else a load
+abbrev pub found : State → ℕ → Event
+found x i = cond (held (slotAt x i)) (hit i) (loaded i)
+
+-- the slot of a requested item, brought in if it was not held, with its load credit full
+abbrev pub readSlot : State → ℕ → Slot
+readSlot x i = refilled (full (itemAt (x .catalog) i .load)) (brought (slotAt x i))
+
+abbrev pub serveRead : ℕ → State → Moved
+serveRead i x = record { state = put x i (readSlot x i); events = found x i ∷ [] }
+
+abbrev pub serveWrite : ℕ → ℕ → State → Moved
+serveWrite i minutes x =
+    record {
+      state = put x i (written (full (itemAt (x .catalog) i .write)) (readSlot x i));
+      events = found x i ∷ wrote i minutes ∷ [];
+    }
+
+-- a writeback for each of the items below n that is dirty, in the order of their numbers
+unfoldable pub writeBacks : ℕ → (ℕ → Bool) → List Event
+writeBacks zero isDue = []
+writeBacks (suc n) isDue = writeBacks n isDue ++ cond (isDue n) (wroteBack n ∷ []) []
+
+-- what a landing and the closing both do: "Each dirty held sail pays its write cost, becomes clean"
+unfoldable pub flush : State → Moved
+flush x =
+    record {
+      state = record { catalog = x .catalog; slots = tab (size x) (λ i. flushed (slotAt x i)) };
+      events = writeBacks (size x) (λ i. isDirty (slotAt x i));
+    }
+
+-- one step of the log: room is made, then the step is served
+unfoldable pub step : Split → ℕ → Step → State → Moved
+step split k (Read i) x =
+    let room = makeRoom split k i x in
+    joined room (serveRead i (room .state))
+step split k (Write i minutes) x =
+    let room = makeRoom split k i x in
+    joined room (serveWrite i minutes (room .state))
+step split k Flush x = joined (record { state = x; events = landed ∷ [] }) (flush x)

@@ -1,0 +1,102 @@
+// The types that every part of the library shares: a step of the log, an act of a rival plan, and a refusal.
+// specs/Types.antt gives paper 01's number, letter and values for each of their cases.
+ghost use mathlib.Core.Path.{_≡_};
+ghost use Rattle.landlord.specs.Types.{stepKind, stepItem, stepMinutes, actKind, actItem, refusalNumber, refusalLine};
+
+// A step of the log. Its numbers are as given: nothing here says that they are in range.
+pub enum Step {
+    Read { item: u32 },
+    Write { item: u32, minutes: u32 },
+    // paper 01: a landing
+    Flush,
+}
+
+// An act of a plan, done before a step is served.
+pub enum Act {
+    // paper 01: D, drops a held sail
+    Evict { item: u32 },
+    // paper 01: F, fetches a sail not held
+    Fetch { item: u32 },
+}
+
+// A refusal, one case for each row of paper 01's table, in its order. The payload is the line of the text, counted
+// from 1; it is 0 where a call is refused and no text was read.
+pub enum Refusal {
+    // 1, torn
+    Malformed { line: u32 },
+    // 2, heading
+    Heading { line: u32 },
+    // 3, off the tape
+    OutOfRange { line: u32 },
+    // 4, miscounted
+    OutOfSequence { line: u32 },
+    // 5, outsized rival
+    PlanTooLarge { line: u32 },
+    // 6, stranger
+    UnknownItem { line: u32 },
+    // 7, too bulky
+    ItemTooLarge { line: u32 },
+    // 8, log full
+    LogFull { line: u32 },
+    // 9, closed
+    Closed { line: u32 },
+    // 10, out of turn
+    ActOutOfOrder { line: u32 },
+    // 11, not aboard
+    NotHeld { line: u32 },
+    // 12, aboard
+    AlreadyHeld { line: u32 },
+    // 13, overstowed
+    OverCapacity { line: u32 },
+    // 14, missing
+    RequestNotHeld { line: u32 },
+    // 15, short page
+    ShortBuffer { line: u32 },
+    // 16, long roll
+    InputTooLong { line: u32 },
+    // 17, foul locker
+    InvalidState { line: u32 },
+}
+
+impl Step {
+    // The letter that stands for the step in the log, as its code: R, W or L.
+    pub fn kind(self) -> u32
+        ensures { λ r. ⌜ r ≡ stepKind self ⌝ }
+    {
+        match self {
+            Step::Read { item: _ } => 82,
+            Step::Write {
+                item: _,
+                minutes: _,
+            } => 87,
+            Step::Flush => 76,
+        }
+    }
+}
+
+impl Refusal {
+    // The number in paper 01's table.
+    pub fn number(self) -> u32
+        ensures { λ r. ⌜ r ≡ refusalNumber self ⌝ }
+    {
+        match self {
+            Refusal::Malformed { line: _ } => 1,
+            Refusal::Heading { line: _ } => 2,
+            Refusal::OutOfRange { line: _ } => 3,
+            Refusal::OutOfSequence { line: _ } => 4,
+            Refusal::PlanTooLarge { line: _ } => 5,
+            Refusal::UnknownItem { line: _ } => 6,
+            Refusal::ItemTooLarge { line: _ } => 7,
+            Refusal::LogFull { line: _ } => 8,
+            Refusal::Closed { line: _ } => 9,
+            Refusal::ActOutOfOrder { line: _ } => 10,
+            Refusal::NotHeld { line: _ } => 11,
+            Refusal::AlreadyHeld { line: _ } => 12,
+            Refusal::OverCapacity { line: _ } => 13,
+            Refusal::RequestNotHeld { line: _ } => 14,
+            Refusal::ShortBuffer { line: _ } => 15,
+            Refusal::InputTooLong { line: _ } => 16,
+            Refusal::InvalidState { line: _ } => 17,
+        }
+    }
+}
