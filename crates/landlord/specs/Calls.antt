@@ -1,6 +1,6 @@
 -- Calls on a cache, what the table of refusals says to each, and the log of a list of calls.
 -- Paper 01, 'The season as one list' and 'When the library says no'. Assumes nothing.
-use mathlib.Core.Bool.{Bool, true, false}
+use mathlib.Core.Bool.{Bool, true, false, cond}
 use mathlib.Core.List.{List, [], _∷_, _++_}
 use Prim.Native.Nat.{ℕ}
 use lib.ListN.{length}
@@ -8,7 +8,7 @@ use lib.Dec.{leb, ltb, eqb}
 use Rattle.landlord.specs.declared.Step.{Step}
 use Rattle.landlord.specs.declared.Step.the-variants.{Read, Write, Flush}
 use Rattle.landlord.specs.Types.{stepKind, stepItem, stepMinutes}
-use Rattle.landlord.specs.Fold.{cond, fold}
+use Rattle.landlord.specs.Fold.{fold}
 use Rattle.landlord.specs.Catalog.{Catalog, itemAt}
 use Rattle.landlord.specs.Slot.{Split}
 use Rattle.landlord.specs.Figures.{Standing, took, closes, ran, season}

@@ -1,12 +1,12 @@
 -- What the rule pays and counts: a table of what each event adds, and the sums over a log from an empty cache.
 -- Paper 01, 'The step rule' and the report's names. Assumes nothing.
-use mathlib.Core.Bool.{Bool, true, false}
+use mathlib.Core.Bool.{Bool, true, false, cond}
 use mathlib.Core.List.{List, [], _∷_}
 use Prim.Native.Nat.{ℕ, _+_, _/_}
 use lib.ListN.{length, getD}
 use lib.Dec.{eqb}
 use Rattle.landlord.specs.declared.Step.{Step}
-use Rattle.landlord.specs.Fold.{cond, tab, fold}
+use Rattle.landlord.specs.Fold.{tab, fold}
 use Rattle.landlord.specs.Catalog.{Catalog, itemAt}
 use Rattle.landlord.specs.Slot.{Split}
 use Rattle.landlord.specs.Rule.{State, Event, hit, loaded, evicted, wroteBack, wrote, landed, Moved, emptied, flush, step}

@@ -1,13 +1,8 @@
 -- Folds over the numbers below n, with which the other files are written. Nothing here knows of caches.
 -- Assumes nothing.
-use mathlib.Core.Bool.{Bool, true, false}
+use mathlib.Core.Bool.{Bool, cond}
 use mathlib.Core.List.{List, [], _∷_}
 use Prim.Native.Nat.{ℕ, zero, suc, _+_}
-
--- the first value where the test is true, the second where it is false
-abbrev pub cond {ℓ} : {A : Type ℓ} → Bool → A → A → A
-cond true x y = x
-cond false x y = y
 
 -- f 0 + f 1 + .. + f (n - 1)
 unfoldable pub sumTo : ℕ → (ℕ → ℕ) → ℕ

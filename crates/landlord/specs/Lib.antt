@@ -6,5 +6,5 @@ pub mod Rule
 pub mod Figures
 pub mod Plan
 pub mod Calls
-pub mod Bound
+pub mod Claims
 pub mod Rows

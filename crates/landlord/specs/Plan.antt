@@ -1,5 +1,5 @@
 -- A rival plan, run over a log and priced. Paper 01, 'The rival plan'. Assumes nothing.
-use mathlib.Core.Bool.{Bool, true, false}
+use mathlib.Core.Bool.{Bool, true, false, cond}
 use mathlib.Core.List.{List, [], _∷_}
 use Prim.Native.Nat.{ℕ, suc, _+_}
 use lib.ListN.{length, getD, set}
@@ -8,7 +8,7 @@ use Rattle.landlord.specs.declared.Step.{Step}
 use Rattle.landlord.specs.declared.Step.the-variants.{Read, Write, Flush}
 use Rattle.landlord.specs.declared.Act.{Act}
 use Rattle.landlord.specs.declared.Act.the-variants.{Evict, Fetch}
-use Rattle.landlord.specs.Fold.{cond, sumTo, tab}
+use Rattle.landlord.specs.Fold.{sumTo, tab}
 use Rattle.landlord.specs.Catalog.{Catalog, itemAt}
 
 -- the acts before each step, by the step's place in the log, from 0; there is no limit on their number

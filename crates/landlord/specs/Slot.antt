@@ -3,7 +3,6 @@
 -- Assumes nothing.
 use mathlib.Core.Bool.{Bool, true, false}
 use Prim.Native.Nat.{ℕ, _+_, _-_, _≤_, min}
-use Rattle.landlord.specs.Fold.{cond}
 
 -- one of the locker's places: empty; held clean with a load credit; held dirty with a load and a write credit
 pub data Slot : Type 0 where

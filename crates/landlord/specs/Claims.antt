@@ -1,16 +1,16 @@
 -- The claims that are made of the rule: what a log that the table lets through is, what a split must be, and the wear
 -- bound. They are proved in proofs/ (docs/CONTRACTS.md names each). Assumes nothing.
 use mathlib.Core.Path.{_≡_}
-use mathlib.Core.Bool.{false}
+use mathlib.Core.Bool.{true, false}
 use mathlib.Core.List.{List}
-use Prim.Native.Nat.{ℕ, _+_, _*_, _-_, _≤_, _<_, _%_}
+use Prim.Native.Nat.{ℕ, _+_, _*_, _-_, _≤_, _<_, _∣_}
 use lib.ListN.{length, getD}
 use Rattle.landlord.specs.declared.Step.{Step}
 use Rattle.landlord.specs.declared.Step.the-variants.{Flush}
 use Rattle.landlord.specs.Fold.{sumTo}
-use Rattle.landlord.specs.Catalog.{Catalog, CatalogOk, CapacityOk, unit}
-use Rattle.landlord.specs.Slot.{Split, loadCredit}
-use Rattle.landlord.specs.Rule.{State, size, slotAt}
+use Rattle.landlord.specs.Catalog.{Catalog, Item, itemAt, CatalogOk, full, unit}
+use Rattle.landlord.specs.Slot.{Split, Slot, held, loadCredit, writeCredit}
+use Rattle.landlord.specs.Rule.{State, size, slotAt, used, rank}
 use Rattle.landlord.specs.Figures.{season, totalCost}
 use Rattle.landlord.specs.Plan.{Plan, price, costs}
 use Rattle.landlord.specs.Calls.{callOf, refusalAt}
@@ -19,14 +19,10 @@ use Rattle.landlord.specs.Calls.{callOf, refusalAt}
 pub record Allowed (k : ℕ) (cat : Catalog) (steps : List Step) : Type 0 where
   pub each : (i : ℕ) → i < length steps → refusalAt k cat i false (callOf (getD steps i Flush)) ≡ 0
 
--- s divides n: dividing leaves nothing over
-abbrev pub Divides : ℕ → ℕ → Type 0
-Divides s n = n % s ≡ 0
-
 -- What a split "in multiples of the item's blocks" lets the write credit bear, t, of a loss: a multiple of the blocks, no
 -- more than the loss and no more than the write credit, and no more than the load credit is left to the load credit.
 pub record Bears (s loss a b t : ℕ) : Type 0 where
-  pub whole : Divides s t
+  pub whole : s ∣ t
   pub part : t ≤ loss
   pub within : t ≤ b
   pub rest : loss ≤ t + a
@@ -34,7 +30,29 @@ pub record Bears (s loss a b t : ℕ) : Type 0 where
 -- a split that does so wherever the two credits together can bear the loss, and all three are multiples of the blocks
 pub record SplitOk (split : Split) : Type 0 where
   pub each :
-      (s loss a b : ℕ) → 1 ≤ s → Divides s loss → Divides s a → Divides s b → loss ≤ a + b → Bears s loss a b (split s loss a b)
+      (s loss a b : ℕ) → 1 ≤ s → s ∣ loss → s ∣ a → s ∣ b → loss ≤ a + b → Bears s loss a b (split s loss a b)
+
+-- "both credits of a sail are always multiples of its blocks", and at most cost × 720,720. That an item not held has no
+-- credit, and a clean one no write credit, is in what a slot is (specs/Slot.antt).
+pub record SlotKept (x : Item) (s : Slot) : Type 0 where
+  pub wholeLoad : x .blocks ∣ loadCredit s
+  pub wholeWrite : x .blocks ∣ writeCredit s
+  pub loadTop : loadCredit s ≤ full (x .load)
+  pub writeTop : writeCredit s ≤ full (x .write)
+
+-- what the rule keeps: a slot for each item, each slot as above, and at most k blocks held
+pub record Kept (k : ℕ) (x : State) : Type 0 where
+  pub catalog : CatalogOk (x .catalog)
+  pub slots : length (x .slots) ≡ size x
+  pub slot : (i : ℕ) → i < size x → SlotKept (itemAt (x .catalog) i) (slotAt x i)
+  pub room : used x ≤ k
+
+-- what the victim is: held, of least rank, and of these the lowest number
+pub record Least (x : State) (v : ℕ) : Type 0 where
+  pub below : v < size x
+  pub isHeld : held (slotAt x v) ≡ true
+  pub least : (i : ℕ) → i < size x → held (slotAt x i) ≡ true → rank x v ≤ rank x i
+  pub first : (i : ℕ) → i < v → held (slotAt x i) ≡ true → rank x v < rank x i
 
 -- The wear bound of one log: the rule's total over the steps and the closing, times k - h + 1, is at most k times the
 -- cost of every plan that is legal over those steps with h blocks.

@@ -1,0 +1,249 @@
+-- Laws of numbers as bytes, once for every width: lengths, ranges, round trips both ways, and what a caller with a fixed layout needs
+-- to read a field of an encoding, to put an encoding together, and to store into one. Assumes nothing.
+use mathlib.Core.Path.{_≡_, refl, sym, ap, _∙_}
+use mathlib.Core.List.{List, [], _∷_, _++_, append-assoc, append-nil}
+use mathlib.Core.Bool.{Bool, true, false, cond, not}
+use Prim.Native.Nat.{ℕ, zero, suc, _+_, _*_, _/_, _%_, _^_, _≤_, _<_}
+use native.Mathlib.Nat.{add-zero, suc-add, add-suc, zero-mul, pow-zero, pow-suc, one-le-pow}
+use native.Mathlib.Omega.{arith}
+use lib.Dec.{eqb}
+use lib.ListN.{length, take, drop, getD, set, length-append, length-drop, length-set, take-append-drop, drop-of-length-le}
+use lib.Seq.{sets, set-append-left, sets-eq, length-take-le, take-at, drop-at, drop-append-add, drop-drop, take-add, take-length, getD-drop}
+use Rattle.fields.specs.LittleEndian.{Below, le, un, run, unrun, flags, unflags}
+
+-- ---- lengths
+
+pub length-le : (w v : ℕ) → length (le w v) ≡ w
+unfolding le
+length-le zero v = refl
+length-le (suc w) v = ap suc (length-le w (v / 256))
+
+pub length-run : (w : ℕ) (vs : List ℕ) → length (run w vs) ≡ length vs * w
+unfolding run
+length-run w [] = omega arith
+length-run w (v ∷ vs) = omega (arith, length-append (le w v) (run w vs), length-le w v, length-run w vs)
+
+pub length-unrun : (w n : ℕ) (bs : List ℕ) → length (unrun w n bs) ≡ n
+unfolding unrun
+length-unrun w zero bs = refl
+length-unrun w (suc n) bs = ap suc (length-unrun w n (drop w bs))
+
+pub length-flags : (fs : List Bool) → length (flags fs) ≡ length fs
+unfolding flags
+length-flags [] = refl
+length-flags (f ∷ fs) = ap suc (length-flags fs)
+
+pub length-unflags : (n : ℕ) (bs : List ℕ) → length (unflags n bs) ≡ n
+unfolding unflags
+length-unflags zero bs = refl
+length-unflags (suc n) bs = ap suc (length-unflags n (drop 1 bs))
+
+-- ---- a number and its bytes
+
+-- the bytes of a number that fits stand for that number
+pub un-le : (w v : ℕ) → v < 256 ^ w → un (le w v) ≡ v
+unfolding le un
+un-le zero v h = omega (arith, pow-zero 256)
+un-le (suc w) v h = omega (arith, un-le w (v / 256) (omega (arith, pow-suc 256 w)))
+
+-- the same, read off a list that goes on
+pub un-front : (w v : ℕ) (rest : List ℕ) → v < 256 ^ w → un (take w (le w v ++ rest)) ≡ v
+un-front w v rest h = rw (take-at (le w v) rest w (length-le w v)) (un-le w v h)
+
+-- the two parts of a number with one more byte
+digit : (u b : ℕ) → b < 256 → ((u * 256 + b) % 256 ≡ b) × ((u * 256 + b) / 256 ≡ u)
+digit u b h = (omega arith, omega arith)
+
+-- bytes are the bytes of the number that they stand for
+pub le-un : (bs : List ℕ) → Below 256 bs → le (length bs) (un bs) ≡ bs
+unfolding le un
+le-un [] h = refl
+le-un (b ∷ bs) h =
+    let d : ((un bs * 256 + b) % 256 ≡ b) × ((un bs * 256 + b) / 256 ≡ un bs) = digit (un bs) b (h zero) in
+    rw (d .0, d .1, le-un bs (λ i. h (suc i)))
+
+-- the number that at most `w` bytes stand for has at most `w` bytes
+pub un-take-lt : (w : ℕ) (bs : List ℕ) → Below 256 bs → un (take w bs) < 256 ^ w
+unfolding un
+un-take-lt zero bs h = omega (arith, pow-zero 256)
+un-take-lt (suc w) [] h = one-le-pow (suc w) 256 (omega arith)
+un-take-lt (suc w) (b ∷ bs) h = omega (arith, pow-suc 256 w, h zero, un-take-lt w bs (λ i. h (suc i)))
+
+pub un-lt : (bs : List ℕ) → Below 256 bs → un bs < 256 ^ length bs
+un-lt bs h = rw take-length at (un-take-lt (length bs) bs h)
+
+-- every byte of an encoding is a byte
+pub le-lt : (w v : ℕ) → Below 256 (le w v)
+unfolding le
+le-lt zero v i = omega arith
+le-lt (suc w) v zero = omega arith
+le-lt (suc w) v (suc i) = le-lt w (v / 256) i
+
+-- ---- parts of a list of bytes
+
+pub below-append : (m : ℕ) (xs ys : List ℕ) → Below m xs → Below m ys → Below m (xs ++ ys)
+below-append m [] ys h k i = k i
+below-append m (x ∷ xs) ys h k zero = h zero
+below-append m (x ∷ xs) ys h k (suc i) = below-append m xs ys (λ j. h (suc j)) k i
+
+pub below-drop : (m n : ℕ) (vs : List ℕ) → Below m vs → Below m (drop n vs)
+below-drop m n vs h i = rw getD-drop (h (n + i))
+
+pub below-take : (m n : ℕ) (vs : List ℕ) → Below m vs → Below m (take n vs)
+below-take m zero vs h i = omega (arith, h i)
+below-take m (suc n) [] h i = h i
+below-take m (suc n) (v ∷ vs) h zero = h zero
+below-take m (suc n) (v ∷ vs) h (suc i) = below-take m n vs (λ j. h (suc j)) i
+
+-- what stands past a front
+pub past : {A : Type 0} (xs ys : List A) (at n : ℕ) → at ≡ length xs + n → drop at (xs ++ ys) ≡ drop n ys
+past xs ys at n e = rw e (drop-append-add xs ys n)
+
+-- the part of `w` elements at the place `at`
+pub part : {A : Type 0} (xs ys zs : List A) (at w : ℕ) → length xs ≡ at → length ys ≡ w → take w (drop at (xs ++ (ys ++ zs))) ≡ ys
+part xs ys zs at w p q = rw (drop-at xs (ys ++ zs) at p) (take-at ys zs w q)
+
+-- a part and what follows it are what stands from the part's place on
+pub rejoin : {A : Type 0} (l : List A) (at n to : ℕ) → to ≡ at + n → take n (drop at l) ++ drop to l ≡ drop at l
+rejoin l at n to e = rw (e, ← drop-drop n at l) (take-append-drop n (drop at l))
+
+-- a number read off a place, stored again, is the bytes of that place
+pub le-back : (w at : ℕ) (bs : List ℕ) → at + w ≤ length bs → Below 256 bs → le w (un (take w (drop at bs))) ≡ take w (drop at bs)
+le-back w at bs l h =
+    let e : length (take w (drop at bs)) ≡ w = length-take-le w (drop at bs) (omega (arith, length-drop at bs)) in
+    rw e at (le-un (take w (drop at bs)) (below-take 256 w (drop at bs) (below-drop 256 at bs h)))
+
+-- ---- numbers one after another
+
+-- each number of `w` bytes is below 256 ^ w
+pub unrun-lt : (w n : ℕ) (bs : List ℕ) → Below 256 bs → Below (256 ^ w) (unrun w n bs)
+unfolding unrun
+unrun-lt w zero bs h i = one-le-pow w 256 (omega arith)
+unrun-lt w (suc n) bs h zero = un-take-lt w bs h
+unrun-lt w (suc n) bs h (suc i) = unrun-lt w n (drop w bs) (below-drop 256 w bs h) i
+
+-- and each byte of a run is a byte
+pub run-lt : (w : ℕ) (vs : List ℕ) → Below 256 (run w vs)
+unfolding run
+run-lt w [] i = omega arith
+run-lt w (v ∷ vs) i = below-append 256 (le w v) (run w vs) (le-lt w v) (run-lt w vs) i
+
+-- a run of numbers that fit, read back, is those numbers
+pub unrun-run : (w n : ℕ) (vs rest : List ℕ) → length vs ≡ n → Below (256 ^ w) vs → unrun w n (run w vs ++ rest) ≡ vs
+unfolding unrun run
+unrun-run w zero [] rest e h = refl
+unrun-run w zero (v ∷ vs) rest e h = absurd (omega arith)
+unrun-run w (suc n) [] rest e h = absurd (omega arith)
+unrun-run w (suc n) (v ∷ vs) rest e h =
+    rw (append-assoc, un-front w v (run w vs ++ rest) (h zero), drop-at (le w v) (run w vs ++ rest) w (length-le w v), unrun-run w n vs rest (omega arith) (λ i. h (suc i)))
+
+-- numbers read off bytes, stored again, are those bytes
+pub run-unrun : (w n : ℕ) (bs : List ℕ) → n * w ≤ length bs → Below 256 bs → run w (unrun w n bs) ≡ take (n * w) bs
+unfolding unrun run
+run-unrun w zero bs l h = rw (zero-mul w)
+run-unrun w (suc n) bs l h =
+    let i : n * w ≤ length (drop w bs) = omega (arith, length-drop w bs) in
+    let s : suc n * w ≡ w + n * w = omega arith in
+    rw (s, take-add, le-back w 0 bs (omega arith) h, run-unrun w n (drop w bs) i (below-drop 256 w bs h))
+
+-- the same at a place
+pub run-back : (w n at : ℕ) (bs : List ℕ) → at + n * w ≤ length bs → Below 256 bs → run w (unrun w n (drop at bs)) ≡ take (n * w) (drop at bs)
+run-back w n at bs l h = run-unrun w n (drop at bs) (omega (arith, length-drop at bs)) (below-drop 256 at bs h)
+
+-- ---- flags
+
+-- each byte of flags is 0 or 1
+pub flags-lt : (fs : List Bool) → Below 2 (flags fs)
+unfolding flags
+flags-lt [] i = omega arith
+flags-lt (true ∷ fs) zero = omega arith
+flags-lt (false ∷ fs) zero = omega arith
+flags-lt (f ∷ fs) (suc i) = flags-lt fs i
+
+-- flags read back are those flags
+pub unflags-flags : (n : ℕ) (fs : List Bool) (rest : List ℕ) → length fs ≡ n → unflags n (flags fs ++ rest) ≡ fs
+unfolding unflags flags
+unflags-flags zero [] rest e = refl
+unflags-flags zero (f ∷ fs) rest e = absurd (omega arith)
+unflags-flags (suc n) [] rest e = absurd (omega arith)
+unflags-flags (suc n) (true ∷ fs) rest e = ap (λ (l : List Bool). true ∷ l) (unflags-flags n fs rest (omega arith))
+unflags-flags (suc n) (false ∷ fs) rest e = ap (λ (l : List Bool). false ∷ l) (unflags-flags n fs rest (omega arith))
+
+-- a byte 0 or 1 is its flag's number
+pub flag-byte : (b : ℕ) → b < 2 → cond (not (eqb b 0)) 1 0 ≡ b
+flag-byte zero h = refl
+flag-byte (suc zero) h = refl
+flag-byte (suc (suc b)) h = absurd (omega arith)
+
+-- flags read off bytes 0 and 1, stored again, are those bytes
+pub flags-unflags : (n : ℕ) (bs : List ℕ) → n ≤ length bs → ((i : ℕ) → i < n → getD bs i 0 < 2) → flags (unflags n bs) ≡ take n bs
+unfolding unflags flags
+flags-unflags zero bs l h = refl
+flags-unflags (suc n) [] l h = absurd (omega arith)
+flags-unflags (suc n) (b ∷ bs) l h =
+    rw (flag-byte b (h zero (omega arith)), flags-unflags n bs (omega arith) (λ i k. h (suc i) (omega arith)))
+
+-- the same at a place
+pub flags-back : (n at : ℕ) (bs : List ℕ) → at + n ≤ length bs → ((i : ℕ) → i < n → getD bs (at + i) 0 < 2) → flags (unflags n (drop at bs)) ≡ take n (drop at bs)
+flags-back n at bs l h = flags-unflags n (drop at bs) (omega (arith, length-drop at bs)) (λ i k. rw getD-drop (h i k))
+
+-- ---- stores one after another
+
+-- a store of two lists is a store of the first, and then of the second after it
+pub sets-append : {A : Type 0} (l : List A) (i : ℕ) (a b : List A) → sets l i (a ++ b) ≡ sets (sets l i a) (i + length a) b
+sets-append l i [] b = rw add-zero
+sets-append l i (x ∷ a) b = rw (sets-append (set l i x) (suc i) a b, suc-add, add-suc)
+
+-- a store right after a store is one store of both
+pub sets-then : {A : Type 0} (l l₁ l₂ xs ys : List A) (at to : ℕ) → l₁ ≡ sets l at xs → to ≡ at + length xs → l₂ ≡ sets l₁ to ys → l₂ ≡ sets l at (xs ++ ys)
+sets-then l l₁ l₂ xs ys at to p q r = rw (r, p, q) (sym (sets-append l at xs ys))
+
+-- a store over a whole list is what was stored
+pub sets-all : {A : Type 0} (l vs : List A) → length vs ≡ length l → sets l 0 vs ≡ vs
+sets-all l vs e =
+    let d : drop (0 + length vs) l ≡ [] = drop-of-length-le l {i = 0 + length vs} (omega arith) in
+    sets-eq vs l 0 (omega arith) ∙ rw d (append-nil vs)
+
+-- ---- a store into an encoding
+
+-- after the first element it is a store into the rest
+sets-cons : {A : Type 0} (x : A) (l : List A) (i : ℕ) (vs : List A) → sets (x ∷ l) (suc i) vs ≡ x ∷ sets l i vs
+sets-cons x l i [] = refl
+sets-cons x l i (v ∷ vs) = sets-cons x (set l i v) (suc i) vs
+
+-- past a front it is a store into the rest
+pub sets-past : {A : Type 0} (xs ys vs : List A) (at i : ℕ) → at ≡ length xs + i → sets (xs ++ ys) at vs ≡ xs ++ sets ys i vs
+sets-past [] ys vs at i e =
+    let f : at ≡ i = omega arith in
+    rw f
+sets-past (x ∷ xs) ys vs at i e =
+    let f : at ≡ suc (length xs + i) = omega arith in
+    rw (f, sets-cons, sets-past xs ys vs (length xs + i) i refl)
+
+-- within a front it is a store into the front
+pub sets-within : {A : Type 0} (xs ys vs : List A) (i : ℕ) → i + length vs ≤ length xs → sets (xs ++ ys) i vs ≡ sets xs i vs ++ ys
+sets-within xs ys [] i h = refl
+sets-within xs ys (v ∷ vs) i h =
+    rw (set-append-left xs ys i v (omega arith)) (sets-within (set xs i v) ys vs (suc i) (omega (arith, length-set xs i v)))
+
+-- over a front of the same length it replaces the front
+pub sets-front : {A : Type 0} (xs ys vs : List A) → length vs ≡ length xs → sets (xs ++ ys) 0 vs ≡ vs ++ ys
+sets-front xs ys vs e =
+    let l : 0 + length vs ≤ length (xs ++ ys) = omega (arith, length-append xs ys) in
+    sets-eq vs (xs ++ ys) 0 l ∙ rw (drop-at xs ys (0 + length vs) (omega arith))
+
+-- of one number, it is the run of the list with that number set
+pub run-set : (w : ℕ) (vs : List ℕ) (i v : ℕ) → i < length vs → sets (run w vs) (i * w) (le w v) ≡ run w (set vs i v)
+unfolding run
+run-set w [] i v h = absurd (omega arith)
+run-set w (x ∷ vs) zero v h = rw (zero-mul w) (sets-front (le w x) (run w vs) (le w v) (length-le w v ∙ sym (length-le w x)))
+run-set w (x ∷ vs) (suc i) v h =
+    let e : suc i * w ≡ length (le w x) + i * w = omega (arith, length-le w x) in
+    rw (sets-past (le w x) (run w vs) (le w v) (suc i * w) (i * w) e, run-set w vs i v (omega arith))
+
+-- of one flag, it is the flags of the list with that flag set
+pub flags-set : (fs : List Bool) (i : ℕ) (f : Bool) → set (flags fs) i (cond f 1 0) ≡ flags (set fs i f)
+unfolding flags
+flags-set [] i f = refl
+flags-set (x ∷ fs) zero f = refl
+flags-set (x ∷ fs) (suc i) f = rw (flags-set fs i f)

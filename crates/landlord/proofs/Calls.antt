@@ -1,0 +1,182 @@
+-- A list of calls against its log: the table lets the log through, every list of steps that the table lets through is the log
+-- of some calls, and the rule, asked call by call, stands where it stands over the log. Assumes nothing.
+use mathlib.Core.Path.{_≡_, refl, sym, ap, subst, _∙_}
+use mathlib.Core.Bool.{Bool, true, false, cond}
+use mathlib.Core.List.{List, [], _∷_, _++_, append-nil, map}
+use Prim.Native.Nat.{ℕ, zero, suc, _+_, _≤_, _<_}
+use native.Mathlib.Omega.{arith}
+use native.Mathlib.Decide.{ℕ-discrete}
+use lib.ListN.{length, getD, length-append, List·getD-append}
+use lib.Seq.{getD-append-seam, append-snoc}
+use lib.Dec.{leb, eqb, ltb}
+use borrow.Author.Tests.{eqb-true, eq-eqb}
+use Rattle.landlord.specs.declared.Step.{Step}
+use Rattle.landlord.specs.declared.Step.the-variants.{Read, Write, Flush}
+use Rattle.landlord.specs.Types.{stepKind, stepItem, stepMinutes}
+use Rattle.landlord.specs.Fold.{fold}
+use Rattle.landlord.specs.Catalog.{Catalog, CatalogOk, itemAt}
+use Rattle.landlord.specs.Slot.{Split}
+use Rattle.landlord.specs.Figures.{Standing, opened, took, closes, ran, season}
+use Rattle.landlord.specs.Calls.{Call, take, close, Log, noLog, callOf, stepOf, inRange, itemRefusal, refusalAt, refusalIn, refusalNow, logged, joins, logOf, ruleOver, accepted, after}
+use Rattle.landlord.specs.Claims.{SplitOk, Allowed}
+use Rattle.landlord.proofs.Folds.{either, fold-append}
+use Rattle.landlord.proofs.Logs.{Stands, AllServed, all-served, ran-stands, closes-stands}
+
+-- A call of a known kind in range is answered as the step that it means: values that a step lacks are not looked at.
+means :
+    (k : ℕ) (cat : Catalog) (t kind i m : ℕ) →
+    refusalAt k cat t false (take kind i m) ≡ 0 →
+    refusalAt k cat t false (callOf (stepOf kind i m)) ≡ 0
+unfolding refusalAt stepOf
+means k cat t kind i m e = go (eqb kind 82) (eqb kind 87) (eqb kind 76) e
+  where
+    late : (a : Bool) → _≡_ {A = ℕ} (cond a 8 3) 0 → _≡_ {A = ℕ} (cond a 8 0) 0
+    late true e = e
+    late false e = absurd (omega arith)
+
+    meant : Bool → Bool → Step
+    meant a b = cond a (Read i) (cond b (Write i m) Flush)
+
+    ranged : Bool → Bool → Bool → Bool
+    ranged a b c = cond a (leb i 255) (cond b (cond (leb i 255) (leb m 1440) false) c)
+
+    go :
+        (a b c : Bool) →
+        _≡_ {A = ℕ} (cond (leb 1000000 t) 8 (cond (ranged a b c) (itemRefusal k cat (meant a b)) 3)) 0 →
+        refusalAt k cat t false (callOf (meant a b)) ≡ 0
+    go true b c e = e
+    go false true c e = e
+    go false false true e = e
+    go false false false e = late (leb 1000000 t) e
+
+-- an open log: a refused step on a closed one is refused with 9
+open-log : (k : ℕ) (cat : Catalog) (t : ℕ) (c : Bool) (call : Call) → refusalAt k cat t c call ≡ 0 → c ≡ false
+unfolding refusalAt
+open-log k cat t true (take kind i m) e = absurd (omega arith)
+open-log k cat t false (take kind i m) e = refl
+open-log k cat t true close e = absurd (omega arith)
+open-log k cat t false close e = refl
+
+-- one step more at the end of a list that the table lets through
+allowed-more :
+    (k : ℕ) (cat : Catalog) (steps : List Step) (s : Step) →
+    Allowed k cat steps →
+    refusalAt k cat (length steps) false (callOf s) ≡ 0 →
+    Allowed k cat (steps ++ (s ∷ []))
+allowed-more k cat steps s a e = record { each = λ i l. at i l (ℕ-discrete i (length steps)) }
+  where
+    at : (i : ℕ) → i < length (steps ++ (s ∷ [])) → Dec (i ≡ length steps) → refusalAt k cat i false (callOf (getD (steps ++ (s ∷ [])) i Flush)) ≡ 0
+    at i l (yes q) = rw (q, getD-append-seam steps s [] Flush) e
+    at i l (no q) =
+        let b : i < length steps = omega (arith, length-append steps (s ∷ [])) in
+        rw (List·getD-append steps (s ∷ []) Flush i b) (a .each i b)
+
+-- a call that is refused leaves the log, and one that is not joins it
+joins-either : (k : ℕ) (cat : Catalog) (l : Log) (call : Call) (P : Log → Type 0) → (refusalIn k cat l call ≡ 0 → P (logged l call)) → P l → P (joins k cat l call)
+unfolding joins
+joins-either k cat l call P taken kept =
+    either P (eqb (refusalIn k cat l call) 0) (logged l call) l (λ e. taken (eqb-true (refusalIn k cat l call) 0 e)) (λ e. kept)
+
+logged-allowed : (k : ℕ) (cat : Catalog) (l : Log) (call : Call) → Allowed k cat (l .steps) → refusalIn k cat l call ≡ 0 → Allowed k cat (logged l call .steps)
+logged-allowed k cat l (take kind i m) a e =
+    let c : l .closed ≡ false = open-log k cat (length (l .steps)) (l .closed) (take kind i m) e in
+    allowed-more k cat (l .steps) (stepOf kind i m) a (means k cat (length (l .steps)) kind i m (rw c at e))
+logged-allowed k cat l close a e = a
+
+-- what holds of the empty log, and of a log that one call more joins, holds of the log of every list of calls
+log-induction :
+    (k : ℕ) (cat : Catalog) (P : Log → Type 0) →
+    ((l : Log) (call : Call) → P l → refusalIn k cat l call ≡ 0 → P (logged l call)) →
+    (l : Log) (calls : List Call) →
+    P l →
+    P (fold (joins k cat) l calls)
+unfolding fold
+log-induction k cat P more l [] p = p
+log-induction k cat P more l (call ∷ calls) p =
+    log-induction k cat P more (joins k cat l call) calls (joins-either k cat l call P (λ e. more l call p e) p)
+
+-- the table lets through the log of every list of calls
+pub log-allowed : (k : ℕ) (cat : Catalog) (calls : List Call) → Allowed k cat (logOf k cat calls .steps)
+log-allowed k cat calls =
+    log-induction k cat (λ l. Allowed k cat (l .steps)) (λ l call a e. logged-allowed k cat l call a e) noLog calls
+    (record { each = λ i b. absurd (let z : i < 0 = b in omega arith) })
+
+-- a step, as a call, means itself
+same-step : (s : Step) → stepOf (stepKind s) (stepItem s) (stepMinutes s) ≡ s
+unfolding stepOf
+same-step (Read i) = refl
+same-step (Write i m) = refl
+same-step Flush = refl
+
+abbrev open-with : List Step → Log
+open-with steps = record { steps = steps; closed = false }
+
+logged-one :
+    (k : ℕ) (cat : Catalog) (seen rest : List Step) (s : Step) →
+    Allowed k cat (seen ++ (s ∷ rest)) →
+    joins k cat (open-with seen) (callOf s) ≡ open-with (seen ++ (s ∷ []))
+unfolding joins
+logged-one k cat seen rest s a =
+    let b : length seen < length (seen ++ (s ∷ rest)) = omega (arith, length-append seen (s ∷ rest)) in
+    let e : refusalAt k cat (length seen) false (callOf s) ≡ 0 =
+    ap (λ (q : Step). refusalAt k cat (length seen) false (callOf q)) (sym (getD-append-seam seen s rest Flush)) ∙ a .each (length seen) b
+    in
+    rw (eq-eqb (refusalAt k cat (length seen) false (callOf s)) 0 e) (ap (λ (q : Step). open-with (seen ++ (q ∷ []))) (same-step s))
+
+-- and every list of steps that the table lets through is the log of those steps as calls
+pub allowed-logged : (k : ℕ) (cat : Catalog) (steps : List Step) → Allowed k cat steps → logOf k cat (map callOf steps) ≡ open-with steps
+unfolding fold
+allowed-logged k cat steps a = from [] steps a
+  where
+    from : (seen steps : List Step) → Allowed k cat (seen ++ steps) → fold (joins k cat) (open-with seen) (map callOf steps) ≡ open-with (seen ++ steps)
+    from seen [] a = ap open-with (sym (append-nil seen))
+    from seen (s ∷ steps) a =
+        ap (λ (l : Log). fold (joins k cat) l (map callOf steps)) (logged-one k cat seen steps s a)
+        ∙ from (seen ++ (s ∷ [])) steps (rw (append-snoc seen s steps) a)
+        ∙ ap open-with (append-snoc seen s steps)
+
+module _ (split : Split) (k : ℕ) (cat : Catalog) (ok : SplitOk split) (good : CatalogOk cat) where
+  -- where the rule stands after a log that the table lets through
+  pub stands-over : (l : Log) → Allowed k cat (l .steps) → Stands k cat (length (l .steps)) (l .closed) (ruleOver split k cat l)
+  unfolding ruleOver
+  stands-over l a = go (l .closed)
+    where
+      so : Stands k cat (length (l .steps)) false (ran split k cat (l .steps))
+      so = ran-stands split k cat (l .steps) ok good (all-served k cat (l .steps) a)
+
+      go : (c : Bool) → Stands k cat (length (l .steps)) c (cond c (season split k cat (l .steps)) (ran split k cat (l .steps)))
+      go true = closes-stands k cat (length (l .steps)) (ran split k cat (l .steps)) so
+      go false = so
+
+  -- the table gives the same answer to the rule where it stands as to the log
+  pub same-refusal : (l : Log) (call : Call) → Allowed k cat (l .steps) → refusalNow (ruleOver split k cat l) call ≡ refusalIn k cat l call
+  same-refusal l call a =
+      let so = stands-over l a in
+      rw (so .capacity, so .catalog, so .taken, so .closed)
+
+  over-more : (l : Log) (call : Call) → l .closed ≡ false → accepted split (ruleOver split k cat l) call ≡ ruleOver split k cat (logged l call)
+  unfolding ruleOver fold
+  over-more l (take kind i m) e = rw e (sym (fold-append (took split) (opened k cat) (l .steps) (stepOf kind i m ∷ [])))
+  over-more l close e = rw e
+
+  one-call : (l : Log) (call : Call) → Allowed k cat (l .steps) → after split (ruleOver split k cat l) call ≡ ruleOver split k cat (joins k cat l call)
+  unfolding after joins
+  one-call l call a = rw (same-refusal l call a) (go (eqb (refusalIn k cat l call) 0) refl)
+    where
+      go :
+          (t : Bool) →
+          eqb (refusalIn k cat l call) 0 ≡ t →
+          cond t (accepted split (ruleOver split k cat l) call) (ruleOver split k cat l) ≡ ruleOver split k cat (cond t (logged l call) l)
+      go true e = over-more l call (open-log k cat (length (l .steps)) (l .closed) call (eqb-true (refusalIn k cat l call) 0 e))
+      go false e = refl
+
+  -- the rule asked call by call stands where it stands over the log of the calls
+  pub rule-follows : (calls : List Call) → fold (after split) (opened k cat) calls ≡ ruleOver split k cat (logOf k cat calls)
+  unfolding fold ruleOver
+  rule-follows calls = from noLog calls (log-allowed k cat [])
+    where
+      from : (l : Log) (calls : List Call) → Allowed k cat (l .steps) → fold (after split) (ruleOver split k cat l) calls ≡ ruleOver split k cat (fold (joins k cat) l calls)
+      from l [] a = refl
+      from l (call ∷ calls) a =
+          ap (λ (v : Standing). fold (after split) v calls) (one-call l call a)
+          ∙ from (joins k cat l call) calls (joins-either k cat l call (λ m. Allowed k cat (m .steps)) (λ e. logged-allowed k cat l call a e) a)

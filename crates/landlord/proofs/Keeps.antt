@@ -1,0 +1,366 @@
+-- What the rule keeps, for every split of a loss in multiples of the item's blocks: the victim is of least rank, ranks divide
+-- exactly, making room ends and leaves room, and each step keeps `Kept` (specs/Claims.antt). Assumes nothing.
+use mathlib.Core.Path.{_≡_, refl, sym, ap, subst, _∙_}
+use mathlib.Core.Logic.{_≢_}
+use mathlib.Core.Bool.{Bool, true, false, cond, false≢true}
+use mathlib.Core.List.{List, [], _∷_, _++_}
+use Prim.Native.Nat.{ℕ, zero, suc, _+_, _*_, _-_, _/_, _≤_, _<_, _∣_}
+use native.Mathlib.Nat.{dvd-add, dvd-mul-right, div-mul-cancel, mul-le-mul-left, le-of-eq}
+use native.Mathlib.Decide.{ℕ-discrete}
+use native.Mathlib.Omega.{arith}
+use lib.ListN.{length, getD, set, length-set}
+use lib.Seq.{getD-set-same, getD-set-other}
+use lib.Dec.{leb, eqb, ltb}
+use borrow.Author.Tests.{eq-eqb, ne-eqb, leb-true, leb-false}
+use Rattle.landlord.specs.declared.Step.{Step}
+use Rattle.landlord.specs.declared.Step.the-variants.{Read, Write, Flush}
+use Rattle.landlord.specs.Fold.{sumTo, tab}
+use Rattle.landlord.specs.Catalog.{Catalog, Item, ItemOk, CatalogOk, itemAt, full, unit}
+use Rattle.landlord.specs.Slot.{Slot, absent, held, isDirty, loadCredit, writeCredit, Split, lose, brought, refilled, written, flushed}
+use Rattle.landlord.specs.Rule.{State, size, slotAt, blocksAt, used, heldCount, rank, victim, evictItem, evict, evictFor, makeRoom, Moved, stay, joined, put, readSlot, serveRead, serveWrite, flush, step, emptied}
+use Rattle.landlord.specs.Claims.{SplitOk, SlotKept, Kept, Least}
+use Rattle.landlord.proofs.Sums.{sum-zero, sum-none, sum-eq, sum-change}
+use Rattle.landlord.proofs.Folds.{tab-length, tab-at, Best, nobody, somebody, best-is}
+use Rattle.landlord.proofs.Slots.{blocks-divide, lose-held, lose-kept, absent-kept, read-kept, write-kept, flush-kept, read-held, write-held, flush-held}
+
+abbrev isHeld : State → ℕ → Bool
+isHeld x i = held (slotAt x i)
+
+abbrev credits : State → ℕ → ℕ
+credits x i = loadCredit (slotAt x i) + writeCredit (slotAt x i)
+
+-- where some item is held, the victim is held, of least rank, and the lowest number of these
+pub victim-least : (x : State) → 1 ≤ used x → Least x (victim x)
+unfolding used victim
+victim-least x l = go (best-is (size x) (isHeld x) (rank x) (size x) (omega arith))
+  where
+    go : Best (size x) (size x) (isHeld x) (rank x) (victim x) → Least x (victim x)
+    go (nobody e h) = absurd (let z : used x ≡ 0 = sum-zero (size x) _ (λ i b. rw (h i b)) in omega arith)
+    go (somebody low here least first) = record { below = low; isHeld = here; least = least; first = first }
+
+-- ranks divide exactly: nothing is rounded
+pub rank-whole : (k : ℕ) (x : State) (i : ℕ) → Kept k x → i < size x → rank x i * blocksAt x i ≡ credits x i
+rank-whole k x i kept l =
+    div-mul-cancel (blocksAt x i) (dvd-add (blocksAt x i) (kept .slot i l .wholeLoad) (kept .slot i l .wholeWrite))
+
+-- a held item can bear its blocks × the rank of an item of no greater rank
+pub bears-rank : (k : ℕ) (x : State) (v i : ℕ) → Kept k x → i < size x → rank x v ≤ rank x i → blocksAt x i * rank x v ≤ credits x i
+bears-rank k x v i kept l le = omega (arith, rank-whole k x i kept l, mul-le-mul-left (blocksAt x i) le)
+
+-- the slots after item v is evicted
+pub evicted-slot : (split : Split) (v : ℕ) (x : State) → v < size x → slotAt (evictItem split v x) v ≡ absent
+unfolding evictItem
+evicted-slot split v x l = tab-at (size x) _ v absent l ∙ rw (eq-eqb v v refl)
+
+pub other-slot :
+    (split : Split) (v : ℕ) (x : State) (i : ℕ) →
+    i < size x →
+    i ≢ v →
+    slotAt (evictItem split v x) i ≡ lose split (blocksAt x i) (blocksAt x i * rank x v) (slotAt x i)
+unfolding evictItem
+other-slot split v x i l e = tab-at (size x) _ i absent l ∙ rw (ne-eqb i v e)
+
+pub evict-catalog : (split : Split) (v : ℕ) (x : State) → evictItem split v x .catalog ≡ x .catalog
+unfolding evictItem
+evict-catalog split v x = refl
+
+other-held : (split : Split) (v : ℕ) (x : State) (i : ℕ) → i < size x → i ≢ v → isHeld (evictItem split v x) i ≡ isHeld x i
+other-held split v x i l e = ap held (other-slot split v x i l e) ∙ lose-held split _ _ (slotAt x i)
+
+-- a sum over the held items, in which each counts for its weight; `used` and `heldCount` are two of them
+abbrev heldSum : (ℕ → ℕ) → State → ℕ
+heldSum w x = sumTo (size x) (λ i. cond (isHeld x i) (w i) 0)
+
+-- two states whose marks agree at every item but v
+held-change :
+    (w : ℕ → ℕ) (x y : State) (v : ℕ) →
+    size y ≡ size x →
+    v < size x →
+    ((i : ℕ) → i < size x → i ≢ v → isHeld y i ≡ isHeld x i) →
+    heldSum w y + cond (isHeld x v) (w v) 0 ≡ heldSum w x + cond (isHeld y v) (w v) 0
+held-change w x y v e l h =
+    ap (λ (n : ℕ). sumTo n (λ i. cond (isHeld y i) (w i) 0) + cond (isHeld x v) (w v) 0) e
+    ∙ sum-change (size x) v (λ i. cond (isHeld y i) (w i) 0) (λ i. cond (isHeld x i) (w i) 0) l
+    (λ i b d. ap (λ (t : Bool). cond t (w i) 0) (h i b d))
+
+evict-sum :
+    (w : ℕ → ℕ) (split : Split) (v : ℕ) (x : State) →
+    v < size x →
+    isHeld x v ≡ true →
+    heldSum w (evictItem split v x) + w v ≡ heldSum w x
+evict-sum w split v x l h =
+    let y : State = evictItem split v x in
+    let gone : isHeld y v ≡ false = ap held (evicted-slot split v x l) in
+    let e : heldSum w y + cond (isHeld x v) (w v) 0 ≡ heldSum w x + cond (isHeld y v) (w v) 0 =
+    held-change w x y v (ap length (evict-catalog split v x)) l (λ i b d. other-held split v x i b d)
+    in
+    omega (arith, ap (λ (t : Bool). cond t (w v) 0) h, ap (λ (t : Bool). cond t (w v) 0) gone)
+
+-- the blocks of the victim are freed, and no others
+pub evict-used : (split : Split) (v : ℕ) (x : State) → v < size x → isHeld x v ≡ true → used (evictItem split v x) + blocksAt x v ≡ used x
+unfolding used evictItem
+evict-used split v x l h = evict-sum (blocksAt x) split v x l h
+
+pub evict-count : (split : Split) (v : ℕ) (x : State) → v < size x → isHeld x v ≡ true → heldCount (evictItem split v x) + 1 ≡ heldCount x
+unfolding heldCount
+evict-count split v x l h = evict-sum (λ i. 1) split v x l h
+
+-- an eviction of an item of least rank keeps what the rule keeps
+pub evict-kept :
+    (k : ℕ) (split : Split) (v : ℕ) (x : State) →
+    SplitOk split →
+    Kept k x →
+    Least x v →
+    Kept k (evictItem split v x)
+unfolding evictItem
+evict-kept k split v x ok kept low =
+    record {
+      catalog = kept .catalog;
+      slots = tab-length (size x) _;
+      slot = λ i l. at i l (ℕ-discrete i v);
+      room = let e : used (evictItem split v x) + blocksAt x v ≡ used x = evict-used split v x (low .below) (low .isHeld) in omega (arith, kept .room);
+    }
+  where
+    at : (i : ℕ) → i < size x → Dec (i ≡ v) → SlotKept (itemAt (x .catalog) i) (slotAt (evictItem split v x) i)
+    at i l (yes e) = rw (ap (slotAt (evictItem split v x)) e ∙ evicted-slot split v x (low .below)) (absent-kept (itemAt (x .catalog) i))
+    at i l (no e) =
+        rw (other-slot split v x i l e)
+        (lose-kept split ok (itemAt (x .catalog) i) (kept .catalog .each i l .some) (blocksAt x i * rank x v) (slotAt x i)
+        (dvd-mul-right (blocksAt x i) (rank x v)) (kept .slot i l) (λ h. bears-rank k x v i kept l (low .least i l h)))
+
+-- Making room, as the paper's loop: evictions of the victim while the free blocks are too few, then nothing more.
+pub data Evicting (split : Split) (k blocks : ℕ) : State → Moved → Type 0 where
+  enough : {x : State} → used x + blocks ≤ k → Evicting split k blocks x (stay x)
+  more :
+      {x : State} {m : Moved} →
+      k < used x + blocks →
+      Least x (victim x) →
+      Evicting split k blocks (evict split x .state) m →
+      Evicting split k blocks x (joined (evict split x) m)
+
+none-used : (x : State) → heldCount x ≡ 0 → used x ≡ 0
+unfolding heldCount used
+none-used x e = sum-zero (size x) _ (λ i l. weightless (isHeld x i) (blocksAt x i) (sum-none (size x) _ e i l))
+  where
+    weightless : (t : Bool) (b : ℕ) → _≡_ {A = ℕ} (cond t 1 0) 0 → cond t b 0 ≡ 0
+    weightless true b e = omega arith
+    weightless false b e = refl
+
+-- the turns allowed, one for each held item, are never too few
+turns :
+    (split : Split) (k blocks : ℕ) →
+    blocks ≤ k →
+    (t : ℕ) (x : State) →
+    heldCount x ≡ t →
+    Evicting split k blocks x (evictFor t split k blocks x)
+unfolding evictFor
+turns split k blocks fits zero x e = let l : used x + blocks ≤ k = omega (arith, none-used x e) in enough l
+turns split k blocks fits (suc t) x e =
+    go (leb (used x + blocks) k) refl
+    (λ low. turns split k blocks fits t (evict split x .state) (omega (arith, evict-count split (victim x) x (low .below) (low .isHeld))))
+  where
+    rest : Moved
+    rest = evictFor t split k blocks (evict split x .state)
+
+    go :
+        (b : Bool) →
+        leb (used x + blocks) k ≡ b →
+        (Least x (victim x) → Evicting split k blocks (evict split x .state) rest) →
+        Evicting split k blocks x (cond b (stay x) (joined (evict split x) rest))
+    go true f next = enough (leb-true (used x + blocks) k f)
+    go false f next =
+        let over : k < used x + blocks = leb-false (used x + blocks) k f in
+        let low : Least x (victim x) = victim-least x (omega arith) in
+        more over low (next low)
+
+pub room-made : (split : Split) (k blocks : ℕ) → blocks ≤ k → (x : State) → Evicting split k blocks x (evictFor (heldCount x) split k blocks x)
+room-made split k blocks fits x = turns split k blocks fits (heldCount x) x refl
+
+-- Room is left, and what the rule keeps is kept, with the catalog, and an item that was not held is not held.
+pub record Roomy (k blocks : ℕ) (x : State) (y : State) : Type 0 where
+  pub left : used y + blocks ≤ k
+  pub catalog : y .catalog ≡ x .catalog
+  pub kept : Kept k x → Kept k y
+  pub absent : (i : ℕ) → i < size x → isHeld x i ≡ false → isHeld y i ≡ false
+
+pub still-absent : (split : Split) (v : ℕ) (x : State) (i : ℕ) → i < size x → isHeld x i ≡ false → isHeld (evictItem split v x) i ≡ false
+still-absent split v x i l h = go (ℕ-discrete i v)
+  where
+    go : Dec (i ≡ v) → isHeld (evictItem split v x) i ≡ false
+    go (yes e) = ap held (ap (slotAt (evictItem split v x)) e ∙ evicted-slot split v x (omega arith))
+    go (no e) = other-held split v x i l e ∙ h
+
+pub room-left : (split : Split) (k blocks : ℕ) (x : State) (m : Moved) → SplitOk split → Evicting split k blocks x m → Roomy k blocks x (m .state)
+room-left split k blocks x m ok (enough l) = record { left = l; catalog = refl; kept = λ h. h; absent = λ i b h. h }
+room-left split k blocks x m ok (more {m = n} over low next) =
+    let y : State = evict split x .state in
+    let r : Roomy k blocks y (n .state) = room-left split k blocks y n ok next in
+    let same : y .catalog ≡ x .catalog = evict-catalog split (victim x) x in
+    record {
+      left = r .left;
+      catalog = r .catalog ∙ same;
+      kept = λ h. r .kept (evict-kept k split (victim x) x ok h low);
+      absent = λ i b h. r .absent i (rw same b) (still-absent split (victim x) x i b h);
+    }
+
+-- what one slot changed leaves and makes
+pub put-same : (x : State) (i : ℕ) (s : Slot) → i < length (x .slots) → slotAt (put x i s) i ≡ s
+put-same x i s l = getD-set-same (x .slots) i s absent l
+
+pub put-other : (x : State) (i j : ℕ) (s : Slot) → j ≢ i → slotAt (put x i s) j ≡ slotAt x j
+put-other x i j s e = getD-set-other (x .slots) i j s absent e
+
+-- a slot changed to one that is held, for which there is room if it was not
+put-kept :
+    (k : ℕ) (x : State) (i : ℕ) (s : Slot) →
+    Kept k x →
+    i < size x →
+    SlotKept (itemAt (x .catalog) i) s →
+    held s ≡ true →
+    (isHeld x i ≡ false → used x + blocksAt x i ≤ k) →
+    Kept k (put x i s)
+unfolding used
+put-kept k x i s kept l new h free =
+    record {
+      catalog = kept .catalog;
+      slots = length-set (x .slots) i s ∙ kept .slots;
+      slot = λ j b. at j b (ℕ-discrete j i);
+      room = bound (isHeld x i) refl;
+    }
+  where
+    here : slotAt (put x i s) i ≡ s
+    here = put-same x i s (let e : length (x .slots) ≡ size x = kept .slots in omega arith)
+
+    at : (j : ℕ) → j < size x → Dec (j ≡ i) → SlotKept (itemAt (x .catalog) j) (slotAt (put x i s) j)
+    at j b (yes e) = rw (ap (slotAt (put x i s)) e ∙ here, e) new
+    at j b (no e) = rw (put-other x i j s e) (kept .slot j b)
+
+    moved : used (put x i s) + cond (isHeld x i) (blocksAt x i) 0 ≡ used x + blocksAt x i
+    moved =
+        held-change (blocksAt x) x (put x i s) i refl l (λ j b e. ap held (put-other x i j s e))
+        ∙ ap (λ (t : Bool). used x + cond t (blocksAt x i) 0) (ap held here ∙ h)
+
+    bound : (t : Bool) → isHeld x i ≡ t → used (put x i s) ≤ k
+    bound true e = omega (arith, kept .room, rw e at moved)
+    bound false e = omega (arith, free e, rw e at moved)
+
+-- a flush keeps every mark of what is held
+pub flush-slot : (x : State) (i : ℕ) → i < size x → slotAt (flush x .state) i ≡ flushed (slotAt x i)
+unfolding flush
+flush-slot x i l = tab-at (size x) _ i absent l
+
+pub flush-catalog : (x : State) → flush x .state .catalog ≡ x .catalog
+unfolding flush
+flush-catalog x = refl
+
+pub flush-keeps : (k : ℕ) (x : State) → Kept k x → Kept k (flush x .state)
+unfolding flush used
+flush-keeps k x kept =
+    record {
+      catalog = kept .catalog;
+      slots = tab-length (size x) _;
+      slot = λ i l. rw (flush-slot x i l) (flush-kept (itemAt (x .catalog) i) (slotAt x i) (kept .slot i l));
+      room =
+          let e : used (flush x .state) ≡ used x =
+          sum-eq (size x) _ _ (λ i l. ap (λ (t : Bool). cond t (blocksAt x i) 0) (ap held (flush-slot x i l) ∙ flush-held (slotAt x i)))
+          in
+          omega (arith, kept .room);
+    }
+
+-- Room made for item i: if it was held nothing moved; if not, the paper's loop ran.
+pub record Room (split : Split) (k i : ℕ) (x : State) (m : Moved) : Type 0 where
+  pub catalog : m .state .catalog ≡ x .catalog
+  pub kept : Kept k x → Kept k (m .state)
+  pub free : isHeld (m .state) i ≡ false → used (m .state) + blocksAt x i ≤ k
+  pub stayed : isHeld x i ≡ true → m ≡ stay x
+  pub ran : isHeld x i ≡ false → (isHeld (m .state) i ≡ false) × Evicting split k (blocksAt x i) x m
+
+pub make-room : (split : Split) (k i : ℕ) (x : State) → SplitOk split → i < size x → blocksAt x i ≤ k → Room split k i x (makeRoom split k i x)
+unfolding makeRoom
+make-room split k i x ok l fits = go (isHeld x i) refl
+  where
+    loop : Moved
+    loop = evictFor (heldCount x) split k (blocksAt x i) x
+
+    made : Evicting split k (blocksAt x i) x loop
+    made = room-made split k (blocksAt x i) fits x
+
+    roomy : Roomy k (blocksAt x i) x (loop .state)
+    roomy = room-left split k (blocksAt x i) x loop ok made
+
+    go : (t : Bool) → isHeld x i ≡ t → Room split k i x (cond t (stay x) loop)
+    go true e =
+        record {
+          catalog = refl;
+          kept = λ h. h;
+          free = λ h. absurd (false≢true (sym h ∙ e));
+          stayed = λ h. refl;
+          ran = λ h. absurd (false≢true (sym h ∙ e));
+        }
+    go false e =
+        record {
+          catalog = roomy .catalog;
+          kept = roomy .kept;
+          free = λ h. roomy .left;
+          stayed = λ h. absurd (false≢true (sym e ∙ h));
+          ran = λ h. (roomy .absent i l h, made);
+        }
+
+-- a step that the table lets through: its item is in the catalog, and no larger than the cache
+abbrev pub Served : ℕ → Catalog → Step → Type 0
+Served k cat (Read i) = (i < length cat) × (itemAt cat i .blocks ≤ k)
+Served k cat (Write i minutes) = (i < length cat) × (itemAt cat i .blocks ≤ k)
+Served k cat Flush = Unit {0}
+
+-- Room made for a requested item, and then its slot changed to one that is held: this is a read, and this is a write.
+request-kept :
+    (split : Split) (k i : ℕ) (x : State) (m : Moved) (s : Slot) →
+    Room split k i x m →
+    Kept k x →
+    i < size x →
+    SlotKept (itemAt (m .state .catalog) i) s →
+    held s ≡ true →
+    Kept k (put (m .state) i s)
+request-kept split k i x m s room kept l new h =
+    put-kept k (m .state) i s (room .kept kept) (rw (room .catalog) l) new h
+    (λ q. let same : itemAt (m .state .catalog) i .blocks ≡ blocksAt x i = ap (λ (c : Catalog). itemAt c i .blocks) (room .catalog) in omega (arith, room .free q))
+
+-- the slot of an item just requested is as the rule keeps it
+requested : (k : ℕ) (y : State) (i : ℕ) → Kept k y → i < size y → SlotKept (itemAt (y .catalog) i) (readSlot y i)
+requested k y i kept l =
+    read-kept (itemAt (y .catalog) i) (slotAt y i) (blocks-divide (itemAt (y .catalog) i) (kept .catalog .each i l)) (kept .slot i l)
+
+pub step-kept : (split : Split) (k : ℕ) (s : Step) (x : State) → SplitOk split → Kept k x → Served k (x .catalog) s → Kept k (step split k s x .state)
+unfolding step
+step-kept split k (Read i) x ok kept served =
+    let m : Moved = makeRoom split k i x in
+    let room : Room split k i x m = make-room split k i x ok (served .0) (served .1) in
+    request-kept split k i x m (readSlot (m .state) i) room kept (served .0)
+    (requested k (m .state) i (room .kept kept) (rw (room .catalog) (served .0)))
+    (read-held _ (slotAt (m .state) i))
+step-kept split k (Write i minutes) x ok kept served =
+    let m : Moved = makeRoom split k i x in
+    let it : Item = itemAt (m .state .catalog) i in
+    let room : Room split k i x m = make-room split k i x ok (served .0) (served .1) in
+    let l : i < size (m .state) = rw (room .catalog) (served .0) in
+    request-kept split k i x m (written (full (it .write)) (readSlot (m .state) i)) room kept (served .0)
+    (write-kept it (readSlot (m .state) i) (blocks-divide it (room .kept kept .catalog .each i l)) (requested k (m .state) i (room .kept kept) l))
+    (write-held _ (readSlot (m .state) i) ∙ read-held _ (slotAt (m .state) i))
+step-kept split k Flush x ok kept served = flush-keeps k x kept
+
+pub step-catalog : (split : Split) (k : ℕ) (s : Step) (x : State) → SplitOk split → Served k (x .catalog) s → step split k s x .state .catalog ≡ x .catalog
+unfolding step
+step-catalog split k (Read i) x ok served = make-room split k i x ok (served .0) (served .1) .catalog
+step-catalog split k (Write i minutes) x ok served = make-room split k i x ok (served .0) (served .1) .catalog
+step-catalog split k Flush x ok served = flush-catalog x
+
+-- the empty cache
+pub empty-kept : (k : ℕ) (cat : Catalog) → CatalogOk cat → Kept k (emptied cat)
+unfolding used
+empty-kept k cat ok =
+    record {
+      catalog = ok;
+      slots = tab-length (length cat) _;
+      slot = λ i l. rw (tab-at (length cat) (λ j. absent) i absent l) (absent-kept (itemAt cat i));
+      room = let e : used (emptied cat) ≡ 0 = sum-zero (length cat) _ (λ i l. rw (tab-at (length cat) (λ j. absent) i absent l)) in omega arith;
+    }

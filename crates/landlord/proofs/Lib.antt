@@ -1,0 +1,9 @@
+pub mod Sums
+pub mod Potential
+pub mod Moves
+pub mod Folds
+pub mod Slots
+pub mod Keeps
+pub mod Logs
+pub mod Calls
+pub mod Wear

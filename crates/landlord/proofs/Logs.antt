@@ -1,0 +1,243 @@
+-- Laws of logs: what the table lets through can be served; what a log's events add up to; where the rule stands after a log
+-- that the table lets through; and a list of calls against its log. Assumes nothing.
+use mathlib.Core.Path.{_≡_, refl, sym, ap, _∙_}
+use mathlib.Core.Bool.{Bool, true, false, cond}
+use mathlib.Core.List.{List, [], _∷_, _++_, append-assoc, map}
+use Prim.Native.Nat.{ℕ, zero, suc, _+_, _≤_, _<_}
+use native.Mathlib.Omega.{arith}
+use lib.ListN.{length, getD, length-append}
+use lib.Dec.{leb, eqb, ltb}
+use borrow.Author.Tests.{ltb-true, leb-true}
+use Rattle.landlord.specs.declared.Step.{Step}
+use Rattle.landlord.specs.declared.Step.the-variants.{Read, Write, Flush}
+use Rattle.landlord.specs.Types.{stepKind, stepItem, stepMinutes}
+use Rattle.landlord.specs.Fold.{fold, sumTo}
+use Rattle.landlord.specs.Catalog.{Catalog, CatalogOk, itemAt}
+use Rattle.landlord.specs.Slot.{Split, held, isDirty}
+use Rattle.landlord.specs.Rule.{State, Event, hit, loaded, evicted, wroteBack, wrote, landed, Moved, stay, joined, evict, victim, makeRoom, found, slotAt, writeBacks, flush, step, size, blocksAt}
+use Rattle.landlord.specs.Figures.{Totals, Figures, Standing, plusTotals, adds, tally, opened, moved, took, closes, ran, season}
+use Rattle.landlord.specs.Calls.{Call, take, close, Log, noLog, callOf, stepOf, inRange, refusalAt, refusalIn, refusalNow, logged, joins, logOf, ruleOver, accepted, after}
+use Rattle.landlord.specs.Claims.{SplitOk, Kept, Allowed}
+use Rattle.landlord.proofs.Folds.{fold-append}
+use Rattle.landlord.proofs.Sums.{sum-zero}
+use Rattle.landlord.proofs.Keeps.{Evicting, enough, more, Room, make-room, Served, step-kept, step-catalog, flush-keeps, flush-catalog, empty-kept}
+
+-- the item of a step is in the catalog, and no larger than the cache
+known : (k : ℕ) (cat : Catalog) (i : ℕ) → (ltb i (length cat) ≡ true) × (leb (itemAt cat i .blocks) k ≡ true) → (i < length cat) × (itemAt cat i .blocks ≤ k)
+known k cat i f = (ltb-true i (length cat) (f .0), leb-true (itemAt cat i .blocks) k (f .1))
+
+-- the tests of the table that an answer of 0 has passed
+clear : (a b c d : Bool) → _≡_ {A = ℕ} (cond a 8 (cond b (cond c (cond d 0 7) 6) 3)) 0 → (c ≡ true) × (d ≡ true)
+clear true b c d e = absurd (omega arith)
+clear false true true true e = (refl, refl)
+clear false true true false e = absurd (omega arith)
+clear false true false d e = absurd (omega arith)
+clear false false c d e = absurd (omega arith)
+
+pub allowed-served : (k : ℕ) (cat : Catalog) (t : ℕ) (s : Step) → refusalAt k cat t false (callOf s) ≡ 0 → Served k cat s
+unfolding refusalAt stepOf
+allowed-served k cat t (Read i) e = known k cat i (clear (leb 1000000 t) (inRange 82 i 0) (ltb i (length cat)) (leb (itemAt cat i .blocks) k) e)
+allowed-served k cat t (Write i minutes) e =
+    known k cat i (clear (leb 1000000 t) (inRange 87 i minutes) (ltb i (length cat)) (leb (itemAt cat i .blocks) k) e)
+allowed-served k cat t Flush e = tt
+
+-- each step of a list can be served
+abbrev pub AllServed : ℕ → Catalog → List Step → Type 0
+AllServed k cat [] = Unit {0}
+AllServed k cat (s ∷ steps) = Served k cat s × AllServed k cat steps
+
+pub all-served : (k : ℕ) (cat : Catalog) (steps : List Step) → Allowed k cat steps → AllServed k cat steps
+all-served k cat steps a = from 0 steps (λ i l. rw (let e : 0 + i ≡ i = omega arith in e) (a .each i l))
+  where
+    from : (t : ℕ) (steps : List Step) → ((i : ℕ) → i < length steps → refusalAt k cat (t + i) false (callOf (getD steps i Flush)) ≡ 0) → AllServed k cat steps
+    from t [] h = tt
+    from t (s ∷ steps) h = (
+      allowed-served k cat (t + 0) s (h 0 (omega arith)),
+      from (t + 1) steps (λ i l. rw (let e : t + 1 + i ≡ t + suc i = omega arith in e) (h (suc i) (omega arith))),
+    )
+
+-- the sum of a weight over events
+unfoldable pub eventSum : (Event → ℕ) → List Event → ℕ
+eventSum w [] = 0
+eventSum w (e ∷ es) = w e + eventSum w es
+
+pub eventSum-none : (w : Event → ℕ) → eventSum w [] ≡ 0
+unfolding eventSum
+eventSum-none w = refl
+
+pub eventSum-one : (w : Event → ℕ) (e : Event) → eventSum w (e ∷ []) ≡ w e
+unfolding eventSum
+eventSum-one w e = omega arith
+
+pub event-append : (w : Event → ℕ) (xs ys : List Event) → eventSum w (xs ++ ys) ≡ eventSum w xs + eventSum w ys
+unfolding eventSum
+event-append w [] ys = omega arith
+event-append w (x ∷ xs) ys = omega (arith, event-append w xs ys)
+
+-- Each of the totals grows by the sum of what the events add to it.
+pub tally-part :
+    (p : Totals → ℕ) →
+    ((a b : Totals) → p (plusTotals a b) ≡ p a + p b) →
+    (cat : Catalog) (f : Figures) (es : List Event) →
+    p (fold (tally cat) f es .totals) ≡ p (f .totals) + eventSum (λ e. p (adds cat e)) es
+unfolding fold eventSum
+tally-part p plus cat f [] = omega arith
+tally-part p plus cat f (e ∷ es) = omega (arith, tally-part p plus cat (tally cat f e) es, plus (f .totals) (adds cat e))
+
+-- the writebacks of a flush, added up
+pub write-backs-sum :
+    (w : Event → ℕ) (n : ℕ) (isDue : ℕ → Bool) →
+    eventSum w (writeBacks n isDue) ≡ sumTo n (λ i. cond (isDue i) (w (wroteBack i)) 0)
+unfolding writeBacks sumTo
+write-backs-sum w zero isDue = eventSum-none w
+write-backs-sum w (suc n) isDue =
+    omega (arith, event-append w (writeBacks n isDue) (cond (isDue n) (wroteBack n ∷ []) []), write-backs-sum w n isDue, last (isDue n))
+  where
+    last : (t : Bool) → eventSum w (cond t (wroteBack n ∷ []) []) ≡ cond t (w (wroteBack n)) 0
+    last true = eventSum-one w (wroteBack n)
+    last false = eventSum-none w
+
+-- a weight that evictions do not have adds nothing while room is made
+evicting-sum :
+    (w : Event → ℕ) →
+    ((i : ℕ) (d : Bool) → w (evicted i d) ≡ 0) →
+    (split : Split) (k blocks : ℕ) (x : State) (m : Moved) →
+    Evicting split k blocks x m →
+    eventSum w (m .events) ≡ 0
+evicting-sum w none split k blocks x m (enough l) = eventSum-none w
+evicting-sum w none split k blocks x m (more {m = n} over low next) =
+    omega (
+      arith,
+      event-append w (evict split x .events) (n .events),
+      eventSum-one w (evicted (victim x) (isDirty (slotAt x (victim x)))),
+      none (victim x) (isDirty (slotAt x (victim x))),
+      evicting-sum w none split k blocks (evict split x .state) n next,
+    )
+
+room-sum :
+    (w : Event → ℕ) →
+    ((i : ℕ) (d : Bool) → w (evicted i d) ≡ 0) →
+    (split : Split) (k i : ℕ) (x : State) (m : Moved) →
+    Room split k i x m →
+    eventSum w (m .events) ≡ 0
+room-sum w none split k i x m room = go (held (slotAt x i)) refl
+  where
+    go : (t : Bool) → held (slotAt x i) ≡ t → eventSum w (m .events) ≡ 0
+    go true e = rw (room .stayed e) (eventSum-none w)
+    go false e = evicting-sum w none split k (blocksAt x i) x m (room .ran e .1)
+
+-- what an event adds to the count of steps
+abbrev stepsAdded : Catalog → Event → ℕ
+stepsAdded cat e = adds cat e .steps
+
+no-step : (cat : Catalog) (i : ℕ) (d : Bool) → stepsAdded cat (evicted i d) ≡ 0
+no-step cat i true = refl
+no-step cat i false = refl
+
+found-step : (cat : Catalog) (x : State) (i : ℕ) → stepsAdded cat (found x i) ≡ 1
+found-step cat x i = go (held (slotAt x i))
+  where
+    go : (t : Bool) → stepsAdded cat (cond t (hit i) (loaded i)) ≡ 1
+    go true = refl
+    go false = refl
+
+-- a step counts as one step, and a flush by itself as none
+flush-steps : (cat : Catalog) (x : State) → eventSum (stepsAdded cat) (flush x .events) ≡ 0
+unfolding flush
+flush-steps cat x = write-backs-sum (stepsAdded cat) (size x) (λ i. isDirty (slotAt x i)) ∙ sum-zero (size x) _ (λ i l. even (isDirty (slotAt x i)))
+  where
+    even : (t : Bool) → _≡_ {A = ℕ} (cond t 0 0) 0
+    even true = refl
+    even false = refl
+
+step-steps : (split : Split) (k : ℕ) (s : Step) (x : State) (cat : Catalog) → SplitOk split → Served k (x .catalog) s → eventSum (stepsAdded cat) (step split k s x .events) ≡ 1
+unfolding step eventSum
+step-steps split k (Read i) x cat ok served =
+    let m : Moved = makeRoom split k i x in
+    omega (
+      arith,
+      event-append (stepsAdded cat) (m .events) (found (m .state) i ∷ []),
+      room-sum (stepsAdded cat) (no-step cat) split k i x m (make-room split k i x ok (served .0) (served .1)),
+      found-step cat (m .state) i,
+    )
+step-steps split k (Write i minutes) x cat ok served =
+    let m : Moved = makeRoom split k i x in
+    omega (
+      arith,
+      event-append (stepsAdded cat) (m .events) (found (m .state) i ∷ wrote i minutes ∷ []),
+      room-sum (stepsAdded cat) (no-step cat) split k i x m (make-room split k i x ok (served .0) (served .1)),
+      found-step cat (m .state) i,
+    )
+step-steps split k Flush x cat ok served = omega (arith, flush-steps cat x)
+
+-- where the rule stands in a season of capacity k and catalog cat, after t steps
+pub record Stands (k : ℕ) (cat : Catalog) (t : ℕ) (isClosed : Bool) (v : Standing) : Type 0 where
+  pub capacity : v .k ≡ k
+  pub catalog : v .state .catalog ≡ cat
+  pub kept : Kept k (v .state)
+  pub taken : v .figures .totals .steps ≡ t
+  pub closed : v .closed ≡ isClosed
+
+pub opened-stands : (k : ℕ) (cat : Catalog) → CatalogOk cat → Stands k cat 0 false (opened k cat)
+opened-stands k cat ok = record { capacity = refl; catalog = refl; kept = empty-kept k cat ok; taken = refl; closed = refl }
+
+pub took-stands :
+    (split : Split) (k : ℕ) (cat : Catalog) (t : ℕ) (v : Standing) (s : Step) →
+    SplitOk split →
+    Stands k cat t false v →
+    Served k cat s →
+    Stands k cat (t + 1) false (took split v s)
+unfolding took
+took-stands split k cat t v s ok so served =
+    let here : Served (v .k) (v .state .catalog) s = rw (so .capacity, so .catalog) served in
+    record {
+      capacity = so .capacity;
+      catalog = step-catalog split (v .k) s (v .state) ok here ∙ so .catalog;
+      kept = rw (so .capacity) (step-kept split k s (v .state) ok (so .kept) (rw (so .catalog) served));
+      taken =
+          omega (
+            arith,
+            so .taken,
+            tally-part (λ (a : Totals). a .steps) (λ a b. refl) (v .state .catalog) (v .figures) (step split (v .k) s (v .state) .events),
+            step-steps split (v .k) s (v .state) (v .state .catalog) ok here,
+          );
+      closed = so .closed;
+    }
+
+pub closes-stands : (k : ℕ) (cat : Catalog) (t : ℕ) (v : Standing) → Stands k cat t false v → Stands k cat t true (closes v)
+unfolding closes
+closes-stands k cat t v so =
+    record {
+      capacity = so .capacity;
+      catalog = flush-catalog (v .state) ∙ so .catalog;
+      kept = flush-keeps k (v .state) (so .kept);
+      taken =
+          omega (
+            arith,
+            so .taken,
+            tally-part (λ (a : Totals). a .steps) (λ a b. refl) (v .state .catalog) (v .figures) (flush (v .state) .events),
+            flush-steps (v .state .catalog) (v .state),
+          );
+      closed = refl;
+    }
+
+-- What the rule keeps, for every log that the table lets through and every split in multiples of the blocks.
+pub ran-stands :
+    (split : Split) (k : ℕ) (cat : Catalog) (steps : List Step) →
+    SplitOk split →
+    CatalogOk cat →
+    AllServed k cat steps →
+    Stands k cat (length steps) false (ran split k cat steps)
+unfolding fold
+ran-stands split k cat steps ok good served =
+    rw (let e : length steps ≡ 0 + length steps = omega arith in e) (from 0 (opened k cat) steps (opened-stands k cat good) served)
+  where
+    from :
+        (t : ℕ) (v : Standing) (steps : List Step) →
+        Stands k cat t false v →
+        AllServed k cat steps →
+        Stands k cat (t + length steps) false (fold (took split) v steps)
+    from t v [] so served = rw (let e : t + 0 ≡ t = omega arith in e) so
+    from t v (s ∷ steps) so served =
+        rw (let e : t + suc (length steps) ≡ t + 1 + length steps = omega arith in e)
+        (from (t + 1) (took split v s) steps (took-stands split k cat t v s ok so (served .0)) (served .1))

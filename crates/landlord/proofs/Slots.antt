@@ -1,0 +1,149 @@
+-- Laws of one slot: the share fact, and what each change of a slot keeps. Assumes nothing.
+use mathlib.Core.Path.{_≡_, refl, sym, ap, _∙_}
+use mathlib.Core.Bool.{Bool, true, false, false≢true}
+use Prim.Native.Nat.{ℕ, zero, suc, _+_, _*_, _-_, _/_, _≤_, _<_, _∣_, _%_, min}
+use native.Mathlib.Nat.{dvd-zero, dvd-add, dvd-sub, dvd-mul-right, dvd-mul-left-of-dvd, div-mul-cancel, dvd-of-mod-eq-zero, mul-assoc}
+use native.Mathlib.Decide.{decLe}
+use native.Mathlib.Omega.{arith}
+use Rattle.landlord.specs.Fold.{sumTo}
+use Rattle.landlord.specs.Catalog.{Item, ItemOk, full, unit, sharesPerBlock}
+use Rattle.landlord.specs.Slot.{Slot, absent, clean, dirty, held, isDirty, loadCredit, writeCredit, Split, writeFirst, lose, brought, refilled, written, flushed}
+use Rattle.landlord.proofs.Sums.{sum-none}
+use Rattle.landlord.specs.Claims.{Bears, SplitOk, SlotKept}
+
+-- The share fact, for a general s: where s divides the unit, a cost spread over s blocks loses nothing.
+pub share-fact : (cost s : ℕ) → s ∣ unit → sharesPerBlock cost s * s ≡ full cost
+share-fact cost s d = mul-assoc cost (unit / s) s ∙ ap (λ (z : ℕ). cost * z) (div-mul-cancel s d)
+
+-- and so a full credit is a multiple of the blocks
+pub full-whole : (cost s : ℕ) → s ∣ unit → s ∣ full cost
+full-whole cost s d = dvd-mul-left-of-dvd s d cost
+
+-- the sixteen block counts, as one computed test: each leaves nothing over
+sixteen : sumTo 16 (λ i. unit % suc i) ≡ 0
+unfolding sumTo
+sixteen = refl
+
+-- the test as a fact about each
+pub blocks-divide : (x : Item) → ItemOk x → x .blocks ∣ unit
+blocks-divide x ok = go (x .blocks) (ok .some) (ok .small)
+  where
+    go : (s : ℕ) → 1 ≤ s → s ≤ 16 → s ∣ unit
+    go zero low high = absurd (let z : 1 ≤ 0 = low in omega arith)
+    go (suc s) low high = dvd-of-mod-eq-zero (suc s) (sum-none 16 (λ i. unit % suc i) sixteen s (omega arith))
+
+-- write-first splits in multiples of the blocks: the lesser of two multiples is one of them
+pub write-first-ok : SplitOk writeFirst
+write-first-ok =
+    record {
+      each =
+          λ s loss a b l dl da db le.
+          record { whole = lesser s loss b dl db; part = omega arith; within = omega arith; rest = omega arith };
+    }
+  where
+    lesser : (s m n : ℕ) → s ∣ m → s ∣ n → s ∣ min m n
+    lesser s m n dm dn = go (decLe m n)
+      where
+        go : Dec (m ≤ n) → s ∣ min m n
+        go (yes l) = rw (let e : min m n ≡ m = omega arith in e) dm
+        go (no l) = rw (let e : min m n ≡ n = omega arith in e) dn
+
+-- a loss changes no mark
+pub lose-held : (split : Split) (s loss : ℕ) (x : Slot) → held (lose split s loss x) ≡ held x
+lose-held split s loss absent = refl
+lose-held split s loss (clean a) = refl
+lose-held split s loss (dirty a b) = refl
+
+pub lose-dirty : (split : Split) (s loss : ℕ) (x : Slot) → isDirty (lose split s loss x) ≡ isDirty x
+lose-dirty split s loss absent = refl
+lose-dirty split s loss (clean a) = refl
+lose-dirty split s loss (dirty a b) = refl
+
+-- what a loss does to a slot that can bear it: neither credit grows, and together they fall by the loss
+pub record Lost (loss : ℕ) (x y : Slot) : Type 0 where
+  pub load : loadCredit y ≤ loadCredit x
+  pub write : writeCredit y ≤ writeCredit x
+  pub both : loadCredit x + writeCredit x ≡ (loadCredit y + writeCredit y) + loss
+
+module _ (split : Split) (ok : SplitOk split) (it : Item) (some : 1 ≤ it .blocks) where
+  abbrev after : ℕ → Slot → Slot
+  after loss x = lose split (it .blocks) loss x
+
+  pub lose-lost :
+      (loss : ℕ) (x : Slot) →
+      held x ≡ true →
+      it .blocks ∣ loss →
+      SlotKept it x →
+      loss ≤ loadCredit x + writeCredit x →
+      Lost loss x (after loss x)
+  lose-lost loss absent h d kept l = absurd (false≢true h)
+  lose-lost loss (clean a) h d kept l = record { load = omega arith; write = omega arith; both = omega arith }
+  lose-lost loss (dirty a b) h d kept l =
+      let t : Bears (it .blocks) loss a b (split (it .blocks) loss a b) = ok .each (it .blocks) loss a b some d (kept .wholeLoad) (kept .wholeWrite) l in
+      record { load = omega arith; write = omega arith; both = omega arith }
+
+  pub lose-kept :
+      (loss : ℕ) (x : Slot) →
+      it .blocks ∣ loss →
+      SlotKept it x →
+      (held x ≡ true → loss ≤ loadCredit x + writeCredit x) →
+      SlotKept it (after loss x)
+  lose-kept loss absent d kept l = kept
+  lose-kept loss (clean a) d kept l =
+      record {
+        wholeLoad = dvd-sub (it .blocks) (kept .wholeLoad) d;
+        wholeWrite = kept .wholeWrite;
+        loadTop = omega arith;
+        writeTop = kept .writeTop;
+      }
+  lose-kept loss (dirty a b) d kept l =
+      let t : Bears (it .blocks) loss a b (split (it .blocks) loss a b) = ok .each (it .blocks) loss a b some d (kept .wholeLoad) (kept .wholeWrite) (l refl) in
+      record {
+        wholeLoad = dvd-sub (it .blocks) (kept .wholeLoad) (dvd-sub (it .blocks) d (t .whole));
+        wholeWrite = dvd-sub (it .blocks) (kept .wholeWrite) (t .whole);
+        loadTop = omega arith;
+        writeTop = omega arith;
+      }
+
+-- an empty place has no credit
+pub absent-kept : (it : Item) → SlotKept it absent
+absent-kept it =
+    record { wholeLoad = dvd-zero (it .blocks); wholeWrite = dvd-zero (it .blocks); loadTop = omega arith; writeTop = omega arith }
+
+-- a requested item, brought in and refilled
+pub read-kept : (it : Item) (x : Slot) → it .blocks ∣ unit → SlotKept it x → SlotKept it (refilled (full (it .load)) (brought x))
+read-kept it absent d kept =
+    record { wholeLoad = full-whole (it .load) (it .blocks) d; wholeWrite = kept .wholeWrite; loadTop = omega arith; writeTop = kept .writeTop }
+read-kept it (clean a) d kept =
+    record { wholeLoad = full-whole (it .load) (it .blocks) d; wholeWrite = kept .wholeWrite; loadTop = omega arith; writeTop = kept .writeTop }
+read-kept it (dirty a b) d kept =
+    record { wholeLoad = full-whole (it .load) (it .blocks) d; wholeWrite = kept .wholeWrite; loadTop = omega arith; writeTop = kept .writeTop }
+
+pub write-kept : (it : Item) (x : Slot) → it .blocks ∣ unit → SlotKept it x → SlotKept it (written (full (it .write)) x)
+write-kept it absent d kept = kept
+write-kept it (clean a) d kept =
+    record { wholeLoad = kept .wholeLoad; wholeWrite = full-whole (it .write) (it .blocks) d; loadTop = kept .loadTop; writeTop = omega arith }
+write-kept it (dirty a b) d kept =
+    record { wholeLoad = kept .wholeLoad; wholeWrite = full-whole (it .write) (it .blocks) d; loadTop = kept .loadTop; writeTop = omega arith }
+
+pub flush-kept : (it : Item) (x : Slot) → SlotKept it x → SlotKept it (flushed x)
+flush-kept it absent kept = kept
+flush-kept it (clean a) kept = kept
+flush-kept it (dirty a b) kept =
+    record { wholeLoad = kept .wholeLoad; wholeWrite = dvd-zero (it .blocks); loadTop = kept .loadTop; writeTop = omega arith }
+
+-- after a request the item is held
+pub read-held : (top : ℕ) (x : Slot) → held (refilled top (brought x)) ≡ true
+read-held top absent = refl
+read-held top (clean a) = refl
+read-held top (dirty a b) = refl
+
+pub write-held : (top : ℕ) (x : Slot) → held (written top x) ≡ held x
+write-held top absent = refl
+write-held top (clean a) = refl
+write-held top (dirty a b) = refl
+
+pub flush-held : (x : Slot) → held (flushed x) ≡ held x
+flush-held absent = refl
+flush-held (clean a) = refl
+flush-held (dirty a b) = refl

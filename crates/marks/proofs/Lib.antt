@@ -1,0 +1,2 @@
+-- The laws that the functions' proofs and the callers cite.
+pub mod Laws
