@@ -7,4 +7,5 @@ pub mod Figures
 pub mod Plan
 pub mod Calls
 pub mod Claims
+pub mod Valid
 pub mod Rows

@@ -1,0 +1,17 @@
+-- What a function that moves a cache on says of the cache that it hands back. Assumes nothing.
+use mathlib.Core.Path.{_≡_}
+use mathlib.Core.Bool.{Bool, true}
+use Rattle.landlord.specs.Figures.{Standing}
+use Rattle.cache_state.specs.declared.Cache.{Cache}
+use Rattle.cache_state.specs.View.{view}
+use Rattle.cache_state.specs.Valid.{Normal}
+
+-- r is the cache that stands where the rule stands: there is only one (proofs/Tells.antt)
+pub record Becomes (v : Standing) (r : Cache) : Type 0 where
+  pub stands : view r ≡ v
+  pub fields : Normal r
+
+-- a test that decides a statement: it comes out true exactly where the statement holds
+pub record Decided (A : Type 0) (r : Bool) : Type 0 where
+  pub yes : r ≡ true → A
+  pub only : A → r ≡ true

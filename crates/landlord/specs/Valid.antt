@@ -1,0 +1,42 @@
+-- What holds of the rule wherever it stands: the sentences of paper 01 on a foul locker that speak of the rule's state and
+-- figures. Those on the fields of a program's state are with the program. Assumes nothing.
+use mathlib.Core.Path.{_≡_}
+use mathlib.Core.Bool.{true, false, cond}
+use Prim.Native.Nat.{ℕ, _+_, _*_, _≤_, _<_}
+use lib.ListN.{length}
+use Rattle.landlord.specs.Fold.{sumTo}
+use Rattle.landlord.specs.Catalog.{CapacityOk}
+use Rattle.landlord.specs.Slot.{isDirty}
+use Rattle.landlord.specs.Rule.{State, size, slotAt, heldCount}
+use Rattle.landlord.specs.Figures.{Totals, Figures, Standing, useAt}
+use Rattle.landlord.specs.Claims.{Kept}
+
+-- how many items are dirty
+unfoldable pub dirtyCount : State → ℕ
+dirtyCount x = sumTo (size x) (λ i. cond (isDirty (slotAt x i)) 1 0)
+
+pub record StandingOk (v : Standing) : Type 0 where
+  -- "k and catalogue are in range; held blocks are at most k; credits are multiples of its blocks and at most cost × 720,720"
+  pub capacity : CapacityOk (v .k)
+  pub kept : Kept (v .k) (v .state)
+  -- "hits + loads + landings = steps, at most 1,000,000"
+  pub steps : v .figures .totals .hits + v .figures .totals .loads + v .figures .totals .flushes ≡ v .figures .totals .steps
+  pub taken : v .figures .totals .steps ≤ 1000000
+  -- "drops + held sails = loads"
+  pub evictions : v .figures .totals .evictions + heldCount (v .state) ≡ v .figures .totals .loads
+  -- "dirty drops are at most drops and at most writebacks"
+  pub dirtyEvictions : v .figures .totals .dirtyEvictions ≤ v .figures .totals .evictions
+  pub dirtyWritten : v .figures .totals .dirtyEvictions ≤ v .figures .totals .writebacks
+  -- "writebacks + dirty held sails are at most steps"
+  pub writebacks : v .figures .totals .writebacks + dirtyCount (v .state) ≤ v .figures .totals .steps
+  -- "loadcost and writecost are at most 65,535 × loads and × writebacks"
+  pub loadCost : v .figures .totals .loadCost ≤ 65535 * v .figures .totals .loads
+  pub writeCost : v .figures .totals .writeCost ≤ 65535 * v .figures .totals .writebacks
+  -- "per-sail loads and writebacks add up to the totals"
+  pub uses : length (v .figures .uses) ≡ size (v .state)
+  pub loadsAdd : sumTo (size (v .state)) (λ i. useAt (v .figures) i .loads) ≡ v .figures .totals .loads
+  pub writebacksAdd : sumTo (size (v .state)) (λ i. useAt (v .figures) i .writebacks) ≡ v .figures .totals .writebacks
+  -- "a sail's tenths are at most 240 × steps"
+  pub tenths : (i : ℕ) → i < size (v .state) → useAt (v .figures) i .tenths ≤ 240 * v .figures .totals .steps
+  -- "a closed locker has no dirty sail"
+  pub closed : v .closed ≡ true → (i : ℕ) → i < size (v .state) → isDirty (slotAt (v .state) i) ≡ false
