@@ -1,29 +1,29 @@
 -- A list of calls against its log: the table lets the log through, every list of steps that the table lets through is the log
 -- of some calls, and the rule, asked call by call, stands where it stands over the log. Assumes nothing.
 use mathlib.Core.Path.{_≡_, refl, sym, ap, subst, _∙_}
-use mathlib.Core.Bool.{Bool, true, false, cond}
+use mathlib.Core.Bool.{Bool, true, false, cond, _&&_, false≢true}
 use mathlib.Core.List.{List, [], _∷_, _++_, append-nil, map}
 use Prim.Native.Nat.{ℕ, zero, suc, _+_, _≤_, _<_}
 use native.Mathlib.Omega.{arith}
 use native.Mathlib.Decide.{ℕ-discrete}
-use lib.ListN.{length, getD, length-append, List·getD-append}
-use lib.Seq.{getD-append-seam, append-snoc}
+use lib.ListN.{length, getD, drop, length-append, List·getD-append}
+use lib.Seq.{getD-append-seam, append-snoc, split-at}
 use lib.Dec.{leb, eqb, ltb}
-use borrow.Author.Tests.{eqb-true, eq-eqb}
+use borrow.Author.Tests.{eqb-true, eq-eqb, leb-true, le-leb}
 use Rattle.landlord.specs.declared.Step.{Step}
 use Rattle.landlord.specs.declared.Step.the-variants.{Read, Write, Flush}
 use Rattle.landlord.specs.Types.{stepKind, stepItem, stepMinutes}
 use Rattle.landlord.specs.Fold.{fold}
-use Rattle.landlord.specs.Catalog.{Catalog, CatalogOk, itemAt}
+use Rattle.landlord.specs.Catalog.{Catalog, Item, ItemOk, CatalogOk, CapacityOk, itemAt}
 use Rattle.landlord.specs.Slot.{Split}
 use Rattle.landlord.specs.Figures.{Standing, opened, took, closes, ran, season}
-use Rattle.landlord.specs.Calls.{Call, take, close, Log, noLog, callOf, stepOf, inRange, itemRefusal, refusalAt, refusalIn, refusalNow, logged, joins, logOf, ruleOver, accepted, after}
+use Rattle.landlord.specs.Calls.{Call, take, close, Log, noLog, callOf, stepOf, itemInRange, allInRange, openingRefusal, inRange, itemRefusal, refusalAt, refusalIn, refusal, refusalNow, logged, joins, logOf, ruleOver, accepted, after}
 use Rattle.landlord.specs.Claims.{SplitOk, Allowed}
-use Rattle.landlord.proofs.Folds.{either, fold-append}
+use Rattle.landlord.proofs.Folds.{either, fold-append, fold-more}
 use Rattle.landlord.proofs.Logs.{Stands, AllServed, all-served, ran-stands, closes-stands}
 
 -- A call of a known kind in range is answered as the step that it means: values that a step lacks are not looked at.
-means :
+pub means :
     (k : ℕ) (cat : Catalog) (t kind i m : ℕ) →
     refusalAt k cat t false (take kind i m) ≡ 0 →
     refusalAt k cat t false (callOf (stepOf kind i m)) ≡ 0
@@ -50,7 +50,7 @@ means k cat t kind i m e = go (eqb kind 82) (eqb kind 87) (eqb kind 76) e
     go false false false e = late (leb 1000000 t) e
 
 -- an open log: a refused step on a closed one is refused with 9
-open-log : (k : ℕ) (cat : Catalog) (t : ℕ) (c : Bool) (call : Call) → refusalAt k cat t c call ≡ 0 → c ≡ false
+pub open-log : (k : ℕ) (cat : Catalog) (t : ℕ) (c : Bool) (call : Call) → refusalAt k cat t c call ≡ 0 → c ≡ false
 unfolding refusalAt
 open-log k cat t true (take kind i m) e = absurd (omega arith)
 open-log k cat t false (take kind i m) e = refl
@@ -72,12 +72,12 @@ allowed-more k cat steps s a e = record { each = λ i l. at i l (ℕ-discrete i 
         rw (List·getD-append steps (s ∷ []) Flush i b) (a .each i b)
 
 -- a call that is refused leaves the log, and one that is not joins it
-joins-either : (k : ℕ) (cat : Catalog) (l : Log) (call : Call) (P : Log → Type 0) → (refusalIn k cat l call ≡ 0 → P (logged l call)) → P l → P (joins k cat l call)
+pub joins-either : (k : ℕ) (cat : Catalog) (l : Log) (call : Call) (P : Log → Type 0) → (refusalIn k cat l call ≡ 0 → P (logged l call)) → P l → P (joins k cat l call)
 unfolding joins
 joins-either k cat l call P taken kept =
     either P (eqb (refusalIn k cat l call) 0) (logged l call) l (λ e. taken (eqb-true (refusalIn k cat l call) 0 e)) (λ e. kept)
 
-logged-allowed : (k : ℕ) (cat : Catalog) (l : Log) (call : Call) → Allowed k cat (l .steps) → refusalIn k cat l call ≡ 0 → Allowed k cat (logged l call .steps)
+pub logged-allowed : (k : ℕ) (cat : Catalog) (l : Log) (call : Call) → Allowed k cat (l .steps) → refusalIn k cat l call ≡ 0 → Allowed k cat (logged l call .steps)
 logged-allowed k cat l (take kind i m) a e =
     let c : l .closed ≡ false = open-log k cat (length (l .steps)) (l .closed) (take kind i m) e in
     allowed-more k cat (l .steps) (stepOf kind i m) a (means k cat (length (l .steps)) kind i m (rw c at e))
@@ -159,7 +159,7 @@ module _ (split : Split) (k : ℕ) (cat : Catalog) (ok : SplitOk split) (good : 
   over-more l (take kind i m) e = rw e (sym (fold-append (took split) (opened k cat) (l .steps) (stepOf kind i m ∷ [])))
   over-more l close e = rw e
 
-  one-call : (l : Log) (call : Call) → Allowed k cat (l .steps) → after split (ruleOver split k cat l) call ≡ ruleOver split k cat (joins k cat l call)
+  pub one-call : (l : Log) (call : Call) → Allowed k cat (l .steps) → after split (ruleOver split k cat l) call ≡ ruleOver split k cat (joins k cat l call)
   unfolding after joins
   one-call l call a = rw (same-refusal l call a) (go (eqb (refusalIn k cat l call) 0) refl)
     where
@@ -180,3 +180,94 @@ module _ (split : Split) (k : ℕ) (cat : Catalog) (ok : SplitOk split) (good : 
       from l (call ∷ calls) a =
           ap (λ (v : Standing). fold (after split) v calls) (one-call l call a)
           ∙ from (joins k cat l call) calls (joins-either k cat l call (λ m. Allowed k cat (m .steps)) (λ e. logged-allowed k cat l call a e) a)
+
+-- An opening that is not refused has a capacity and a catalog in range, and the other way round.
+and-left : (a b : Bool) → a && b ≡ true → a ≡ true
+and-left true b e = refl
+and-left false b e = absurd (false≢true e)
+
+and-right : (a b : Bool) → a && b ≡ true → b ≡ true
+and-right true b e = e
+and-right false b e = absurd (false≢true e)
+
+four-true : (a b c d : Bool) → a && b && c && d ≡ true → (a ≡ true) × (b ≡ true) × (c ≡ true) × (d ≡ true)
+four-true true true true true e = (refl, refl, refl, refl)
+four-true true true true false e = absurd (false≢true e)
+four-true true true false d e = absurd (false≢true e)
+four-true true false c d e = absurd (false≢true e)
+four-true false b c d e = absurd (false≢true e)
+
+pub item-in-range : (x : Item) → itemInRange x ≡ true → ItemOk x
+item-in-range x e =
+    let f = four-true (leb 1 (x .blocks)) (leb (x .blocks) 16) (leb (x .load) 65535) (leb (x .write) 65535) e in
+    record {
+      some = leb-true 1 (x .blocks) (f .0);
+      small = leb-true (x .blocks) 16 (f .1);
+      load = leb-true (x .load) 65535 (f .2);
+      write = leb-true (x .write) 65535 (f .3);
+    }
+
+pub range-of-item : (x : Item) → ItemOk x → itemInRange x ≡ true
+range-of-item x ok =
+    rw (le-leb 1 (x .blocks) (ok .some), le-leb (x .blocks) 16 (ok .small), le-leb (x .load) 65535 (ok .load), le-leb (x .write) 65535 (ok .write))
+
+pub all-in-range : (cat : Catalog) → allInRange cat ≡ true → (i : ℕ) → i < length cat → ItemOk (itemAt cat i)
+unfolding allInRange
+all-in-range [] e i l = absurd (let z : i < 0 = l in omega arith)
+all-in-range (x ∷ items) e zero l = item-in-range x (and-left (itemInRange x) (allInRange items) e)
+all-in-range (x ∷ items) e (suc i) l = all-in-range items (and-right (itemInRange x) (allInRange items) e) i (omega arith)
+
+pub range-of-all : (cat : Catalog) → ((i : ℕ) → i < length cat → ItemOk (itemAt cat i)) → allInRange cat ≡ true
+unfolding allInRange
+range-of-all [] h = refl
+range-of-all (x ∷ items) h = rw (range-of-item x (h 0 (omega arith)), range-of-all items (λ i l. h (suc i) (omega arith)))
+
+zero-or-three : (t : Bool) → _≡_ {A = ℕ} (cond t 0 3) 0 → t ≡ true
+zero-or-three true e = refl
+zero-or-three false e = absurd (omega arith)
+
+pub opening-taken : (k : ℕ) (cat : Catalog) → openingRefusal k cat ≡ 0 → CapacityOk k × CatalogOk cat
+unfolding openingRefusal
+opening-taken k cat e =
+    let f = four-true (leb 1 k) (leb k 4096) (leb (length cat) 256) (allInRange cat) (zero-or-three _ e) in (
+      record { low = leb-true 1 k (f .0); high = leb-true k 4096 (f .1) },
+      record { few = leb-true (length cat) 256 (f .2); each = all-in-range cat (f .3) },
+    )
+
+pub opening-accepts : (k : ℕ) (cat : Catalog) → CapacityOk k → CatalogOk cat → openingRefusal k cat ≡ 0
+unfolding openingRefusal
+opening-accepts k cat size ok =
+    rw (le-leb 1 k (size .low), le-leb k 4096 (size .high), le-leb (length cat) 256 (ok .few), range-of-all cat (ok .each))
+
+-- A closed log stays as it is: every call after the closing is refused.
+pub closed-stays : (k : ℕ) (cat : Catalog) (l : Log) (calls : List Call) → l .closed ≡ true → fold (joins k cat) l calls ≡ l
+unfolding fold joins
+closed-stays k cat l [] e = refl
+closed-stays k cat l (call ∷ calls) e =
+    let same : joins k cat l call ≡ l = rw (refused call) in
+    ap (λ (m : Log). fold (joins k cat) m calls) same ∙ closed-stays k cat l calls e
+  where
+    refused : (call : Call) → refusalIn k cat l call ≡ 9
+    refused (take kind i m) = unfold refusalAt in rw e
+    refused close = unfold refusalAt in rw e
+
+closes-log : (k : ℕ) (cat : Catalog) (l : Log) → refusalIn k cat l close ≡ 0 → joins k cat l close ≡ record { steps = l .steps; closed = true }
+unfolding joins
+closes-log k cat l e = rw e
+
+-- A closing that is not refused ends the log.
+pub closing-ends :
+    (k : ℕ) (cat : Catalog) (calls : List Call) (i : ℕ) →
+    i < length calls →
+    getD calls i close ≡ close →
+    refusal k cat (lib.ListN.take i calls) close ≡ 0 →
+    logOf k cat calls .closed ≡ true
+closing-ends k cat calls i l e none =
+    let before : Log = logOf k cat (lib.ListN.take i calls) in
+    let rest : List Call = drop (suc i) calls in
+    let ended : joins k cat before close ≡ record { steps = before .steps; closed = true } = closes-log k cat before none in
+    ap (λ (z : List Call). logOf k cat z .closed) (split-at calls i close l ∙ ap (λ (z : Call). lib.ListN.take i calls ++ (z ∷ rest)) e)
+    ∙ ap (λ (z : Log). z .closed) (fold-append (joins k cat) noLog (lib.ListN.take i calls) (close ∷ rest))
+    ∙ ap (λ (z : Log). z .closed) (fold-more (joins k cat) before close rest)
+    ∙ ap (λ (z : Log). fold (joins k cat) z rest .closed) ended
+    ∙ ap (λ (z : Log). z .closed) (closed-stays k cat (record { steps = before .steps; closed = true }) rest refl)

@@ -63,6 +63,10 @@ module _ {ℓ} {A : Type ℓ} where
               ∙ ap g (sym e)
           at (no e) = getD-set-other (tab n f) v i (g v) (f 0) e ∙ tab-at n f i (f 0) b ∙ h i b e
 
+  pub fold-more : {B : Type ℓ} (f : B → A → B) (b : B) (x : A) (xs : List A) → fold f b (x ∷ xs) ≡ fold f (f b x) xs
+  unfolding fold
+  fold-more f b x xs = refl
+
   pub fold-append : {B : Type ℓ} (f : B → A → B) (b : B) (xs ys : List A) → fold f b (xs ++ ys) ≡ fold f (fold f b xs) ys
   unfolding fold
   fold-append f b [] ys = refl

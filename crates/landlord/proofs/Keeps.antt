@@ -67,43 +67,48 @@ evict-catalog split v x = refl
 other-held : (split : Split) (v : ℕ) (x : State) (i : ℕ) → i < size x → i ≢ v → isHeld (evictItem split v x) i ≡ isHeld x i
 other-held split v x i l e = ap held (other-slot split v x i l e) ∙ lose-held split _ _ (slotAt x i)
 
--- a sum over the held items, in which each counts for its weight; `used` and `heldCount` are two of them
-abbrev heldSum : (ℕ → ℕ) → State → ℕ
-heldSum w x = sumTo (size x) (λ i. cond (isHeld x i) (w i) 0)
+-- a sum over the items with a mark, in which each counts for its weight; `used` and `heldCount` are two of them
+abbrev pub markSum : (Slot → Bool) → (ℕ → ℕ) → State → ℕ
+markSum mark w x = sumTo (size x) (λ i. cond (mark (slotAt x i)) (w i) 0)
 
 -- two states whose marks agree at every item but v
-held-change :
-    (w : ℕ → ℕ) (x y : State) (v : ℕ) →
+pub mark-change :
+    (mark : Slot → Bool) (w : ℕ → ℕ) (x y : State) (v : ℕ) →
     size y ≡ size x →
     v < size x →
-    ((i : ℕ) → i < size x → i ≢ v → isHeld y i ≡ isHeld x i) →
-    heldSum w y + cond (isHeld x v) (w v) 0 ≡ heldSum w x + cond (isHeld y v) (w v) 0
-held-change w x y v e l h =
-    ap (λ (n : ℕ). sumTo n (λ i. cond (isHeld y i) (w i) 0) + cond (isHeld x v) (w v) 0) e
-    ∙ sum-change (size x) v (λ i. cond (isHeld y i) (w i) 0) (λ i. cond (isHeld x i) (w i) 0) l
+    ((i : ℕ) → i < size x → i ≢ v → mark (slotAt y i) ≡ mark (slotAt x i)) →
+    markSum mark w y + cond (mark (slotAt x v)) (w v) 0 ≡ markSum mark w x + cond (mark (slotAt y v)) (w v) 0
+mark-change mark w x y v e l h =
+    ap (λ (n : ℕ). sumTo n (λ i. cond (mark (slotAt y i)) (w i) 0) + cond (mark (slotAt x v)) (w v) 0) e
+    ∙ sum-change (size x) v (λ i. cond (mark (slotAt y i)) (w i) 0) (λ i. cond (mark (slotAt x i)) (w i) 0) l
     (λ i b d. ap (λ (t : Bool). cond t (w i) 0) (h i b d))
 
-evict-sum :
-    (w : ℕ → ℕ) (split : Split) (v : ℕ) (x : State) →
+-- an eviction takes the victim out of such a sum, if a loss changes no such mark and an empty place has none
+pub evict-sum :
+    (mark : Slot → Bool) (w : ℕ → ℕ) (split : Split) (v : ℕ) (x : State) →
+    mark absent ≡ false →
+    ((s loss : ℕ) (y : Slot) → mark (lose split s loss y) ≡ mark y) →
     v < size x →
-    isHeld x v ≡ true →
-    heldSum w (evictItem split v x) + w v ≡ heldSum w x
-evict-sum w split v x l h =
+    markSum mark w (evictItem split v x) + cond (mark (slotAt x v)) (w v) 0 ≡ markSum mark w x
+evict-sum mark w split v x none same l =
     let y : State = evictItem split v x in
-    let gone : isHeld y v ≡ false = ap held (evicted-slot split v x l) in
-    let e : heldSum w y + cond (isHeld x v) (w v) 0 ≡ heldSum w x + cond (isHeld y v) (w v) 0 =
-    held-change w x y v (ap length (evict-catalog split v x)) l (λ i b d. other-held split v x i b d)
+    let e : markSum mark w y + cond (mark (slotAt x v)) (w v) 0 ≡ markSum mark w x + cond (mark (slotAt y v)) (w v) 0 =
+    mark-change mark w x y v (ap length (evict-catalog split v x)) l (λ i b d. ap mark (other-slot split v x i b d) ∙ same _ _ (slotAt x i))
     in
-    omega (arith, ap (λ (t : Bool). cond t (w v) 0) h, ap (λ (t : Bool). cond t (w v) 0) gone)
+    omega (arith, ap (λ (t : Bool). cond t (w v) 0) (ap mark (evicted-slot split v x l) ∙ none))
+
+evict-held : (w : ℕ → ℕ) (split : Split) (v : ℕ) (x : State) → v < size x → isHeld x v ≡ true → markSum held w (evictItem split v x) + w v ≡ markSum held w x
+evict-held w split v x l h =
+    omega (arith, evict-sum held w split v x refl (lose-held split) l, ap (λ (t : Bool). cond t (w v) 0) h)
 
 -- the blocks of the victim are freed, and no others
 pub evict-used : (split : Split) (v : ℕ) (x : State) → v < size x → isHeld x v ≡ true → used (evictItem split v x) + blocksAt x v ≡ used x
 unfolding used evictItem
-evict-used split v x l h = evict-sum (blocksAt x) split v x l h
+evict-used split v x l h = evict-held (blocksAt x) split v x l h
 
 pub evict-count : (split : Split) (v : ℕ) (x : State) → v < size x → isHeld x v ≡ true → heldCount (evictItem split v x) + 1 ≡ heldCount x
 unfolding heldCount
-evict-count split v x l h = evict-sum (λ i. 1) split v x l h
+evict-count split v x l h = evict-held (λ i. 1) split v x l h
 
 -- an eviction of an item of least rank keeps what the rule keeps
 pub evict-kept :
@@ -211,7 +216,7 @@ pub put-other : (x : State) (i j : ℕ) (s : Slot) → j ≢ i → slotAt (put x
 put-other x i j s e = getD-set-other (x .slots) i j s absent e
 
 -- a slot changed to one that is held, for which there is room if it was not
-put-kept :
+pub put-kept :
     (k : ℕ) (x : State) (i : ℕ) (s : Slot) →
     Kept k x →
     i < size x →
@@ -237,7 +242,7 @@ put-kept k x i s kept l new h free =
 
     moved : used (put x i s) + cond (isHeld x i) (blocksAt x i) 0 ≡ used x + blocksAt x i
     moved =
-        held-change (blocksAt x) x (put x i s) i refl l (λ j b e. ap held (put-other x i j s e))
+        mark-change held (blocksAt x) x (put x i s) i refl l (λ j b e. ap held (put-other x i j s e))
         ∙ ap (λ (t : Bool). used x + cond t (blocksAt x i) 0) (ap held here ∙ h)
 
     bound : (t : Bool) → isHeld x i ≡ t → used (put x i s) ≤ k
@@ -253,6 +258,11 @@ pub flush-catalog : (x : State) → flush x .state .catalog ≡ x .catalog
 unfolding flush
 flush-catalog x = refl
 
+-- a flush changes no sum over the held items
+pub flush-sum : (w : ℕ → ℕ) (x : State) → markSum held w (flush x .state) ≡ markSum held w x
+unfolding flush
+flush-sum w x = sum-eq (size x) _ _ (λ i l. ap (λ (t : Bool). cond t (w i) 0) (ap held (flush-slot x i l) ∙ flush-held (slotAt x i)))
+
 pub flush-keeps : (k : ℕ) (x : State) → Kept k x → Kept k (flush x .state)
 unfolding flush used
 flush-keeps k x kept =
@@ -261,9 +271,7 @@ flush-keeps k x kept =
       slots = tab-length (size x) _;
       slot = λ i l. rw (flush-slot x i l) (flush-kept (itemAt (x .catalog) i) (slotAt x i) (kept .slot i l));
       room =
-          let e : used (flush x .state) ≡ used x =
-          sum-eq (size x) _ _ (λ i l. ap (λ (t : Bool). cond t (blocksAt x i) 0) (ap held (flush-slot x i l) ∙ flush-held (slotAt x i)))
-          in
+          let e : used (flush x .state) ≡ used x = flush-sum (blocksAt x) x in
           omega (arith, kept .room);
     }
 
@@ -326,7 +334,7 @@ request-kept split k i x m s room kept l new h =
     (λ q. let same : itemAt (m .state .catalog) i .blocks ≡ blocksAt x i = ap (λ (c : Catalog). itemAt c i .blocks) (room .catalog) in omega (arith, room .free q))
 
 -- the slot of an item just requested is as the rule keeps it
-requested : (k : ℕ) (y : State) (i : ℕ) → Kept k y → i < size y → SlotKept (itemAt (y .catalog) i) (readSlot y i)
+pub requested : (k : ℕ) (y : State) (i : ℕ) → Kept k y → i < size y → SlotKept (itemAt (y .catalog) i) (readSlot y i)
 requested k y i kept l =
     read-kept (itemAt (y .catalog) i) (slotAt y i) (blocks-divide (itemAt (y .catalog) i) (kept .catalog .each i l)) (kept .slot i l)
 

@@ -7,3 +7,5 @@ pub mod Keeps
 pub mod Logs
 pub mod Calls
 pub mod Wear
+pub mod Counts
+pub mod Valid

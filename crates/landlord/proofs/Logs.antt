@@ -114,7 +114,7 @@ evicting-sum w none split k blocks x m (more {m = n} over low next) =
       evicting-sum w none split k blocks (evict split x .state) n next,
     )
 
-room-sum :
+pub room-sum :
     (w : Event → ℕ) →
     ((i : ℕ) (d : Bool) → w (evicted i d) ≡ 0) →
     (split : Split) (k i : ℕ) (x : State) (m : Moved) →
@@ -127,10 +127,10 @@ room-sum w none split k i x m room = go (held (slotAt x i)) refl
     go false e = evicting-sum w none split k (blocksAt x i) x m (room .ran e .1)
 
 -- what an event adds to the count of steps
-abbrev stepsAdded : Catalog → Event → ℕ
+abbrev pub stepsAdded : Catalog → Event → ℕ
 stepsAdded cat e = adds cat e .steps
 
-no-step : (cat : Catalog) (i : ℕ) (d : Bool) → stepsAdded cat (evicted i d) ≡ 0
+pub no-step : (cat : Catalog) (i : ℕ) (d : Bool) → stepsAdded cat (evicted i d) ≡ 0
 no-step cat i true = refl
 no-step cat i false = refl
 

@@ -147,3 +147,9 @@ pub flush-held : (x : Slot) → held (flushed x) ≡ held x
 flush-held absent = refl
 flush-held (clean a) = refl
 flush-held (dirty a b) = refl
+
+-- and after a flush it is not dirty
+pub flush-clean : (x : Slot) → isDirty (flushed x) ≡ false
+flush-clean absent = refl
+flush-clean (clean a) = refl
+flush-clean (dirty a b) = refl

@@ -61,6 +61,10 @@ sum-change n v f g l h =
       sum-but n v g f l (λ i b e. omega (arith, h i b e)),
     )
 
+-- a term is at most the sum
+pub sum-term : (n i : ℕ) (f : ℕ → ℕ) → i < n → f i ≤ sumTo n f
+sum-term n i f l = omega (arith, sum-but n i (λ j. 0) f l (λ j b e. omega arith))
+
 -- f is at most g at every number but v, and there too once a and b are added
 pub sum-but-with :
     (n v a b : ℕ) (f g : ℕ → ℕ)

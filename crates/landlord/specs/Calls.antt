@@ -1,6 +1,6 @@
 -- Calls on a cache, what the table of refusals says to each, and the log of a list of calls.
 -- Paper 01, 'The season as one list' and 'When the library says no'. Assumes nothing.
-use mathlib.Core.Bool.{Bool, true, false, cond}
+use mathlib.Core.Bool.{Bool, true, false, cond, _&&_}
 use mathlib.Core.List.{List, [], _∷_, _++_}
 use Prim.Native.Nat.{ℕ}
 use lib.ListN.{length}
@@ -9,9 +9,21 @@ use Rattle.landlord.specs.declared.Step.{Step}
 use Rattle.landlord.specs.declared.Step.the-variants.{Read, Write, Flush}
 use Rattle.landlord.specs.Types.{stepKind, stepItem, stepMinutes}
 use Rattle.landlord.specs.Fold.{fold}
-use Rattle.landlord.specs.Catalog.{Catalog, itemAt}
+use Rattle.landlord.specs.Catalog.{Catalog, Item, itemAt}
 use Rattle.landlord.specs.Slot.{Split}
 use Rattle.landlord.specs.Figures.{Standing, took, closes, ran, season}
+
+-- a catalog line in range
+abbrev pub itemInRange : Item → Bool
+itemInRange x = leb 1 (x .blocks) && leb (x .blocks) 16 && leb (x .load) 65535 && leb (x .write) 65535
+
+unfoldable pub allInRange : Catalog → Bool
+allInRange [] = true
+allInRange (x ∷ items) = itemInRange x && allInRange items
+
+-- "Opening by call checks k and catalogue (3)": the refusal's number, 0 if there is none
+unfoldable pub openingRefusal : ℕ → Catalog → ℕ
+openingRefusal k cat = cond (leb 1 k && leb k 4096 && leb (length cat) 256 && allInRange cat) 0 3
 
 -- a call, with any numbers: a step's kind is the code of its letter
 pub data Call : Type 0 where

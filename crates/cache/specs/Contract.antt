@@ -1,0 +1,44 @@
+-- What the calls promise. Each call has one record, which its contract and the season theorem both cite. Assumes nothing.
+use mathlib.Core.Path.{_≡_}
+use mathlib.Core.Logic.{_≢_}
+use mathlib.Core.Bool.{true, false}
+use mathlib.Core.List.{List, []}
+use Prim.Native.Nat.{ℕ}
+use lib.ListN.{getD}
+use Rattle.landlord.specs.Fold.{tab}
+use Rattle.landlord.specs.Catalog.{Catalog, Item}
+use Rattle.landlord.specs.Slot.{writeFirst}
+use Rattle.landlord.specs.Rule.{emptied}
+use Rattle.landlord.specs.Figures.{Standing, nothing, opened}
+use Rattle.landlord.specs.Calls.{Call, openingRefusal, refusalNow, after}
+use Rattle.cache_state.specs.declared.Cache.{Cache}
+use Rattle.cache_state.specs.View.{view}
+use Rattle.cache_state.specs.Valid.{Valid}
+use Rattle.cache_state.specs.Becomes.{Becomes}
+use Rattle.cache.specs.declared.Reply.{Reply}
+
+-- a call on a valid cache: the number that the table gives; the one cache that stands where the rule stands after the call;
+-- and, refused, the cache that was handed in, equal in every field
+pub record Answers (c : Cache) (call : Call) (r : Reply) : Type 0 where
+  pub number : r .number ≡ refusalNow (view c) call
+  pub next : Becomes (after writeFirst (view c) call) (r .cache)
+  pub refused : r .number ≢ 0 → r .cache ≡ c
+
+-- a call on any cache: an invalid one is refused with 17 and handed back
+pub record Called (c : Cache) (call : Call) (r : Reply) : Type 0 where
+  pub fine : Valid c → Answers c call r
+  pub foul : (Valid c → ⊥) → (r .number ≡ 17) × (r .cache ≡ c)
+
+-- the catalog that an opening is given: of arrays of blocks, load costs and write costs, the first n places
+unfoldable pub catalogFrom : ℕ → List ℕ → List ℕ → List ℕ → Catalog
+catalogFrom n blocks load write = tab n (λ i. record { blocks = getD blocks i 0; load = getD load i 0; write = getD write i 0 })
+
+-- "refused by value, it gives a closed locker of 1 block with no sails"
+abbrev pub refusedOpening : Standing
+refusedOpening = record { k = 1; state = emptied []; figures = nothing []; closed = true }
+
+-- an opening: 0 or 3, and the one cache that stands at the opening, or that of a refused one
+pub record Opened (k : ℕ) (cat : Catalog) (r : Reply) : Type 0 where
+  pub number : r .number ≡ openingRefusal k cat
+  pub taken : r .number ≡ 0 → Becomes (opened k cat) (r .cache)
+  pub refused : r .number ≢ 0 → Becomes refusedOpening (r .cache)

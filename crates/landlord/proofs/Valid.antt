@@ -1,0 +1,437 @@
+-- What holds of the rule wherever it stands (`StandingOk`, specs/Valid.antt): at opening, after each eviction, after a request
+-- is served, after a landing and the closing, and so after every call and over the log of every list of calls.
+-- Assumes nothing.
+use mathlib.Core.Path.{_≡_, refl, sym, ap, _∙_}
+use mathlib.Core.Bool.{Bool, true, false, cond, false≢true}
+use mathlib.Core.List.{List, [], _∷_}
+use Prim.Native.Nat.{ℕ, _+_, _*_, _≤_, _<_}
+use native.Mathlib.Decide.{ℕ-discrete}
+use native.Mathlib.Omega.{arith}
+use lib.ListN.{length}
+use lib.Dec.{leb, eqb}
+use borrow.Author.Tests.{eqb-true, leb-true, leb-false}
+use Rattle.landlord.specs.declared.Step.{Step}
+use Rattle.landlord.specs.declared.Step.the-variants.{Read, Write, Flush}
+use Rattle.landlord.specs.Types.{stepMinutes}
+use Rattle.landlord.specs.Fold.{fold}
+use Rattle.landlord.specs.Catalog.{Catalog, Item, CatalogOk, CapacityOk, itemAt, full}
+use Rattle.landlord.specs.Slot.{Slot, absent, held, isDirty, Split, written}
+use Rattle.landlord.specs.Rule.{State, size, slotAt, blocksAt, used, heldCount, emptied, wrote, landed, Moved, stay, joined, victim, evictItem, evict, makeRoom, put, found, readSlot, serveRead, serveWrite, flush, step}
+use Rattle.landlord.specs.Figures.{Totals, Figures, Standing, useAt, tally, opened, moved, took, closes}
+use Rattle.landlord.specs.Calls.{Call, take, close, stepOf, callOf, inRange, itemRefusal, refusalAt, refusalNow, logOf, ruleOver, accepted, after}
+use Rattle.landlord.specs.Claims.{SplitOk, SlotKept, Kept, Least}
+use Rattle.landlord.specs.Valid.{dirtyCount, StandingOk}
+use Rattle.landlord.proofs.Sums.{sum-zero, sum-term}
+use Rattle.landlord.proofs.Folds.{either, tab-at, fold-append}
+use Rattle.landlord.proofs.Slots.{blocks-divide, lose-dirty, read-held, write-held, write-kept, flush-clean}
+use Rattle.landlord.proofs.Keeps.{markSum, mark-change, evict-sum, evict-count, evict-catalog, evicted-slot, other-slot, evict-kept, Evicting, enough, more, Room, make-room, put-same, put-other, put-kept, requested, flush-slot, flush-sum, flush-keeps, Served, empty-kept}
+use Rattle.landlord.proofs.Logs.{tally-part, room-sum, stepsAdded, no-step, allowed-served}
+use Rattle.landlord.proofs.Calls.{means, open-log, rule-follows}
+use Rattle.landlord.proofs.Counts.{Counted, nothing-counted, tallied, evicted-counted, found-counted, flush-counted}
+
+-- the count of steps
+abbrev taken : Standing → ℕ
+taken v = v .figures .totals .steps
+
+-- a closed cache has nothing dirty
+abbrev Clean : State → Bool → Type 0
+Clean x isClosed = isClosed ≡ true → (i : ℕ) → i < size x → isDirty (slotAt x i) ≡ false
+
+-- the figures of a cache that stands so, where t steps are taken
+abbrev Right : State → ℕ → Figures → Type 0
+Right x t f = Counted (size x) t (heldCount x) (dirtyCount x) (240 * t) f
+
+-- a standing, by its parts
+abbrev standingWith : ℕ → State → Figures → Bool → Standing
+standingWith k x f c = record { k = k; state = x; figures = f; closed = c }
+
+-- What holds where the rule stands is what holds of its state and what holds of its figures; so it comes apart and together.
+counted-of : (v : Standing) → StandingOk v → Right (v .state) (taken v) (v .figures)
+counted-of v o =
+    record {
+      steps = o .steps;
+      taken = refl;
+      evictions = o .evictions;
+      dirtyEvictions = o .dirtyEvictions;
+      dirtyWritten = o .dirtyWritten;
+      writebacks = o .writebacks;
+      loadCost = o .loadCost;
+      writeCost = o .writeCost;
+      uses = o .uses;
+      loadsAdd = o .loadsAdd;
+      writebacksAdd = o .writebacksAdd;
+      tenths = o .tenths;
+    }
+
+standing-of :
+    (v : Standing) (t : ℕ) →
+    CapacityOk (v .k) →
+    Kept (v .k) (v .state) →
+    t ≤ 1000000 →
+    Right (v .state) t (v .figures) →
+    Clean (v .state) (v .closed) →
+    StandingOk v
+standing-of v t capacity kept few c tidy =
+    record {
+      capacity = capacity;
+      kept = kept;
+      steps = omega arith;
+      taken = omega arith;
+      evictions = c .evictions;
+      dirtyEvictions = c .dirtyEvictions;
+      dirtyWritten = c .dirtyWritten;
+      writebacks = omega arith;
+      loadCost = c .loadCost;
+      writeCost = c .writeCost;
+      uses = c .uses;
+      loadsAdd = c .loadsAdd;
+      writebacksAdd = c .writebacksAdd;
+      tenths = λ i l. omega (arith, c .tenths i l);
+      closed = tidy;
+    }
+
+-- at opening nothing is held, and nothing is counted
+pub ok-opened : (k : ℕ) (cat : Catalog) → CapacityOk k → CatalogOk cat → StandingOk (opened k cat)
+unfolding heldCount dirtyCount
+ok-opened k cat capacity good =
+    standing-of (opened k cat) 0 capacity (empty-kept k cat good) (omega arith)
+    (rw (none held refl, none isDirty refl) (nothing-counted cat))
+    (λ c. absurd (false≢true c))
+  where
+    none : (mark : Slot → Bool) → mark absent ≡ false → markSum mark (λ i. 1) (emptied cat) ≡ 0
+    none mark e =
+        sum-zero (length cat) _
+        (λ i l. ap (λ (t : Bool). cond t 1 0) (ap mark (tab-at (length cat) (λ j. absent) i absent l) ∙ e))
+
+-- an eviction takes the victim out of the dirty ones
+evict-dirty : (split : Split) (v : ℕ) (x : State) → v < size x → dirtyCount (evictItem split v x) + cond (isDirty (slotAt x v)) 1 0 ≡ dirtyCount x
+unfolding dirtyCount
+evict-dirty split v x l = evict-sum isDirty (λ i. 1) split v x refl (lose-dirty split) l
+
+-- and makes none dirty
+evict-clean : (split : Split) (v : ℕ) (x : State) (c : Bool) → v < size x → Clean x c → Clean (evictItem split v x) c
+unfolding evictItem
+evict-clean split v x c below tidy e i l = go (ℕ-discrete i v)
+  where
+    go : Dec (i ≡ v) → isDirty (slotAt (evictItem split v x) i) ≡ false
+    go (yes q) = ap isDirty (ap (slotAt (evictItem split v x)) q ∙ evicted-slot split v x below)
+    go (no q) = ap isDirty (other-slot split v x i l q) ∙ lose-dirty split _ _ (slotAt x i) ∙ tidy e i l
+
+-- after each single eviction of a miss
+pub ok-evict :
+    (split : Split) (v : Standing) →
+    SplitOk split →
+    StandingOk v →
+    Least (v .state) (victim (v .state)) →
+    StandingOk (moved v (evict split (v .state)) (v .closed))
+unfolding fold evictItem
+ok-evict split v ok o low =
+    let x : State = v .state in
+    standing-of (moved v (evict split x) (v .closed)) (taken v) (o .capacity) (evict-kept (v .k) split (victim x) x ok (o .kept) low) (o .taken)
+    (evicted-counted (x .catalog) (v .figures) (victim x) (isDirty (slotAt x (victim x))) _ _ _ _ _ _ (o .kept .catalog) (low .below) (counted-of v o)
+    (evict-count split (victim x) x (low .below) (low .isHeld)) (evict-dirty split (victim x) x (low .below)))
+    (evict-clean split (victim x) x (v .closed) (low .below) (o .closed))
+
+-- where an item has a mark, one at least has it
+marked : (mark : Slot → Bool) (x : State) (i : ℕ) → i < size x → mark (slotAt x i) ≡ true → 1 ≤ markSum mark (λ j. 1) x
+marked mark x i l e =
+    omega (arith, sum-term (size x) i (λ j. cond (mark (slotAt x j)) 1 0) l, ap {B = ℕ} (λ (t : Bool). cond t 1 0) e)
+
+-- An eviction can be counted: the victim was loaded, and there are no more loads than steps.
+pub evict-counts : (v : Standing) → StandingOk v → Least (v .state) (victim (v .state)) → v .figures .totals .evictions + 1 ≤ 1000000
+unfolding heldCount
+evict-counts v o low =
+    omega (arith, o .steps, o .evictions, o .taken, marked held (v .state) (victim (v .state)) (low .below) (low .isHeld))
+
+-- A writeback can be counted: the item is dirty, and the writebacks with the dirty items are no more than the steps.
+pub writeback-counts : (v : Standing) (i : ℕ) → StandingOk v → i < size (v .state) → isDirty (slotAt (v .state) i) ≡ true → v .figures .totals .writebacks + 1 ≤ 1000000
+unfolding dirtyCount
+writeback-counts v i o l e = omega (arith, o .writebacks, o .taken, marked isDirty (v .state) i l e)
+
+-- an item's line counts no more than the totals
+pub line-loads : (v : Standing) (i : ℕ) → StandingOk v → i < size (v .state) → useAt (v .figures) i .loads ≤ v .figures .totals .loads
+line-loads v i o l = omega (arith, o .loadsAdd, sum-term (size (v .state)) i (λ j. useAt (v .figures) j .loads) l)
+
+pub line-writebacks : (v : Standing) (i : ℕ) → StandingOk v → i < size (v .state) → useAt (v .figures) i .writebacks ≤ v .figures .totals .writebacks
+line-writebacks v i o l = omega (arith, o .writebacksAdd, sum-term (size (v .state)) i (λ j. useAt (v .figures) j .writebacks) l)
+
+-- moved by two moves, one after the other, where the first keeps the catalog
+pub moved-joined :
+    (v : Standing) (a b : Moved) (c : Bool) →
+    a .state .catalog ≡ v .state .catalog →
+    moved v (joined a b) c ≡ moved (moved v a c) b c
+moved-joined v a b c e =
+    ap (λ (f : Figures). standingWith (v .k) (b .state) f c)
+    (fold-append (tally (v .state .catalog)) (v .figures) (a .events) (b .events)
+    ∙ ap (λ (cat : Catalog). fold (tally cat) (moved v a c .figures) (b .events)) (sym e))
+
+-- the loop that makes room, eviction by eviction
+evicting-ok :
+    (split : Split) (k blocks : ℕ) (x : State) (m : Moved) (f : Figures) (c : Bool) →
+    SplitOk split →
+    Evicting split k blocks x m →
+    StandingOk (standingWith k x f c) →
+    StandingOk (moved (standingWith k x f c) m c)
+unfolding fold
+evicting-ok split k blocks x m f c ok (enough l) o = o
+evicting-ok split k blocks x m f c ok (more {m = n} over low next) o =
+    let v : Standing = standingWith k x f c in
+    let w : Standing = moved v (evict split x) c in
+    rw (moved-joined v (evict split x) n c (evict-catalog split (victim x) x))
+    (evicting-ok split k blocks (w .state) n (w .figures) c ok next (ok-evict split v ok o low))
+
+-- room made for an item, whether it was held or not
+pub ok-room :
+    (split : Split) (v : Standing) (i : ℕ) →
+    SplitOk split →
+    StandingOk v →
+    i < size (v .state) →
+    blocksAt (v .state) i ≤ v .k →
+    StandingOk (moved v (makeRoom split (v .k) i (v .state)) (v .closed))
+ok-room split v i ok o l fits = go (held (slotAt (v .state) i)) refl
+  where
+    m : Moved
+    m = makeRoom split (v .k) i (v .state)
+
+    room : Room split (v .k) i (v .state) m
+    room = make-room split (v .k) i (v .state) ok l fits
+
+    go : (t : Bool) → held (slotAt (v .state) i) ≡ t → StandingOk (moved v m (v .closed))
+    go true e = rw (room .stayed e) (evicting-ok split (v .k) 0 (v .state) (stay (v .state)) (v .figures) (v .closed) ok (enough (omega (arith, o .kept .room))) o)
+    go false e = evicting-ok split (v .k) (blocksAt (v .state) i) (v .state) m (v .figures) (v .closed) ok (room .ran e .1) o
+
+-- an eviction is no step
+pub evict-steps : (split : Split) (v : Standing) (c : Bool) → moved v (evict split (v .state)) c .figures .totals .steps ≡ v .figures .totals .steps
+unfolding fold
+evict-steps split v c = omega (arith, no-step (v .state .catalog) (victim (v .state)) (isDirty (slotAt (v .state) (victim (v .state)))))
+
+-- nor is making room
+room-steps :
+    (split : Split) (v : Standing) (i : ℕ) (m : Moved) (c : Bool) →
+    Room split (v .k) i (v .state) m →
+    taken (moved v m c) ≡ taken v
+room-steps split v i m c room =
+    omega (
+      arith,
+      tally-part (λ (a : Totals). a .steps) (λ a b. refl) (v .state .catalog) (v .figures) (m .events),
+      room-sum (stepsAdded (v .state .catalog)) (no-step (v .state .catalog)) split (v .k) i (v .state) m room,
+    )
+
+-- a step can be taken
+pub record Taking (v : Standing) : Type 0 where
+  pub standing : StandingOk v
+  pub few : v .figures .totals .steps < 1000000
+  pub isOpen : v .closed ≡ false
+
+-- item i can be served: it is in the catalog, and held or else there is room for it
+pub record Ready (v : Standing) (i : ℕ) : Type 0 where
+  pub taking : Taking v
+  pub below : i < size (v .state)
+  pub free : held (slotAt (v .state) i) ≡ false → used (v .state) + blocksAt (v .state) i ≤ v .k
+
+-- after room is made for it, an item can be served
+pub room-ready :
+    (split : Split) (v : Standing) (i : ℕ) →
+    SplitOk split →
+    Taking v →
+    i < size (v .state) →
+    blocksAt (v .state) i ≤ v .k →
+    Ready (moved v (makeRoom split (v .k) i (v .state)) (v .closed)) i
+room-ready split v i ok o l fits =
+    let m : Moved = makeRoom split (v .k) i (v .state) in
+    let room : Room split (v .k) i (v .state) m = make-room split (v .k) i (v .state) ok l fits in
+    record {
+      taking =
+          record {
+            standing = ok-room split v i ok (o .standing) l fits;
+            few = omega (arith, room-steps split v i m (v .closed) room, o .few);
+            isOpen = o .isOpen;
+          };
+      below = rw (room .catalog) l;
+      free = λ e. omega (arith, room .free e, ap (λ (c : Catalog). itemAt c i .blocks) (room .catalog));
+    }
+
+-- one slot changed to one that is held: what the marks then count
+put-held : (x : State) (i : ℕ) (s : Slot) → length (x .slots) ≡ size x → i < size x → held s ≡ true → heldCount (put x i s) + cond (held (slotAt x i)) 1 0 ≡ heldCount x + 1
+unfolding heldCount
+put-held x i s e l h =
+    mark-change held (λ j. 1) x (put x i s) i refl l (λ j b d. ap held (put-other x i j s d))
+    ∙ ap (λ (t : Bool). heldCount x + cond t 1 0) (ap held (put-same x i s (omega arith)) ∙ h)
+
+put-dirty : (x : State) (i : ℕ) (s : Slot) → i < size x → dirtyCount (put x i s) ≤ dirtyCount x + 1
+unfolding dirtyCount
+put-dirty x i s l =
+    omega (
+      arith,
+      mark-change isDirty (λ j. 1) x (put x i s) i refl l (λ j b d. ap isDirty (put-other x i j s d)),
+      most (isDirty (slotAt (put x i s) i)),
+    )
+  where
+    most : (t : Bool) → cond t 1 0 ≤ 1
+    most true = omega arith
+    most false = omega arith
+
+-- the hit or the load of an item just requested is counted, and its tenths are not yet
+found-right :
+    (v : Standing) (i top : ℕ) (s : Slot) →
+    StandingOk v →
+    i < size (v .state) →
+    held s ≡ true →
+    240 * taken v ≤ top →
+    Counted (size (v .state)) (taken v + 1) (heldCount (put (v .state) i s)) (dirtyCount (put (v .state) i s)) top
+    (tally (v .state .catalog) (v .figures) (found (v .state) i))
+found-right v i top s o l h up =
+    found-counted (v .state .catalog) (v .figures) i (held (slotAt (v .state) i)) (taken v) _ _ _ _ _ top (o .kept .catalog) l (counted-of v o)
+    (put-held (v .state) i s (o .kept .slots) l h) (put-dirty (v .state) i s l) up
+
+-- a requested item's slot changed and one step more counted: this is a read, and this is a write
+serve-ok :
+    (v : Standing) (i : ℕ) (s : Slot) (f : Figures) →
+    Ready v i →
+    SlotKept (itemAt (v .state .catalog) i) s →
+    held s ≡ true →
+    Right (put (v .state) i s) (taken v + 1) f →
+    StandingOk (standingWith (v .k) (put (v .state) i s) f (v .closed))
+serve-ok v i s f r new h right =
+    let o : StandingOk v = r .taking .standing in
+    standing-of (standingWith (v .k) (put (v .state) i s) f (v .closed)) (taken v + 1) (o .capacity)
+    (put-kept (v .k) (v .state) i s (o .kept) (r .below) new h (r .free))
+    (omega (arith, r .taking .few)) right (λ c. absurd (false≢true (sym (r .taking .isOpen) ∙ c)))
+
+pub ok-serve-read : (v : Standing) (i : ℕ) → Ready v i → StandingOk (moved v (serveRead i (v .state)) (v .closed))
+unfolding fold
+ok-serve-read v i r =
+    let x : State = v .state in
+    let o : StandingOk v = r .taking .standing in
+    serve-ok v i (readSlot x i) (tally (x .catalog) (v .figures) (found x i)) r (requested (v .k) x i (o .kept) (r .below)) (read-held _ (slotAt x i))
+    (found-right v i (240 * (taken v + 1)) (readSlot x i) o (r .below) (read-held _ (slotAt x i)) (omega arith))
+
+pub ok-serve-write : (v : Standing) (i minutes : ℕ) → Ready v i → minutes ≤ 1440 → StandingOk (moved v (serveWrite i minutes (v .state)) (v .closed))
+unfolding fold
+ok-serve-write v i minutes r few =
+    let x : State = v .state in
+    let o : StandingOk v = r .taking .standing in
+    let it : Item = itemAt (x .catalog) i in
+    let s : Slot = written (full (it .write)) (readSlot x i) in
+    let h : held s ≡ true = write-held _ (readSlot x i) ∙ read-held _ (slotAt x i) in
+    let f : Figures = tally (x .catalog) (v .figures) (found x i) in
+    serve-ok v i s (tally (x .catalog) f (wrote i minutes)) r
+    (write-kept it (readSlot x i) (blocks-divide it (o .kept .catalog .each i (r .below))) (requested (v .k) x i (o .kept) (r .below))) h
+    (tallied (x .catalog) f (wrote i minutes) (taken v + 1) _ _ (240 * taken v) _ _ _ _ (o .kept .catalog) (r .below)
+    (found-right v i (240 * taken v) s o (r .below) h (omega arith)) (omega arith) (omega arith) (omega arith) (omega arith))
+
+-- a landing as an event: a step that moves nothing
+abbrev pub lands : State → Moved
+lands x = record { state = x; events = landed ∷ [] }
+
+pub ok-lands : (v : Standing) → Taking v → StandingOk (moved v (lands (v .state)) (v .closed))
+unfolding fold
+ok-lands v r =
+    let o : StandingOk v = r .standing in
+    standing-of (moved v (lands (v .state)) (v .closed)) (taken v + 1) (o .capacity) (o .kept) (omega (arith, r .few))
+    (tallied (v .state .catalog) (v .figures) landed (taken v) _ _ _ _ _ _ _ (o .kept .catalog) tt (counted-of v o)
+    (omega arith) (omega arith) (omega arith) (omega arith))
+    (o .closed)
+
+-- after a flush none is dirty, and as many are held as before
+flush-none : (x : State) → dirtyCount (flush x .state) ≡ 0
+unfolding dirtyCount flush
+flush-none x = sum-zero (size x) _ (λ i l. ap (λ (t : Bool). cond t 1 0) (ap isDirty (flush-slot x i l) ∙ flush-clean (slotAt x i)))
+
+flush-held-count : (x : State) → heldCount (flush x .state) ≡ heldCount x
+unfolding heldCount
+flush-held-count x = flush-sum (λ i. 1) x
+
+-- a flush, whether the log is then closed or not: it leaves nothing dirty
+pub ok-flush : (v : Standing) (c : Bool) → StandingOk v → StandingOk (moved v (flush (v .state)) c)
+unfolding flush dirtyCount
+ok-flush v c o =
+    let x : State = v .state in
+    standing-of (moved v (flush x) c) (taken v) (o .capacity) (flush-keeps (v .k) x (o .kept)) (o .taken)
+    (rw (flush-held-count x, flush-none x)
+    (flush-counted (x .catalog) (size x) (λ i. isDirty (slotAt x i)) (v .figures) (taken v) _ 0 _ (o .kept .catalog) (omega arith)
+    (rw (let e : 0 + dirtyCount x ≡ dirtyCount x = omega arith in e) (counted-of v o))))
+    (λ e i l. ap isDirty (flush-slot x i l) ∙ flush-clean (slotAt x i))
+
+-- the closing is a flush, and a landing is a step and a flush
+pub ok-closes : (v : Standing) → StandingOk v → StandingOk (closes v)
+unfolding closes
+ok-closes v o = ok-flush v true o
+
+pub ok-landing : (split : Split) (v : Standing) → Taking v → StandingOk (took split v Flush)
+unfolding took step
+ok-landing split v r =
+    rw (moved-joined v (lands (v .state)) (flush (v .state)) (v .closed) refl)
+    (ok-flush (moved v (lands (v .state)) (v .closed)) (v .closed) (ok-lands v r))
+
+-- every step that the table lets through
+pub ok-took :
+    (split : Split) (v : Standing) (s : Step) →
+    SplitOk split →
+    Taking v →
+    Served (v .k) (v .state .catalog) s →
+    stepMinutes s ≤ 1440 →
+    StandingOk (took split v s)
+unfolding took step
+ok-took split v (Read i) ok r served few =
+    let m : Moved = makeRoom split (v .k) i (v .state) in
+    rw (moved-joined v m (serveRead i (m .state)) (v .closed) (make-room split (v .k) i (v .state) ok (served .0) (served .1) .catalog))
+    (ok-serve-read (moved v m (v .closed)) i (room-ready split v i ok r (served .0) (served .1)))
+ok-took split v (Write i minutes) ok r served few =
+    let m : Moved = makeRoom split (v .k) i (v .state) in
+    rw (moved-joined v m (serveWrite i minutes (m .state)) (v .closed) (make-room split (v .k) i (v .state) ok (served .0) (served .1) .catalog))
+    (ok-serve-write (moved v m (v .closed)) i minutes (room-ready split v i ok r (served .0) (served .1)) few)
+ok-took split v Flush ok r served few = ok-landing split v r
+
+-- the two first tests of the table that an answer of 0 has passed: the log is not full, and the numbers are in range
+passed : (a b : Bool) (z : ℕ) → cond a 8 (cond b z 3) ≡ 0 → (a ≡ false) × (b ≡ true)
+passed true b z e = absurd (omega arith)
+passed false true z e = (refl, refl)
+passed false false z e = absurd (omega arith)
+
+-- a step that the table lets through: the log is not full, and the minutes are in range
+in-range : (k : ℕ) (cat : Catalog) (t : ℕ) (s : Step) → refusalAt k cat t false (callOf s) ≡ 0 → (t < 1000000) × (stepMinutes s ≤ 1440)
+unfolding refusalAt stepOf
+in-range k cat t (Read i) e = (leb-false 1000000 t (passed (leb 1000000 t) (inRange 82 i 0) (itemRefusal k cat (Read i)) e .0), omega arith)
+in-range k cat t (Write i m) e =
+    let f : (leb 1000000 t ≡ false) × (inRange 87 i m ≡ true) = passed (leb 1000000 t) (inRange 87 i m) (itemRefusal k cat (Write i m)) e in
+    (leb-false 1000000 t (f .0), leb-true m 1440 (second (leb i 255) (leb m 1440) (f .1)))
+  where
+    second : (a b : Bool) → cond a b false ≡ true → b ≡ true
+    second true b e = e
+    second false b e = absurd (false≢true e)
+in-range k cat t Flush e = (leb-false 1000000 t (passed (leb 1000000 t) true 0 e .0), omega arith)
+
+-- a call that is not refused
+accepted-ok : (split : Split) (v : Standing) (call : Call) → SplitOk split → StandingOk v → refusalNow v call ≡ 0 → StandingOk (accepted split v call)
+accepted-ok split v (take kind i m) ok o e =
+    let isOpen : v .closed ≡ false = open-log (v .k) (v .state .catalog) (taken v) (v .closed) (take kind i m) e in
+    let lets : refusalAt (v .k) (v .state .catalog) (taken v) false (callOf (stepOf kind i m)) ≡ 0 =
+    means (v .k) (v .state .catalog) (taken v) kind i m (rw isOpen at e)
+    in
+    let ranged : (taken v < 1000000) × (stepMinutes (stepOf kind i m) ≤ 1440) = in-range (v .k) (v .state .catalog) (taken v) (stepOf kind i m) lets in
+    ok-took split v (stepOf kind i m) ok (record { standing = o; few = ranged .0; isOpen = isOpen })
+    (allowed-served (v .k) (v .state .catalog) (taken v) (stepOf kind i m) lets) (ranged .1)
+accepted-ok split v close ok o e = ok-closes v o
+
+-- every call: a refused one changes nothing, and an accepted one has passed the table
+pub ok-after : (split : Split) (v : Standing) (call : Call) → SplitOk split → StandingOk v → StandingOk (after split v call)
+unfolding after
+ok-after split v call ok o =
+    either StandingOk (eqb (refusalNow v call) 0) (accepted split v call) v
+    (λ e. accepted-ok split v call ok o (eqb-true (refusalNow v call) 0 e)) (λ e. o)
+
+-- so wherever the rule stands over the log of a list of calls
+pub ok-over :
+    (split : Split) (k : ℕ) (cat : Catalog) (calls : List Call) →
+    SplitOk split →
+    CapacityOk k →
+    CatalogOk cat →
+    StandingOk (ruleOver split k cat (logOf k cat calls))
+unfolding fold
+ok-over split k cat calls ok capacity good =
+    rw (rule-follows split k cat ok good calls) at (from (opened k cat) calls (ok-opened k cat capacity good))
+  where
+    from : (v : Standing) (calls : List Call) → StandingOk v → StandingOk (fold (after split) v calls)
+    from v [] o = o
+    from v (call ∷ calls) o = from (after split v call) calls (ok-after split v call ok o)
