@@ -3,7 +3,7 @@ use mathlib.Core.Path.{_≡_}
 use mathlib.Core.Logic.{_≢_}
 use mathlib.Core.Bool.{true, false}
 use mathlib.Core.List.{List, []}
-use Prim.Native.Nat.{ℕ}
+use Prim.Native.Nat.{ℕ, _<_}
 use lib.ListN.{getD}
 use Rattle.landlord.specs.Fold.{tab}
 use Rattle.landlord.specs.Catalog.{Catalog, Item}
@@ -12,7 +12,7 @@ use Rattle.landlord.specs.Rule.{emptied}
 use Rattle.landlord.specs.Figures.{Standing, nothing, opened}
 use Rattle.landlord.specs.Calls.{Call, openingRefusal, refusalNow, after}
 use Rattle.cache_state.specs.declared.Cache.{Cache}
-use Rattle.cache_state.specs.View.{view}
+use Rattle.cache_state.specs.View.{dirtyAt, view}
 use Rattle.cache_state.specs.Valid.{Valid}
 use Rattle.cache_state.specs.Becomes.{Becomes}
 use Rattle.cache.specs.declared.Reply.{Reply}
@@ -37,8 +37,19 @@ catalogFrom n blocks load write = tab n (λ i. record { blocks = getD blocks i 0
 abbrev pub refusedOpening : Standing
 refusedOpening = record { k = 1; state = emptied []; figures = nothing []; closed = true }
 
+-- "It has 256 places, one for each sail number, empty at opening": place i
+pub record EmptyPlace (c : Cache) (i : ℕ) : Type 0 where
+  pub held : getD (c .held) i false ≡ false
+  pub loadCredit : getD (c .loadcredit) i 0 ≡ 0
+  pub writeCredit : getD (c .writecredit) i 0 ≡ 0
+  pub dirty : dirtyAt c i ≡ false
+  pub tenths : getD (c .tenths) i 0 ≡ 0
+  pub loads : getD (c .itemloads) i 0 ≡ 0
+  pub writebacks : getD (c .itemwritebacks) i 0 ≡ 0
+
 -- an opening: 0 or 3, and the one cache that stands at the opening, or that of a refused one
 pub record Opened (k : ℕ) (cat : Catalog) (r : Reply) : Type 0 where
   pub number : r .number ≡ openingRefusal k cat
   pub taken : r .number ≡ 0 → Becomes (opened k cat) (r .cache)
   pub refused : r .number ≢ 0 → Becomes refusedOpening (r .cache)
+  pub empty : (i : ℕ) → i < 256 → EmptyPlace (r .cache) i

@@ -1,3 +1,4 @@
+pub mod Bench
 pub mod Sums
 pub mod Potential
 pub mod Moves

@@ -1,6 +1,6 @@
 -- The bench rows: seasons with every figure that the rule gives for them, in one table, and one theorem over the table, by
 -- computation. The first nine are those that paper 01 marks, the next six catch replays that go astray, the last two are
--- for the table of refusals and the plan's faults. Assumes nothing.
+-- for the table of refusals and the plan's faults. A second table puts questions to the table of refusals. Assumes nothing.
 use mathlib.Core.Path.{_≡_, refl}
 use mathlib.Core.Bool.{Bool, true, false}
 use mathlib.Core.List.{List, [], _∷_, _++_, map}
@@ -205,3 +205,60 @@ rows =
 pub rows-right : map outcome rows ≡ map (λ (r : Row). r .expected) rows
 unfolding outcome answers trace evictedItems sumTo tabFrom bestTo fold used heldCount victim evictItem evictFor makeRoom writeBacks flush step took closes stepOf refusalAt joins ruleOver planUsed owed planActs allActs planServes priceFrom
 rows-right = refl
+
+-- a question to the table of refusals: the capacity, the catalog, the steps taken, whether the log is closed, the call; and
+-- the number that answers it
+pub record Question : Type 0 where
+  pub k : ℕ
+  pub catalog : Catalog
+  pub taken : ℕ
+  pub closed : Bool
+  pub call : Call
+  pub expected : ℕ
+
+abbrev pub answered : Question → ℕ
+answered q = refusalAt (q .k) (q .catalog) (q .taken) (q .closed) (q .call)
+
+-- a question about two items: one block, and three; of a cache of two blocks, so that item 1 is too bulky and 2 a stranger
+abbrev asks : ℕ → Bool → Call → ℕ → Question
+asks taken isClosed call n =
+    record { k = 2; catalog = item 1 4 6 ∷ item 3 1 1 ∷ []; taken = taken; closed = isClosed; call = call; expected = n }
+
+-- The table. A stranger has no blocks in the catalog, so 6 and 7 never meet.
+abbrev pub questions : List Question
+questions =
+    -- the millionth step is taken, the next is not, and a closing is
+    asks 999999 false (read 0) 0 ∷
+    asks 999999 false (write 0 1440) 0 ∷
+    asks 999999 false landing 0 ∷
+    asks 1000000 false (read 0) 8 ∷
+    asks 1000000 false (write 0 1440) 8 ∷
+    asks 1000000 false landing 8 ∷
+    asks 1000000 false close 0 ∷
+    -- 9 before 8, before 3, before 6 and before 7
+    asks 1000000 true (read 0) 9 ∷
+    asks 0 true (take 88 0 0) 9 ∷
+    asks 0 true (read 2) 9 ∷
+    asks 0 true (read 1) 9 ∷
+    asks 1000000 true close 9 ∷
+    -- 8 before 3, before 6 and before 7
+    asks 1000000 false (take 88 0 0) 8 ∷
+    asks 1000000 false (read 256) 8 ∷
+    asks 1000000 false (write 0 1441) 8 ∷
+    asks 1000000 false (read 2) 8 ∷
+    asks 1000000 false (read 1) 8 ∷
+    -- 3 before 6 and before 7
+    asks 0 false (read 256) 3 ∷
+    asks 0 false (write 2 1441) 3 ∷
+    asks 0 false (write 1 1441) 3 ∷
+    -- 6 and 7 alone
+    asks 0 false (read 255) 6 ∷
+    asks 0 false (write 2 0) 6 ∷
+    asks 0 false (read 1) 7 ∷
+    asks 0 false (write 1 0) 7 ∷
+    []
+
+-- every answer of the table is what the definition gives
+pub answers-right : map answered questions ≡ map (λ (q : Question). q .expected) questions
+unfolding stepOf refusalAt
+answers-right = refl
