@@ -1,3 +1,4 @@
 pub mod Season
 pub mod Table
 pub mod Openings
+pub mod Steps

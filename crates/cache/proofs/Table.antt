@@ -43,7 +43,7 @@ asks k cat kind i m e n = go (eqb kind 82) (eqb kind 87) (eqb kind 76) (ne-eqb k
     go false false c f e = absurd (false≢true (sym f ∙ e))
 
 module _ (c : Cache) (kind i m : ℕ) where
-  abbrev answer : ℕ
+  abbrev pub answer : ℕ
   answer = refusalNow (view c) (take kind i m)
 
   pub table-closed : c .closed ≡ true → 9 ≡ answer
@@ -72,7 +72,7 @@ module _ (c : Cache) (kind i m : ℕ) where
   unfolding stepOf
   table-flush s e = sym (ranged-answer s ∙ rw e)
 
-  asked : Ranged → kind ≢ 76 → answer ≡ cond (ltb i (c .n)) (cond (leb (itemAt (catalogOf c) i .blocks) (c .k)) 0 7) 6
+  pub asked : Ranged → kind ≢ 76 → answer ≡ cond (ltb i (c .n)) (cond (leb (itemAt (catalogOf c) i .blocks) (c .k)) 0 7) 6
   asked s n =
       ranged-answer s
       ∙ asks (c .k) (catalogOf c) kind i m (s .ranged) n

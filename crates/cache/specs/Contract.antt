@@ -10,12 +10,17 @@ use Rattle.landlord.specs.Catalog.{Catalog, Item}
 use Rattle.landlord.specs.Slot.{writeFirst}
 use Rattle.landlord.specs.Rule.{emptied}
 use Rattle.landlord.specs.Figures.{Standing, nothing, opened}
-use Rattle.landlord.specs.Calls.{Call, openingRefusal, refusalNow, after}
+use Rattle.landlord.specs.Calls.{Call, take, openingRefusal, refusalNow, after}
 use Rattle.cache_state.specs.declared.Cache.{Cache}
 use Rattle.cache_state.specs.View.{dirtyAt, view}
 use Rattle.cache_state.specs.Valid.{Valid}
 use Rattle.cache_state.specs.Becomes.{Becomes}
 use Rattle.cache.specs.declared.Reply.{Reply}
+
+-- a step on a valid cache that the table does not refuse
+pub record Passed (c : Cache) (kind item minutes : ℕ) : Type 0 where
+  pub valid : Valid c
+  pub free : refusalNow (view c) (take kind item minutes) ≡ 0
 
 -- a call on a valid cache: the number that the table gives; the one cache that stands where the rule stands after the call;
 -- and, refused, the cache that was handed in, equal in every field

@@ -1,10 +1,12 @@
 // The cache's calls by value: open, step, close; and the season theorem of a list of them.
 ghost use mathlib.Core.Path.{_≡_};
 ghost use Prim.Native.Nat.{_≤_};
-ghost use Rattle.cache_state.specs.Becomes.{Decided};
-ghost use Rattle.cache.specs.Contract.{Opened, catalogFrom};
+ghost use Rattle.cache.specs.Contract.{Passed, Opened, catalogFrom};
+ghost use Rattle.landlord.specs.Slot.{writeFirst};
+ghost use Rattle.landlord.specs.Figures.{took};
+ghost use Rattle.cache_state.specs.Becomes.{Becomes, Decided};
 ghost use Rattle.cache.specs.Opening.{FirstOf, BlocksOk, Opens, emptyOf};
-ghost use Rattle.landlord.specs.Calls.{inRange, refusalNow, take};
+ghost use Rattle.landlord.specs.Calls.{inRange, refusalNow, stepOf, take};
 ghost use Rattle.cache_state.specs.View.{view};
 ghost use Rattle.cache_state.specs.Valid.{Valid};
 use cache_state::Cache;
@@ -57,6 +59,22 @@ fn refused(c: Cache, kind: u32, item: u32, minutes: u32) -> u32
         return 7;
     }
     0
+}
+
+// A step that the table does not refuse: room is made for its item, and it is served.
+fn serve(c: Cache, kind: u32, item: u32, minutes: u32) -> Cache
+    requires { ⌜ Passed c kind item minutes ⌝ }
+    ensures { λ r. ⌜ Becomes (took writeFirst (view c) (stepOf kind item minutes)) r ⌝ }
+{
+    if kind == 76 {
+        return cache_serve::land(c);
+    }
+    let i = item as usize;
+    let room = cache_room::make_room(c, i);
+    if kind == 82 {
+        return cache_serve::serve_read(room, i);
+    }
+    cache_serve::serve_write(room, i, minutes)
 }
 
 // Whether each of the first `n` items has 1 to 16 blocks.

@@ -1,0 +1,5 @@
+pub mod Laws
+pub mod Views
+pub mod Stores
+pub mod Evicts
+pub mod Rooms

@@ -1,0 +1,134 @@
+-- The loop that makes room, against the rule's: what is left to do from where it stands. Assumes nothing.
+use mathlib.Core.Path.{_≡_, refl, sym, ap, subst, _∙_}
+use mathlib.Core.Bool.{Bool, true, false, cond}
+use Prim.Native.Nat.{ℕ, zero, suc, _+_, _≤_, _<_}
+use native.Mathlib.Omega.{arith}
+use lib.Dec.{leb}
+use borrow.Author.Tests.{le-leb, lt-leb}
+use lib.ListN.{getD}
+use Rattle.landlord.specs.Fold.{fold}
+use Rattle.landlord.specs.Slot.{Split, held, writeFirst}
+use Rattle.landlord.specs.Rule.{State, Moved, stay, joined, slotAt, blocksAt, used, heldCount, victim, evict, evictFor, makeRoom}
+use Rattle.landlord.specs.Figures.{Standing, moved}
+use Rattle.landlord.specs.Claims.{Least}
+use Rattle.landlord.specs.Valid.{StandingOk}
+use Rattle.landlord.proofs.Slots.{write-first-ok}
+use Rattle.landlord.proofs.Keeps.{victim-least, evict-count, evict-catalog}
+use Rattle.landlord.proofs.Valid.{ok-evict, moved-joined}
+use Rattle.cache_state.specs.declared.Cache.{Cache}
+use Rattle.cache_state.specs.View.{stateOf, view}
+use Rattle.cache_state.specs.Valid.{Valid}
+use Rattle.cache_state.specs.Becomes.{Becomes}
+use Rattle.cache_state.proofs.Views.{size-is, blocks-is, held-is}
+use Rattle.cache_room.specs.Room.{Crowded, Wanted}
+
+-- the rule's loop, from where it stands: nothing more to do, or an eviction and the loop again
+room-enough : (split : Split) (k blocks t : ℕ) (x : State) → used x + blocks ≤ k → evictFor t split k blocks x ≡ stay x
+unfolding evictFor
+room-enough split k blocks zero x l = refl
+room-enough split k blocks (suc t) x l = rw (le-leb (used x + blocks) k l)
+
+room-more :
+    (split : Split) (k blocks t : ℕ) (x : State) →
+    heldCount (evict split x .state) + 1 ≡ t →
+    k < used x + blocks →
+    evictFor t split k blocks x ≡ joined (evict split x) (evictFor (heldCount (evict split x .state)) split k blocks (evict split x .state))
+unfolding evictFor
+room-more split k blocks zero x e l = absurd (omega arith)
+room-more split k blocks (suc t) x e l =
+    let n : t ≡ heldCount (evict split x .state) = omega arith in
+    rw (lt-leb (used x + blocks) k l) (ap (λ (s : ℕ). joined (evict split x) (evictFor s split k blocks (evict split x .state))) n)
+
+-- where the rule stands when room for `blocks` is made
+abbrev pub roomFor : ℕ → ℕ → Standing → Standing
+roomFor k blocks v = moved v (evictFor (heldCount (v .state)) writeFirst k blocks (v .state)) (v .closed)
+
+-- where it stands after one eviction
+abbrev pub evictedFrom : Standing → Standing
+evictedFrom v = moved v (evict writeFirst (v .state)) (v .closed)
+
+for-enough : (k blocks : ℕ) (v : Standing) → used (v .state) + blocks ≤ k → roomFor k blocks v ≡ v
+unfolding fold
+for-enough k blocks v l =
+    ap (λ (m : Moved). moved v m (v .closed)) (room-enough writeFirst k blocks (heldCount (v .state)) (v .state) l)
+
+for-more : (k blocks : ℕ) (v : Standing) → blocks ≤ k → k < used (v .state) + blocks → roomFor k blocks (evictedFrom v) ≡ roomFor k blocks v
+for-more k blocks v fits l =
+    let x : State = v .state in
+    let low : Least x (victim x) = victim-least x (omega arith) in
+    sym (ap (λ (m : Moved). moved v m (v .closed))
+    (room-more writeFirst k blocks (heldCount x) x (evict-count writeFirst (victim x) x (low .below) (low .isHeld)) l)
+    ∙ moved-joined v (evict writeFirst x) (evictFor (heldCount (evict writeFirst x .state)) writeFirst k blocks (evict writeFirst x .state)) (v .closed)
+    (evict-catalog writeFirst (victim x) x))
+
+-- The loop, on its way from q₀ to room for `blocks` in k.
+pub record Going (k blocks : ℕ) (q₀ q : Cache) : Type 0 where
+  pub valid : Valid q
+  pub goal : roomFor k blocks (view q) ≡ roomFor k blocks (view q₀)
+
+pub going-starts : {k blocks : ℕ} (q : Cache) → Valid q → Going k blocks q q
+going-starts q ok = record { valid = ok; goal = refl }
+
+-- room is wanting, so something is held
+pub crowded : {k blocks : ℕ} (q₀ q : Cache) {u : ℕ} → Going k blocks q₀ q → u ≡ used (stateOf q) → blocks ≤ k → k < u + blocks → Crowded q
+crowded q₀ q so e fits l = record { valid = so .valid; some = omega arith }
+
+module _
+    {k blocks : ℕ} (q₀ q r : Cache) {u : ℕ} (so : Going k blocks q₀ q) (e : u ≡ used (stateOf q)) (fits : blocks ≤ k) (l : k < u + blocks)
+    (out : Becomes (evictedFrom (view q)) r) where
+  low : Least (stateOf q) (victim (stateOf q))
+  low = victim-least (stateOf q) (omega arith)
+
+  pub going-on : Going k blocks q₀ r
+  going-on =
+      record {
+        valid =
+            record {
+              fields = out .fields;
+              rule = subst StandingOk (sym (out .stands)) (ok-evict writeFirst (view q) write-first-ok (so .valid .rule) low);
+            };
+        goal = ap (roomFor k blocks) (out .stands) ∙ for-more k blocks (view q) fits (omega arith) ∙ so .goal;
+      }
+
+  -- one item fewer is held
+  pub going-less : heldCount (stateOf r) < heldCount (stateOf q)
+  going-less =
+      omega (
+        arith,
+        ap (λ (v : Standing). heldCount (v .state)) (out .stands),
+        evict-count writeFirst (victim (stateOf q)) (stateOf q) (low .below) (low .isHeld),
+      )
+
+-- a hit: nothing is to be done
+pub room-hit : (c : Cache) (i : ℕ) → Wanted c i → getD (c .held) i false ≡ true → Becomes (moved (view c) (makeRoom writeFirst (c .k) i (stateOf c)) (c .closed)) c
+unfolding makeRoom fold
+room-hit c i w h =
+    record {
+      stands =
+          sym (ap (λ (t : Bool).
+          moved (view c) (cond t (stay (stateOf c)) (evictFor (heldCount (stateOf c)) writeFirst (c .k) (blocksAt (stateOf c) i) (stateOf c))) (c .closed))
+          (held-is c i (w .known) ∙ h));
+      fields = w .valid .fields;
+    }
+
+-- a miss: the loop's end is what was asked for
+pub room-miss :
+    (c q : Cache) (i : ℕ) {u : ℕ} →
+    Wanted c i →
+    getD (c .held) i false ≡ false →
+    Going (c .k) (getD (c .blocks) i 0) c q →
+    u ≡ used (stateOf q) →
+    u + getD (c .blocks) i 0 ≤ c .k →
+    Becomes (moved (view c) (makeRoom writeFirst (c .k) i (stateOf c)) (c .closed)) q
+unfolding makeRoom
+room-miss c q i w h so e l =
+    record {
+      stands =
+          sym (for-enough (c .k) (getD (c .blocks) i 0) (view q) (omega arith))
+          ∙ so .goal
+          ∙ sym (ap (λ (t : Bool).
+          moved (view c) (cond t (stay (stateOf c)) (evictFor (heldCount (stateOf c)) writeFirst (c .k) (blocksAt (stateOf c) i) (stateOf c))) (c .closed))
+          (held-is c i (w .known) ∙ h)
+          ∙ ap (λ (b : ℕ). roomFor (c .k) b (view c)) (blocks-is c i (w .known)));
+      fields = so .valid .fields;
+    }

@@ -1,0 +1,134 @@
+-- What the functions of this crate ask for, and the caches that they hand back, field by field. Assumes nothing.
+use mathlib.Core.Path.{_≡_}
+use mathlib.Core.Bool.{Bool, true, false}
+use mathlib.Core.List.{List}
+use Prim.Native.Nat.{ℕ, _+_, _*_, _-_, _≤_, _<_}
+use lib.ListN.{getD, set}
+use Rattle.landlord.specs.Catalog.{full}
+use Rattle.landlord.specs.Rule.{used}
+use Rattle.marks.specs.Marks.{marks}
+use Rattle.cache_state.specs.declared.Cache.{Cache}
+use Rattle.cache_state.specs.View.{stateOf}
+use Rattle.cache_state.specs.Valid.{Valid}
+use Rattle.cache_room.specs.Stores.{storeTo}
+
+-- no credit is greater than this
+abbrev pub mostCredit : ℕ
+mostCredit = full 65535
+
+-- credits and blocks of which a rank can be told
+pub record Ranked (a b blocks : ℕ) : Type 0 where
+  pub some : 1 ≤ blocks
+  pub load : a ≤ mostCredit
+  pub write : b ≤ mostCredit
+
+-- a cache in which something is held, so that there is a victim
+pub record Crowded (c : Cache) : Type 0 where
+  pub valid : Valid c
+  pub some : 1 ≤ used (stateOf c)
+
+-- an item that a cache can hold
+pub record Wanted (c : Cache) (i : ℕ) : Type 0 where
+  pub valid : Valid c
+  pub known : i < c .n
+  pub fits : getD (c .blocks) i 0 ≤ c .k
+
+-- c with other marks and credits
+abbrev pub withSlots : Cache → List Bool → List ℕ → List ℕ → List ℕ → Cache
+withSlots c h a b d =
+    record {
+      k = c .k;
+      n = c .n;
+      blocks = c .blocks;
+      load = c .load;
+      write = c .write;
+      held = h;
+      loadcredit = a;
+      writecredit = b;
+      dirty = d;
+      tenths = c .tenths;
+      itemloads = c .itemloads;
+      itemwritebacks = c .itemwritebacks;
+      steps = c .steps;
+      hits = c .hits;
+      loads = c .loads;
+      loadcost = c .loadcost;
+      evictions = c .evictions;
+      dirtyevictions = c .dirtyevictions;
+      writebacks = c .writebacks;
+      writecost = c .writecost;
+      flushes = c .flushes;
+      closed = c .closed;
+    }
+
+-- c with other counts of evictions, of dirty evictions, of writebacks (in all, their cost, and by item)
+abbrev pub withCounts : Cache → ℕ → ℕ → ℕ → ℕ → List ℕ → Cache
+withCounts c e de w wc ws =
+    record {
+      k = c .k;
+      n = c .n;
+      blocks = c .blocks;
+      load = c .load;
+      write = c .write;
+      held = c .held;
+      loadcredit = c .loadcredit;
+      writecredit = c .writecredit;
+      dirty = c .dirty;
+      tenths = c .tenths;
+      itemloads = c .itemloads;
+      itemwritebacks = ws;
+      steps = c .steps;
+      hits = c .hits;
+      loads = c .loads;
+      loadcost = c .loadcost;
+      evictions = e;
+      dirtyevictions = de;
+      writebacks = w;
+      writecost = wc;
+      flushes = c .flushes;
+      closed = c .closed;
+    }
+
+-- what item i loses where each block loses m
+abbrev pub lossAt : Cache → ℕ → ℕ → ℕ
+lossAt c m i = getD (c .blocks) i 0 * m
+
+-- its credits after that: the write credit bears what it can, and the load credit the rest
+abbrev pub writeLeft : Cache → ℕ → ℕ → ℕ
+writeLeft c m i = getD (c .writecredit) i 0 - lossAt c m i
+
+abbrev pub loadLeft : Cache → ℕ → ℕ → ℕ
+loadLeft c m i = getD (c .loadcredit) i 0 - (lossAt c m i - getD (c .writecredit) i 0)
+
+-- the items below n have lost m for each block
+abbrev pub chargedOf : Cache → ℕ → ℕ → Cache
+chargedOf c m n = withSlots c (c .held) (storeTo n (loadLeft c m) (c .loadcredit)) (storeTo n (writeLeft c m) (c .writecredit)) (c .dirty)
+
+-- a rank is at most the two credits, and a catalog has at most 256 items
+pub record Chargeable (c : Cache) (m : ℕ) : Type 0 where
+  pub few : c .n ≤ 256
+  pub rank : m ≤ mostCredit + mostCredit
+
+-- item v is dropped; d are the words of the dirty marks
+abbrev pub droppedOf : Cache → ℕ → List ℕ → Cache
+droppedOf c v d = withSlots c (set (c .held) v false) (set (c .loadcredit) v 0) (set (c .writecredit) v 0) d
+
+pub record Dropped (c : Cache) (v : ℕ) (r : Cache) : Type 0 where
+  pub fields : r ≡ droppedOf c v (r .dirty)
+  pub unmarked : marks (r .dirty) ≡ set (marks (c .dirty)) v false
+
+-- the eviction of item v is counted, and if it was dirty its writeback
+abbrev pub countedOf : Cache → ℕ → Bool → Cache
+countedOf c v false = withCounts c (c .evictions + 1) (c .dirtyevictions) (c .writebacks) (c .writecost) (c .itemwritebacks)
+countedOf c v true =
+    withCounts c (c .evictions + 1) (c .dirtyevictions + 1) (c .writebacks + 1) (c .writecost + getD (c .write) v 0)
+    (set (c .itemwritebacks) v (getD (c .itemwritebacks) v 0 + 1))
+
+-- counts that can grow by one: in a valid cache none is above the steps, of which there are at most 1,000,000
+pub record Countable (c : Cache) (v : ℕ) : Type 0 where
+  pub known : v < 256
+  pub evictions : c .evictions ≤ 1000000
+  pub dirtyEvictions : c .dirtyevictions ≤ 1000000
+  pub writebacks : c .writebacks ≤ 1000000
+  pub itemWritebacks : getD (c .itemwritebacks) v 0 ≤ 1000000
+  pub writeCost : c .writecost ≤ 65535 * 1000000

@@ -1,0 +1,5 @@
+pub mod Changes
+pub mod Bounds
+pub mod Serves
+pub mod Flushes
+pub mod Landings

@@ -1,0 +1,125 @@
+-- What each small store leaves: the cache that it hands back, field by field. Assumes nothing.
+use mathlib.Core.Path.{_≡_}
+use mathlib.Core.Bool.{Bool, true, false}
+use mathlib.Core.List.{List}
+use Prim.Native.Nat.{ℕ, _+_}
+use lib.ListN.{length, getD, set}
+use Rattle.landlord.specs.Catalog.{full}
+use Rattle.landlord.specs.Figures.{Totals, totalsOf, tenthsOf}
+use Rattle.marks.specs.Marks.{marks}
+use Rattle.cache_state.specs.declared.Cache.{Cache}
+use Rattle.cache_state.specs.View.{countsOf}
+
+-- a cache with other slots: which items are held, the two credits, and the marks of the dirty ones
+abbrev pub withSlots : Cache → List Bool → List ℕ → List ℕ → List ℕ → Cache
+withSlots c holds loads writes marked =
+    record {
+      k = c .k;
+      n = c .n;
+      blocks = c .blocks;
+      load = c .load;
+      write = c .write;
+      held = holds;
+      loadcredit = loads;
+      writecredit = writes;
+      dirty = marked;
+      tenths = c .tenths;
+      itemloads = c .itemloads;
+      itemwritebacks = c .itemwritebacks;
+      steps = c .steps;
+      hits = c .hits;
+      loads = c .loads;
+      loadcost = c .loadcost;
+      evictions = c .evictions;
+      dirtyevictions = c .dirtyevictions;
+      writebacks = c .writebacks;
+      writecost = c .writecost;
+      flushes = c .flushes;
+      closed = c .closed;
+    }
+
+-- a cache with other figures: tenths, loads and writebacks of each item, and the totals
+abbrev pub withFigures : Cache → List ℕ → List ℕ → List ℕ → Totals → Cache
+withFigures c hours loads writes t =
+    record {
+      k = c .k;
+      n = c .n;
+      blocks = c .blocks;
+      load = c .load;
+      write = c .write;
+      held = c .held;
+      loadcredit = c .loadcredit;
+      writecredit = c .writecredit;
+      dirty = c .dirty;
+      tenths = hours;
+      itemloads = loads;
+      itemwritebacks = writes;
+      steps = t .steps;
+      hits = t .hits;
+      loads = t .loads;
+      loadcost = t .loadCost;
+      evictions = t .evictions;
+      dirtyevictions = t .dirtyEvictions;
+      writebacks = t .writebacks;
+      writecost = t .writeCost;
+      flushes = t .flushes;
+      closed = c .closed;
+    }
+
+-- a hit counted: one step, one hit
+abbrev pub hitOf : Cache → Cache
+hitOf c =
+    withFigures c (c .tenths) (c .itemloads) (c .itemwritebacks)
+    (totalsOf (c .steps + 1) (c .hits + 1) (c .loads) (c .loadcost) (c .evictions) (c .dirtyevictions) (c .writebacks) (c .writecost) (c .flushes))
+
+-- item i loaded, and that counted: one step, one load, which costs the item's load cost
+abbrev pub loadedOf : Cache → ℕ → Cache
+loadedOf c i =
+    withFigures (withSlots c (set (c .held) i true) (c .loadcredit) (c .writecredit) (c .dirty))
+    (c .tenths) (set (c .itemloads) i (getD (c .itemloads) i 0 + 1)) (c .itemwritebacks)
+    (totalsOf (c .steps + 1) (c .hits) (c .loads + 1) (c .loadcost + getD (c .load) i 0) (c .evictions) (c .dirtyevictions)
+    (c .writebacks) (c .writecost) (c .flushes))
+
+-- the load credit of item i full
+abbrev pub refilledOf : Cache → ℕ → Cache
+refilledOf c i = withSlots c (c .held) (set (c .loadcredit) i (full (getD (c .load) i 0))) (c .writecredit) (c .dirty)
+
+-- item i written for so many minutes: its write credit full, its tenths counted, and these marks
+abbrev pub writtenOf : Cache → ℕ → ℕ → List ℕ → Cache
+writtenOf c i minutes marked =
+    withFigures (withSlots c (c .held) (c .loadcredit) (set (c .writecredit) i (full (getD (c .write) i 0))) marked)
+    (set (c .tenths) i (getD (c .tenths) i 0 + tenthsOf minutes)) (c .itemloads) (c .itemwritebacks) (countsOf c)
+
+-- item i written back, and that counted: its write credit 0, and these marks
+abbrev pub wroteOf : Cache → ℕ → List ℕ → Cache
+wroteOf c i marked =
+    withFigures (withSlots c (c .held) (c .loadcredit) (set (c .writecredit) i 0) marked)
+    (c .tenths) (c .itemloads) (set (c .itemwritebacks) i (getD (c .itemwritebacks) i 0 + 1))
+    (totalsOf (c .steps) (c .hits) (c .loads) (c .loadcost) (c .evictions) (c .dirtyevictions)
+    (c .writebacks + 1) (c .writecost + getD (c .write) i 0) (c .flushes))
+
+-- a landing counted: one step, one flush
+abbrev pub landedOf : Cache → Cache
+landedOf c =
+    withFigures c (c .tenths) (c .itemloads) (c .itemwritebacks)
+    (totalsOf (c .steps + 1) (c .hits) (c .loads) (c .loadcost) (c .evictions) (c .dirtyevictions) (c .writebacks) (c .writecost) (c .flushes + 1))
+
+-- every array of a cache has a place for each of the 256 numbers, so that a store finds its place
+pub record Sizes (c : Cache) : Type 0 where
+  pub held : length (c .held) ≡ 256
+  pub loadCredit : length (c .loadcredit) ≡ 256
+  pub writeCredit : length (c .writecredit) ≡ 256
+  pub tenths : length (c .tenths) ≡ 256
+  pub loads : length (c .itemloads) ≡ 256
+  pub writebacks : length (c .itemwritebacks) ≡ 256
+
+-- A store that sets or clears a mark: which words hold the marks is left to crate marks.
+pub record Wrote (c : Cache) (i minutes : ℕ) (r : Cache) : Type 0 where
+  pub sizes : Sizes c
+  pub store : r ≡ writtenOf c i minutes (r .dirty)
+  pub mark : marks (r .dirty) ≡ set (marks (c .dirty)) i true
+
+pub record WroteBack (c : Cache) (i : ℕ) (r : Cache) : Type 0 where
+  pub sizes : Sizes c
+  pub store : r ≡ wroteOf c i (r .dirty)
+  pub mark : marks (r .dirty) ≡ set (marks (c .dirty)) i false
