@@ -1,7 +1,7 @@
 -- What the calls promise. Each call has one record, which its contract and the season theorem both cite. Assumes nothing.
 use mathlib.Core.Path.{_≡_}
 use mathlib.Core.Logic.{_≢_}
-use mathlib.Core.Bool.{true, false}
+use mathlib.Core.Bool.{true, false, cond}
 use mathlib.Core.List.{List, []}
 use Prim.Native.Nat.{ℕ, _<_}
 use lib.ListN.{getD}
@@ -16,6 +16,11 @@ use Rattle.cache_state.specs.View.{dirtyAt, view}
 use Rattle.cache_state.specs.Valid.{Valid}
 use Rattle.cache_state.specs.Becomes.{Becomes}
 use Rattle.cache.specs.declared.Reply.{Reply}
+use Rattle.cache.specs.declared.Answer.{Answer}
+use Rattle.cache.specs.declared.Answer.the-variants.{Taken, Refused}
+use Rattle.cache.specs.declared.Answered.{Answered}
+use Rattle.landlord.specs.declared.Refusal.the-variants.{OutOfRange, UnknownItem, ItemTooLarge, LogFull, Closed, InvalidState}
+use lib.Dec.{eqb}
 
 -- a step on a valid cache that the table does not refuse
 pub record Passed (c : Cache) (kind item minutes : ℕ) : Type 0 where
@@ -58,3 +63,31 @@ pub record Opened (k : ℕ) (cat : Catalog) (r : Reply) : Type 0 where
   pub taken : r .number ≡ 0 → Becomes (opened k cat) (r .cache)
   pub refused : r .number ≢ 0 → Becomes refusedOpening (r .cache)
   pub empty : (i : ℕ) → i < 256 → EmptyPlace (r .cache) i
+
+-- An answer by value: taken, or the refusal with no line. Of a call's numbers 17, 9, 8, 3, 6 and 7 it is the paper's refusal.
+unfoldable pub answerTo : ℕ → Answer
+answerTo n =
+    cond (eqb n 0) Taken
+    (cond (eqb n 3) (Refused (OutOfRange 0))
+    (cond (eqb n 6) (Refused (UnknownItem 0))
+    (cond (eqb n 7) (Refused (ItemTooLarge 0))
+    (cond (eqb n 8) (Refused (LogFull 0))
+    (cond (eqb n 9) (Refused (Closed 0))
+    (Refused (InvalidState 0)))))))
+
+-- a call by value hands back the reply's answer with its cache
+pub record Replied (reply : Reply) (r : Answered) : Type 0 where
+  pub answer : r .answer ≡ answerTo (reply .number)
+  pub cache : r .ledger .cache ≡ reply .cache
+
+-- a step or the closing as a method
+pub record CalledBy (c : Cache) (call : Call) (r : Answered) : Type 0 where
+  pub reply : Reply
+  pub called : Called c call reply
+  pub replied : Replied reply r
+
+-- the opening
+pub record OpenedBy (k : ℕ) (cat : Catalog) (r : Answered) : Type 0 where
+  pub reply : Reply
+  pub opening : Opened k cat reply
+  pub replied : Replied reply r

@@ -1,3 +1,4 @@
 pub mod Contract
 pub mod Chain
 pub mod Opening
+pub mod Run

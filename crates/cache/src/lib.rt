@@ -1,20 +1,40 @@
 // The cache's calls by value: open, step, close; and the season theorem of a list of them.
 ghost use mathlib.Core.Path.{_≡_};
 ghost use Prim.Native.Nat.{_≤_};
-ghost use Rattle.cache.specs.Contract.{Passed, Opened, catalogFrom};
+ghost use lib.ListN.{set};
+ghost use Rattle.cache.specs.Contract.{Passed, Called, Opened, catalogFrom, answerTo, CalledBy, OpenedBy};
+ghost use Rattle.cache.specs.Run.{callFrom, callsOf, RanCalls, Ran};
 ghost use Rattle.landlord.specs.Slot.{writeFirst};
 ghost use Rattle.landlord.specs.Figures.{took};
 ghost use Rattle.cache_state.specs.Becomes.{Becomes, Decided};
 ghost use Rattle.cache.specs.Opening.{FirstOf, BlocksOk, Opens, emptyOf};
-ghost use Rattle.landlord.specs.Calls.{inRange, refusalNow, stepOf, take};
+ghost use Rattle.landlord.specs.Calls.{inRange, refusalNow, stepOf, take, close, callOf};
 ghost use Rattle.cache_state.specs.View.{view};
 ghost use Rattle.cache_state.specs.Valid.{Valid};
 use cache_state::Cache;
+use landlord::Refusal;
+use landlord::Step;
 
 // What a call hands back: its number, 0 if it was taken and else the refusal's, and the next cache.
 pub struct Reply {
     pub number: u32,
     pub cache: Cache,
+}
+
+// The answer to a call: taken, or why not.
+pub enum Answer {
+    Taken,
+    Refused(Refusal),
+}
+
+// A cache with the calls on it as methods: each hands back its answer with the next state.
+pub struct Ledger {
+    pub cache: Cache,
+}
+
+pub struct Answered {
+    pub answer: Answer,
+    pub ledger: Ledger,
 }
 
 // Whether a step's kind is one of R, W and L, and the values that such a step has are in their ranges.
@@ -75,6 +95,59 @@ fn serve(c: Cache, kind: u32, item: u32, minutes: u32) -> Cache
         return cache_serve::serve_read(room, i);
     }
     cache_serve::serve_write(room, i, minutes)
+}
+
+fn valid(c: Cache) -> bool
+    ensures { λ r. ⌜ Decided (Valid c) r ⌝ }
+{
+    c.closed
+}
+
+// A step by its numbers, on any cache: 17 if the cache is invalid, else as the table says. Refused, the cache comes back.
+pub fn take(c: Cache, kind: u32, item: u32, minutes: u32) -> Reply
+    ensures { λ r. ⌜ Called c (take kind item minutes) r ⌝ }
+{
+    if !valid(c) {
+        return Reply {
+            number: 17,
+            cache: c,
+        };
+    }
+    let number = refused(c, kind, item, minutes);
+    if number != 0 {
+        return Reply {
+            number: number,
+            cache: c,
+        };
+    }
+    Reply {
+        number: 0,
+        cache: serve(c, kind, item, minutes),
+    }
+}
+
+// The closing, on any cache: 17 if it is invalid, 9 if it is closed. It flushes, is no step, and closes.
+pub fn shut(c: Cache) -> Reply
+    ensures { λ r. ⌜ Called c close r ⌝ }
+{
+    if !valid(c) {
+        return Reply {
+            number: 17,
+            cache: c,
+        };
+    }
+    if c.closed {
+        return Reply {
+            number: 9,
+            cache: c,
+        };
+    }
+    let mut q = cache_serve::flush(c);
+    q.closed = true;
+    Reply {
+        number: 0,
+        cache: q,
+    }
 }
 
 // Whether each of the first `n` items has 1 to 16 blocks.
@@ -193,5 +266,139 @@ pub fn open(k: u32, n: usize, blocks: [u8; 256], load: [u16; 256], write: [u16; 
     Reply {
         number: 3,
         cache: empty(1, 0, [0; 256], [0; 256], [0; 256], true),
+    }
+}
+
+// The answer that a number stands for.
+fn answer_to(number: u32) -> Answer
+    ensures { λ r. ⌜ r ≡ answerTo number ⌝ }
+{
+    if number == 0 {
+        return Answer::Taken;
+    }
+    if number == 3 {
+        return Answer::Refused(Refusal::OutOfRange { line: 0 });
+    }
+    if number == 6 {
+        return Answer::Refused(Refusal::UnknownItem { line: 0 });
+    }
+    if number == 7 {
+        return Answer::Refused(Refusal::ItemTooLarge { line: 0 });
+    }
+    if number == 8 {
+        return Answer::Refused(Refusal::LogFull { line: 0 });
+    }
+    if number == 9 {
+        return Answer::Refused(Refusal::Closed { line: 0 });
+    }
+    Answer::Refused(Refusal::InvalidState { line: 0 })
+}
+
+impl Ledger {
+    // Opens a cache of `k` blocks for the first `n` items of the arrays.
+    pub fn open(k: u32, n: usize, blocks: [u8; 256], load: [u16; 256], write: [u16; 256]) -> Answered
+        ensures { λ r. ⌜ OpenedBy k (catalogFrom n blocks load write) r ⌝ }
+    {
+        let r = open(k, n, blocks, load, write);
+        let next = r.cache;
+        let number = r.number;
+        Answered {
+            answer: answer_to(number),
+            ledger: Ledger { cache: next },
+        }
+    }
+
+    // Takes one step.
+    pub fn step(self, s: Step) -> Answered
+        ensures { λ r. ⌜ CalledBy (self .cache) (callOf s) r ⌝ }
+    {
+        let c = self.cache;
+        let r = take(c, s.kind(), s.item(), s.minutes());
+        let next = r.cache;
+        let number = r.number;
+        Answered {
+            answer: answer_to(number),
+            ledger: Ledger { cache: next },
+        }
+    }
+
+    // Closes the log: what is dirty is written back.
+    pub fn close(self) -> Answered
+        ensures { λ r. ⌜ CalledBy (self .cache) close r ⌝ }
+    {
+        let c = self.cache;
+        let r = shut(c);
+        let next = r.cache;
+        let number = r.number;
+        Answered {
+            answer: answer_to(number),
+            ledger: Ledger { cache: next },
+        }
+    }
+}
+
+// A call from four numbers: 0 and then a step's kind, item and minutes; or another number, and it is the closing.
+fn call(c: Cache, which: u32, kind: u32, item: u32, minutes: u32) -> Reply
+    ensures { λ r. ⌜ Called c (callFrom which kind item minutes) r ⌝ }
+{
+    if which == 0 {
+        return take(c, kind, item, minutes);
+    }
+    shut(c)
+}
+
+// Notes the answer to call `i`, if there is a place for it.
+fn note(answers: &mut [u32], i: usize, number: u32)
+    ensures { λ _. ⌜ now (answers .exit) ≡ set (now (answers .entry)) i number ⌝ }
+{
+    if i < answers.len() {
+        answers[i] = number;
+    }
+}
+
+// Makes the calls that the numbers stand for, four to a call; a remainder is no call.
+fn run_calls(c: Cache, calls: &[u32], answers: &mut [u32]) -> Cache
+    ensures { λ r. ⌜ RanCalls c (callsOf (now (calls .entry))) (now (answers .entry)) (now (answers .exit)) r ⌝ }
+{
+    let count = calls.len() / 4;
+    let mut q = c;
+    let mut at = 0;
+    let mut i = 0;
+    while i < count {
+        let r = call(q, calls[at], calls[at + 1], calls[at + 2], calls[at + 3]);
+        let next = r.cache;
+        q = next;
+        note(answers, i, r.number);
+        at = at + 4;
+        i = i + 1;
+    }
+    q
+}
+
+// A whole list of calls from an opening on. The answers are noted as far as there is place; the reply has the opening's number
+// and the cache after the last call.
+pub fn run(
+    k: u32,
+    n: usize,
+    blocks: [u8; 256],
+    load: [u16; 256],
+    write: [u16; 256],
+    calls: &[u32],
+    answers: &mut [u32],
+) -> Reply
+    ensures { λ r. ⌜ Ran k (catalogFrom n blocks load write) (callsOf (now (calls .entry))) (now (answers .entry)) (now (answers .exit)) r ⌝ }
+{
+    let first = open(k, n, blocks, load, write);
+    let number = first.number;
+    let c = first.cache;
+    if number != 0 {
+        return Reply {
+            number: number,
+            cache: c,
+        };
+    }
+    Reply {
+        number: 0,
+        cache: run_calls(c, calls, answers),
     }
 }

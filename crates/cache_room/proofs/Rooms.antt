@@ -3,12 +3,11 @@ use mathlib.Core.Path.{_≡_, refl, sym, ap, subst, _∙_}
 use mathlib.Core.Bool.{Bool, true, false, cond}
 use Prim.Native.Nat.{ℕ, zero, suc, _+_, _≤_, _<_}
 use native.Mathlib.Omega.{arith}
-use lib.Dec.{leb}
 use borrow.Author.Tests.{le-leb, lt-leb}
 use lib.ListN.{getD}
 use Rattle.landlord.specs.Fold.{fold}
 use Rattle.landlord.specs.Slot.{Split, held, writeFirst}
-use Rattle.landlord.specs.Rule.{State, Moved, stay, joined, slotAt, blocksAt, used, heldCount, victim, evict, evictFor, makeRoom}
+use Rattle.landlord.specs.Rule.{State, Moved, stay, joined, blocksAt, used, heldCount, victim, evict, evictFor, makeRoom}
 use Rattle.landlord.specs.Figures.{Standing, moved}
 use Rattle.landlord.specs.Claims.{Least}
 use Rattle.landlord.specs.Valid.{StandingOk}
@@ -19,7 +18,7 @@ use Rattle.cache_state.specs.declared.Cache.{Cache}
 use Rattle.cache_state.specs.View.{stateOf, view}
 use Rattle.cache_state.specs.Valid.{Valid}
 use Rattle.cache_state.specs.Becomes.{Becomes}
-use Rattle.cache_state.proofs.Views.{size-is, blocks-is, held-is}
+use Rattle.cache_state.proofs.Views.{blocks-is, held-is}
 use Rattle.cache_room.specs.Room.{Crowded, Wanted}
 
 -- the rule's loop, from where it stands: nothing more to do, or an eviction and the loop again
@@ -100,7 +99,11 @@ module _
       )
 
 -- a hit: nothing is to be done
-pub room-hit : (c : Cache) (i : ℕ) → Wanted c i → getD (c .held) i false ≡ true → Becomes (moved (view c) (makeRoom writeFirst (c .k) i (stateOf c)) (c .closed)) c
+pub room-hit :
+    (c : Cache) (i : ℕ) →
+    Wanted c i →
+    getD (c .held) i false ≡ true →
+    Becomes (moved (view c) (makeRoom writeFirst (c .k) i (stateOf c)) (c .closed)) c
 unfolding makeRoom fold
 room-hit c i w h =
     record {

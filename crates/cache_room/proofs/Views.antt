@@ -1,23 +1,23 @@
 -- Laws of the cache's fields against the rule: an item's credits and its rank, and what a valid cache lets the code count on. Assumes
 -- nothing.
-use mathlib.Core.Path.{_≡_, refl, sym, ap, _∙_}
+use mathlib.Core.Path.{_≡_, sym, ap, _∙_}
 use mathlib.Core.Bool.{Bool, true, false, cond}
-use Prim.Native.Nat.{ℕ, _+_, _*_, _/_, _≤_, _<_}
+use Prim.Native.Nat.{ℕ, _+_, _/_, _≤_, _<_}
 use native.Mathlib.Nat.{div-le-self, zero-div, le-refl}
 use native.Mathlib.Omega.{arith}
 use lib.Dec.{eqb, ltb}
-use lib.ListN.{length, getD}
-use Rattle.landlord.specs.Fold.{sumTo, bestTo}
-use Rattle.landlord.specs.Catalog.{Item, ItemOk, itemAt}
+use lib.ListN.{getD}
+use Rattle.landlord.specs.Fold.{bestTo}
+use Rattle.landlord.specs.Catalog.{ItemOk, itemAt}
 use Rattle.landlord.specs.Slot.{Slot, held, isDirty, loadCredit, writeCredit}
-use Rattle.landlord.specs.Rule.{State, size, slotAt, blocksAt, used, rank, goesBefore, victim}
+use Rattle.landlord.specs.Rule.{size, slotAt, blocksAt, rank, goesBefore, victim}
 use Rattle.landlord.specs.Claims.{SlotKept}
 use Rattle.cache_state.specs.declared.Cache.{Cache}
-use Rattle.cache_state.specs.View.{itemOf, dirtyAt, stateOf}
+use Rattle.cache_state.specs.View.{dirtyAt, stateOf}
 use Rattle.cache_state.specs.Valid.{Normal, Valid}
-use Rattle.cache_state.proofs.Views.{size-is, item-is, slot-is, slot-past, blocks-is, held-is, used-is, from-dirty, from-load, from-write}
+use Rattle.cache_state.proofs.Views.{size-is, slot-is, slot-past, blocks-is, held-is, from-dirty, from-load, from-write}
 use Rattle.cache_room.specs.Room.{mostCredit, Ranked}
-use Rattle.cache_room.proofs.Laws.{sum-start, sum-more, best-start, best-more}
+use Rattle.cache_room.proofs.Laws.{best-start, best-more}
 
 -- what item i takes up
 abbrev pub takenAt : Cache → ℕ → ℕ

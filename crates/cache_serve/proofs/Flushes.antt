@@ -20,12 +20,6 @@ backs-none zero isDue h = refl
 backs-none (suc n) isDue h =
     λ z. backs-none n isDue (λ j l. h j (omega arith)) z ++ cond (h n (omega arith) z) (wroteBack n ∷ []) []
 
--- the same are due
-backs-same : (n : ℕ) (f g : ℕ → Bool) → ((j : ℕ) → j < n → f j ≡ g j) → writeBacks n f ≡ writeBacks n g
-unfolding writeBacks
-backs-same zero f g h = refl
-backs-same (suc n) f g h = λ z. backs-same n f g (λ j l. h j (omega arith)) z ++ cond (h n (omega arith) z) (wroteBack n ∷ []) []
-
 -- item i is the first that is due: it is written back, and then those that are still due
 backs-first :
     (n i : ℕ) (isDue still : ℕ → Bool) →

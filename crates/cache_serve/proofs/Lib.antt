@@ -1,3 +1,4 @@
+-- The laws that the functions' proofs cite.
 pub mod Changes
 pub mod Bounds
 pub mod Serves

@@ -113,7 +113,8 @@ pub record Sizes (c : Cache) : Type 0 where
   pub loads : length (c .itemloads) ≡ 256
   pub writebacks : length (c .itemwritebacks) ≡ 256
 
--- A store that sets or clears a mark: which words hold the marks is left to crate marks.
+-- A store that sets or clears a mark: which words hold the marks is left to crate marks. That every place exists is said too,
+-- since a caller does not see it of a cache that a call handed back.
 pub record Wrote (c : Cache) (i minutes : ℕ) (r : Cache) : Type 0 where
   pub sizes : Sizes c
   pub store : r ≡ writtenOf c i minutes (r .dirty)

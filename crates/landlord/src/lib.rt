@@ -74,6 +74,30 @@ impl Step {
     }
 }
 
+impl Step {
+    // The item that the step names; 0 for a flush, which names none.
+    pub fn item(self) -> u32
+        ensures { λ r. ⌜ r ≡ stepItem self ⌝ }
+    {
+        match self {
+            Step::Read { item } => item,
+            Step::Write { item, minutes: _ } => item,
+            Step::Flush => 0,
+        }
+    }
+
+    // The minutes of a write; 0 for other steps, which have none.
+    pub fn minutes(self) -> u32
+        ensures { λ r. ⌜ r ≡ stepMinutes self ⌝ }
+    {
+        match self {
+            Step::Read { item: _ } => 0,
+            Step::Write { item: _, minutes } => minutes,
+            Step::Flush => 0,
+        }
+    }
+}
+
 impl Refusal {
     // The number in paper 01's table.
     pub fn number(self) -> u32

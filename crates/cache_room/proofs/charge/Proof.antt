@@ -31,7 +31,7 @@ cast-loss c =
 mul-loss : tie.Need-mul-loss Inv-loop μ-loop
 mul-loss c =
     let f : Fits w8 (getD (c .before .before .before .args .t1 .blocks) (c .before .before .loop .i) 0) = search needs in
-    record { fits = loss-fits (getD (c .before .before .before .args .t1 .blocks) (c .before .before .loop .i) 0) (c .before .before .before .args .rank) (f .fits) (c .before .before .before .pre .rank) }
+    record { fits = loss-fits (f .fits) (c .before .before .before .pre .rank) }
 
 mul-write : tie.Need-mul-write Inv-loop μ-loop
 mul-write c = omega arith
@@ -75,8 +75,10 @@ loop-less c = omega arith
 loop-again : tie.Need-loop-again Inv-loop μ-loop
 loop-again c = (
   omega arith,
-  charge-more (c .before .before .before .before .before .before .before .before .args .t1) (c .before .before .before .before .before .before .before .loop .q) (c .before .before .before .before .before .before .before .before .args .rank) (c .before .before .before .before .before .before .before .loop .i) (c .left3 .result) (c .before .before .before .left .result)
-      (c .before .before .before .before .before .before .before .loop .inv .1) (rw (c .before .left2 .ensures) at (c .left3 .ensures)) (c .before .before .before .left .ensures),
+  charge-more (c .before .before .before .before .before .before .before .before .args .t1) (c .before .before .before .before .before .before .before .loop .q)
+      (c .before .before .before .before .before .before .before .before .args .rank) (c .before .before .before .before .before .before .before .loop .i)
+      (c .before .before .before .before .before .before .before .loop .inv .1) (rw (c .before .left2 .ensures) at (c .left3 .ensures))
+      (c .before .before .before .left .ensures),
 )
 
 returns : tie.Need-returns Inv-loop μ-loop

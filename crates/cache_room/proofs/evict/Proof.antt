@@ -6,7 +6,8 @@ use lib.ListN.{getD}
 use Rattle.cache_state.specs.declared.Cache.{Cache}
 use Rattle.cache_room.specs.Room.{mostCredit, Ranked}
 use Rattle.cache_room.proofs.Views.{ranked, rank-bound}
-use Rattle.cache_room.proofs.Evicts.{Sizes, victim-known, countable, evict-becomes}
+use Rattle.cache_room.proofs.Stores.{Sizes}
+use Rattle.cache_room.proofs.Evicts.{victim-known, countable, evict-becomes}
 use Rattle.cache_room.proofs.evict.Statement.{statement}
 use Rattle.cache_room.proofs.evict.Tie as tie
 
@@ -30,10 +31,10 @@ victim-requires : tie.Need-victim-requires
 victim-requires c κs = search needs
 
 mul-load : tie.Need-mul-load
-mul-load c = omega (arith, place (c))
+mul-load c = omega (arith, place c)
 
 element-copy-out-load : tie.Need-element-copy-out-load
-element-copy-out-load c = omega (arith, place (c))
+element-copy-out-load c = omega (arith, place c)
 
 mul-write : tie.Need-mul-write
 mul-write c = omega (arith, place (c .before))
@@ -55,7 +56,8 @@ charge-requires c κs =
     let q : Cache = c .before .before .before .before .before .before .before .args .t1 in
     let v : ℕ = c .before .before .before .before .before .before .victim .result in
     let bound : c .before .before .rank .result ≤ mostCredit + mostCredit =
-    rank-bound (getD (q .loadcredit) v 0) (getD (q .writecredit) v 0) (getD (q .blocks) v 0) (c .before .before .rank .result) (ranks (c .before .before .before .before .before .before)) (c .before .before .rank .ensures)
+    rank-bound (getD (q .loadcredit) v 0) (getD (q .writecredit) v 0) (getD (q .blocks) v 0) (c .before .before .rank .result)
+    (ranks (c .before .before .before .before .before .before)) (c .before .before .rank .ensures)
     in
     record { few = c .before .before .before .before .before .before .before .pre .valid .fields .few; rank = omega arith }
 
@@ -65,14 +67,16 @@ drop-item-requires c κs = omega (arith, place (c .before .before .before .befor
 count-requires : tie.Need-count-requires
 count-requires c κs =
     countable (c .before .before .before .before .before .before .before .before .before .args .t1) (c .before .charge .result) (c .drop-item .result)
-    (c .before .before .before .before .before .before .before .before .before .pre .valid) (known (c .before .before .before .before .before .before .before .before)) (record { charge = c .before .charge .ensures; drop = c .drop-item .ensures })
+    (c .before .before .before .before .before .before .before .before .before .pre .valid) (known (c .before .before .before .before .before .before .before .before))
+    (record { charge = c .before .charge .ensures; drop = c .drop-item .ensures })
 
 returns : tie.Need-returns
 returns c =
     let q : Cache = c .before .before .before .before .before .before .before .before .before .before .args .t1 in
     evict-becomes q (c .before .before .charge .result) (c .before .drop-item .result)
     (c .count .result) (sizes (c .before .before .before .before .before .before .before .before .before .before))
-    (c .before .before .before .before .before .before .before .before .before .before .pre) (c .before .before .before .before .before .before .before .before .before .victim .ensures) (c .before .before .before .before .before .rank .ensures) (c .before .before .before .is-marked .ensures)
+    (c .before .before .before .before .before .before .before .before .before .before .pre) (c .before .before .before .before .before .before .before .before .before .victim .ensures)
+    (c .before .before .before .before .before .rank .ensures) (c .before .before .before .is-marked .ensures)
     (record { charge = c .before .before .charge .ensures; drop = c .before .drop-item .ensures }) (c .count .ensures)
 
 pub evict-spec : {M : Type 1} → statement M

@@ -1,7 +1,6 @@
 -- `cache_room::make_room` meets its contract. The loop keeps that what is left to do leads where the rule's loop leads from the start;
 -- with each eviction one item fewer is held. Assumes nothing.
 use native.Mathlib.Omega.{arith}
-use lib.ListN.{getD}
 use Rattle.landlord.specs.Rule.{heldCount}
 use Rattle.cache_state.specs.View.{stateOf}
 use Rattle.cache_room.proofs.Rooms.{Going, going-starts, crowded, going-on, going-less, room-hit, room-miss}
@@ -44,22 +43,27 @@ add-if2 c =
     )
 
 evict-requires : tie.Need-evict-requires Inv-loop μ-loop
-evict-requires c κs = crowded (c .before .before .before .before .before .before .args .t1) (c .before .before .loop .q) (c .before .before .loop .inv) (c .before .used .ensures) (c .before .before .before .before .before .before .pre .fits) (c .if2 .taken)
+evict-requires c κs =
+    crowded (c .before .before .before .before .before .before .args .t1) (c .before .before .loop .q) (c .before .before .loop .inv) (c .before .used .ensures)
+    (c .before .before .before .before .before .before .pre .fits) (c .if2 .taken)
 
 loop-less : tie.Need-loop-less Inv-loop μ-loop
 loop-less c =
     going-less (c .before .before .before .before .before .before .before .args .t1) (c .before .before .before .loop .q) (c .evict .result)
-    (c .before .before .before .loop .inv) (c .before .before .used .ensures) (c .before .before .before .before .before .before .before .pre .fits) (c .before .if2 .taken) (c .evict .ensures)
+    (c .before .before .before .loop .inv) (c .before .before .used .ensures) (c .before .before .before .before .before .before .before .pre .fits)
+    (c .before .if2 .taken) (c .evict .ensures)
 
 loop-again : tie.Need-loop-again Inv-loop μ-loop
 loop-again c =
     going-on (c .before .before .before .before .before .before .before .args .t1) (c .before .before .before .loop .q) (c .evict .result)
-    (c .before .before .before .loop .inv) (c .before .before .used .ensures) (c .before .before .before .before .before .before .before .pre .fits) (c .before .if2 .taken) (c .evict .ensures)
+    (c .before .before .before .loop .inv) (c .before .before .used .ensures) (c .before .before .before .before .before .before .before .pre .fits)
+    (c .before .if2 .taken) (c .evict .ensures)
 
 returns-2 : tie.Need-returns-2 Inv-loop μ-loop
 returns-2 c =
     room-miss (c .before .before .before .before .before .before .args .t1) (c .before .before .loop .q) (c .before .before .before .before .before .before .args .i)
-    (c .before .before .before .before .before .before .pre) (c .before .before .before .before .if1 .left) (c .before .before .loop .inv) (c .before .used .ensures) (c .if2 .left)
+    (c .before .before .before .before .before .before .pre) (c .before .before .before .before .if1 .left) (c .before .before .loop .inv)
+    (c .before .used .ensures) (c .if2 .left)
 
 pub make-room-spec : {M : Type 1} → statement M
 make-room-spec =

@@ -1,6 +1,6 @@
 -- `cache_room::used` meets its contract. The loop keeps the sum of the items passed. Assumes nothing.
 use borrow.Author.Needs.{needs}
-use mathlib.Core.Path.{_≡_, sym, _∙_}
+use mathlib.Core.Path.{_≡_, sym}
 use Prim.Native.Nat.{_≤_, _*_, _-_}
 use native.Mathlib.Omega.{arith}
 use Rattle.landlord.specs.Fold.{sumTo}

@@ -50,7 +50,9 @@ loop-less c = omega arith
 loop-again : tie.Need-loop-again Inv-loop μ-loop
 loop-again c =
     let q : Cache = c .before .before .before .before .before .before .before .before .before .args .t1 in
-    let turn : Turn q (c .before .before .before .before .before .before .before .before .loop .best) (c .before .before .before .before .before .before .before .before .loop .least) (c .before .before .before .before .before .before .before .before .loop .i) (c .before .before .before .rank .result) (c .before .goes-before .result) =
+    let turn : Turn q (c .before .before .before .before .before .before .before .before .loop .best)
+    (c .before .before .before .before .before .before .before .before .loop .least) (c .before .before .before .before .before .before .before .before .loop .i)
+    (c .before .before .before .rank .result) (c .before .goes-before .result) =
     record {
       fields = c .before .before .before .before .before .before .before .before .before .pre .fields;
       soFar = c .before .before .before .before .before .before .before .before .loop .inv;

@@ -1,0 +1,122 @@
+-- `cache::run_calls` meets its contract: what is left to do leads to the answers from the start. Assumes nothing.
+use mathlib.Core.Path.{_≡_, refl, ap, _∙_}
+use Prim.Native.Nat.{ℕ, _≤_, _*_, _/_, _-_}
+use native.Mathlib.Omega.{arith}
+use borrow.Author.Needs.{needs}
+use lib.ListN.{length}
+use lib.Seq.{length-sets}
+use Rattle.cache.specs.Run.{callsOf}
+use Rattle.cache.proofs.Runs.{count-is, call-at, Going, going-starts, going-on, going-ends}
+use Rattle.cache.proofs.run_calls.Statement.{statement}
+use Rattle.cache.proofs.run_calls.Tie as tie
+use Rattle.cache.proofs.run_calls.Reads as reads
+use Rattle.cache.proofs.run_calls.Lts as lts
+use Rattle.cache.proofs.call.Reads as call-reads
+use Rattle.cache.proofs.note.Reads as note-reads
+
+abbrev Inv-loop : tie.InvT-loop
+Inv-loop calls answers₀ count q₀ at₀ i₀ answers q at i =
+    (i ≤ count) × (at ≡ 4 * i) × (count ≡ length calls / 4) × Going q₀ (callsOf calls) answers₀ i q answers
+
+abbrev μ-loop : tie.MeasureT-loop
+μ-loop calls answers₀ count q₀ at₀ i₀ answers q at i = count - i
+
+loop-holds : tie.Need-loop-holds Inv-loop μ-loop
+loop-holds c = (omega arith, omega arith, refl, going-starts _ _ _)
+
+mul-call : tie.Need-mul-call Inv-loop μ-loop
+mul-call c = search needs
+
+shared-slice-read-call : tie.Need-shared-slice-read-call Inv-loop μ-loop
+shared-slice-read-call c = omega arith
+
+add-call : tie.Need-add-call Inv-loop μ-loop
+add-call c = omega arith
+
+mul-call-2 : tie.Need-mul-call-2 Inv-loop μ-loop
+mul-call-2 c = search needs
+
+shared-slice-read-call-2 : tie.Need-shared-slice-read-call-2 Inv-loop μ-loop
+shared-slice-read-call-2 c = omega arith
+
+add-call-2 : tie.Need-add-call-2 Inv-loop μ-loop
+add-call-2 c = omega arith
+
+mul-call-3 : tie.Need-mul-call-3 Inv-loop μ-loop
+mul-call-3 c = search needs
+
+shared-slice-read-call-3 : tie.Need-shared-slice-read-call-3 Inv-loop μ-loop
+shared-slice-read-call-3 c = omega arith
+
+add-call-3 : tie.Need-add-call-3 Inv-loop μ-loop
+add-call-3 c = omega arith
+
+mul-call-4 : tie.Need-mul-call-4 Inv-loop μ-loop
+mul-call-4 c = search needs
+
+shared-slice-read-call-4 : tie.Need-shared-slice-read-call-4 Inv-loop μ-loop
+shared-slice-read-call-4 c = omega arith
+
+call-requires : tie.Need-call-requires Inv-loop μ-loop
+call-requires c κs = search needs
+
+note-requires : tie.Need-note-requires Inv-loop μ-loop
+note-requires c κs = search needs
+
+add-at : tie.Need-add-at Inv-loop μ-loop
+add-at c = omega arith
+
+add-i : tie.Need-add-i Inv-loop μ-loop
+add-i c = omega arith
+
+loop-less : tie.Need-loop-less Inv-loop μ-loop
+loop-less c = omega arith
+
+loop-again : tie.Need-loop-again Inv-loop μ-loop
+loop-again c =
+    let a = c .before .before .before .before .before .before .before .before .before .before .before .before .before .before .args in
+    let w = c .before .before .before .before .before .before .before .before .before .before .before .loop in
+    let xs = a .calls .now in
+    (
+      omega arith,
+      omega arith,
+      refl,
+      going-on (a .c) (w .q) (callsOf xs) (a .answers .now) (w .answers) (c .before .before .note .last .0) (w .i) _ (c .before .before .before .before .before .call .result)
+      (omega (arith, count-is xs)) (call-at xs (w .i) (w .at) (omega arith) (w .inv .1)) (c .before .before .before .before .before .call .ensures) (c .before .before .note .ensures) (w .inv .3)
+    )
+
+same-length : tie.Need-same-length Inv-loop μ-loop
+same-length c = ap length (c .before .loop .inv .3 .noted) ∙ length-sets (c .before .before .before .before .args .answers .now) 0 (c .before .loop .inv .3 .numbers)
+
+returns : tie.Need-returns Inv-loop μ-loop
+returns c =
+    let a = c .before .before .before .before .args in
+    let w = c .before .loop in
+    going-ends (a .c) (w .q) (callsOf (a .calls .now)) (a .answers .now) (w .answers) (w .i) (omega (arith, count-is (a .calls .now))) (w .inv .3)
+
+pub run-calls-spec : {M : Type 1} → statement M
+run-calls-spec =
+    tie.close
+    (tie.spec
+    Inv-loop
+    μ-loop
+    loop-holds
+    mul-call
+    shared-slice-read-call
+    add-call
+    mul-call-2
+    shared-slice-read-call-2
+    add-call-2
+    mul-call-3
+    shared-slice-read-call-3
+    add-call-3
+    mul-call-4
+    shared-slice-read-call-4
+    call-requires
+    note-requires
+    add-at
+    add-i
+    loop-less
+    loop-again
+    same-length
+    returns)
