@@ -97,17 +97,11 @@ fn serve(c: Cache, kind: u32, item: u32, minutes: u32) -> Cache
     cache_serve::serve_write(room, i, minutes)
 }
 
-fn valid(c: Cache) -> bool
-    ensures { λ r. ⌜ Decided (Valid c) r ⌝ }
-{
-    c.closed
-}
-
 // A step by its numbers, on any cache: 17 if the cache is invalid, else as the table says. Refused, the cache comes back.
 pub fn take(c: Cache, kind: u32, item: u32, minutes: u32) -> Reply
     ensures { λ r. ⌜ Called c (take kind item minutes) r ⌝ }
 {
-    if !valid(c) {
+    if !cache_state::valid(c) {
         return Reply {
             number: 17,
             cache: c,
@@ -130,7 +124,7 @@ pub fn take(c: Cache, kind: u32, item: u32, minutes: u32) -> Reply
 pub fn shut(c: Cache) -> Reply
     ensures { λ r. ⌜ Called c close r ⌝ }
 {
-    if !valid(c) {
+    if !cache_state::valid(c) {
         return Reply {
             number: 17,
             cache: c,

@@ -1,7 +1,7 @@
 -- What a function that moves a cache on says of the cache that it hands back. Assumes nothing.
 use mathlib.Core.Path.{_≡_}
-use mathlib.Core.Bool.{Bool, true}
 use Rattle.landlord.specs.Figures.{Standing}
+pub use Rattle.validity.specs.Decided.{Decided}
 use Rattle.cache_state.specs.declared.Cache.{Cache}
 use Rattle.cache_state.specs.View.{view}
 use Rattle.cache_state.specs.Valid.{Normal}
@@ -10,8 +10,3 @@ use Rattle.cache_state.specs.Valid.{Normal}
 pub record Becomes (v : Standing) (r : Cache) : Type 0 where
   pub stands : view r ≡ v
   pub fields : Normal r
-
--- a test that decides a statement: it comes out true exactly where the statement holds
-pub record Decided (A : Type 0) (r : Bool) : Type 0 where
-  pub yes : r ≡ true → A
-  pub only : A → r ≡ true

@@ -1,5 +1,11 @@
 // The cache by value: its fields, and (specs/View.antt) what they mean to the rule.
 
+mod check;
+
+pub use check::held_count;
+pub use check::used;
+pub use check::valid;
+
 // The recorder's cache, with what it has counted. Every array has a place for each of the 256 item numbers.
 pub struct Cache {
     // capacity in blocks

@@ -8,7 +8,6 @@ use Rattle.cache.proofs.shut.Statement.{statement}
 use Rattle.cache.proofs.shut.Tie as tie
 use Rattle.cache.proofs.shut.Reads as reads
 use Rattle.cache.proofs.shut.Lts as lts
-use Rattle.cache.proofs.valid.Reads as valid-reads
 use Rattle.cache_serve.proofs.flush.Reads as flush-reads
 
 valid-requires : tie.Need-valid-requires

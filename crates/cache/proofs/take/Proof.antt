@@ -10,7 +10,6 @@ use Rattle.cache.proofs.take.Reads as reads
 use Rattle.cache.proofs.take.Lts as lts
 use Rattle.cache.proofs.refused.Reads as refused-reads
 use Rattle.cache.proofs.serve.Reads as serve-reads
-use Rattle.cache.proofs.valid.Reads as valid-reads
 
 valid-requires : tie.Need-valid-requires
 valid-requires c κs = search needs

@@ -1,0 +1,305 @@
+-- The check of validity, put together: what the parts of it decide (specs/Parts.antt) is validity, no less and no more; and the
+-- laws of the sums that its loops make. Assumes nothing.
+use mathlib.Core.Path.{_≡_, refl, sym, ap, _∙_}
+use mathlib.Core.Bool.{Bool, true, false, not, cond}
+use mathlib.Core.List.{List, _∷_}
+use Prim.Native.Nat.{ℕ, zero, suc, _+_, _-_, _≤_, _<_, _∣_}
+use native.Mathlib.Nat.{le-refl}
+use native.Mathlib.Numerals.{add-one}
+use native.Mathlib.Decide.{decLe}
+use native.Mathlib.Omega.{arith}
+use borrow.Author.Count.{below-more}
+use lib.ListN.{length, getD}
+use Rattle.landlord.specs.Fold.{sumTo}
+use Rattle.landlord.specs.Catalog.{Item, ItemOk, itemAt, full}
+use Rattle.landlord.specs.Slot.{isDirty, loadCredit, writeCredit}
+use Rattle.landlord.specs.Rule.{size, slotAt, used, heldCount}
+use Rattle.landlord.specs.Figures.{Use, useAt}
+use Rattle.landlord.specs.Claims.{SlotKept}
+use Rattle.landlord.specs.Valid.{dirtyCount, StandingOk}
+use Rattle.landlord.proofs.Sums.{sum-eq, sum-zero}
+use Rattle.marks.specs.Marks.{marked, tabFrom, marks, countSet}
+use Rattle.cache_state.specs.declared.Cache.{Cache}
+use Rattle.cache_state.specs.View.{itemOf, dirtyAt, slotOf, catalogOf, stateOf, countsOf, figuresOf, view}
+use Rattle.cache_state.specs.Valid.{Blank, Emptied, Normal, Valid}
+use Rattle.validity.specs.Tests.{CountsOk}
+use Rattle.cache_state.specs.Parts.{NothingAt, PastOk, EntryAt, EntriesOk, SumsOf}
+use Rattle.validity.specs.Decided.{Decided}
+use Rattle.validity.proofs.Decides.{no, sure, denied, granted}
+use Rattle.cache_state.proofs.Views.{size-is, slots-length, uses-length, item-is, slot-is, use-is, from-dirty, from-load, from-write}
+
+-- ---- sums, as the loops make them
+
+pub sum-first : (f : ℕ → ℕ) → 0 ≡ sumTo 0 f
+unfolding sumTo
+sum-first f = refl
+
+pub sum-more : (f : ℕ → ℕ) (i s x : ℕ) → s ≡ sumTo i f → x ≡ f i → s + x ≡ sumTo (i + 1) f
+unfolding sumTo
+sum-more f i s x e h = rw (add-one i) (omega arith)
+
+-- a sum that begins at the other end
+sum-front : (n : ℕ) (f : ℕ → ℕ) → sumTo (suc n) f ≡ f 0 + sumTo n (λ i. f (suc i))
+unfolding sumTo
+sum-front zero f = omega arith
+sum-front (suc n) f = omega (arith, sum-front n f)
+
+-- terms that are 0 from m on add nothing
+sum-cut : (m n : ℕ) (f : ℕ → ℕ) → ((i : ℕ) → m ≤ i → i < m + n → f i ≡ 0) → sumTo (n + m) f ≡ sumTo m f
+unfolding sumTo
+sum-cut m zero f h =
+    let e : 0 + m ≡ m = omega arith in
+    rw e
+sum-cut m (suc n) f h =
+    let e : suc n + m ≡ suc (n + m) = omega arith in
+    rw e (omega (arith, sum-cut m n f (λ i l b. h i l (omega arith)), h (n + m) (omega arith) (omega arith)))
+
+-- ---- the dirty items are those marked
+
+count-sum : (n : ℕ) (f : ℕ → Bool) (i : ℕ) → countSet (tabFrom n f i) ≡ sumTo n (λ j. cond (f (i + j)) 1 0)
+unfolding tabFrom countSet sumTo
+count-sum zero f i = refl
+count-sum (suc n) f i =
+    let g : ℕ → ℕ = λ j. cond (f (i + j)) 1 0 in
+    let e : sumTo n (λ j. cond (f (suc i + j)) 1 0) ≡ sumTo n (λ j. g (suc j)) =
+    sum-eq n _ _ (λ j l. let q : suc i + j ≡ i + suc j = omega arith in ap (λ (z : ℕ). cond (f z) 1 0) q) in
+    let z : i + 0 ≡ i = omega arith in
+    let first : g 0 ≡ cond (f i) 1 0 = ap (λ (x : ℕ). cond (f x) 1 0) z in
+    omega (arith, one (f i) (tabFrom n f (suc i)), count-sum n f (suc i), e, sum-front n g, first)
+  where
+    one : (b : Bool) (bs : List Bool) → countSet (b ∷ bs) ≡ cond b 1 0 + countSet bs
+    one true bs = omega arith
+    one false bs = omega arith
+
+module _ (c : Cache) (i : ℕ) (l : i < c .n) where
+  pub dirty-is : (getD (c .held) i false ≡ false → dirtyAt c i ≡ false) → isDirty (slotAt (stateOf c) i) ≡ dirtyAt c i
+  dirty-is h = ap isDirty (slot-is c i l) ∙ from-dirty (getD (c .held) i false) (dirtyAt c i) (getD (c .loadcredit) i 0) (getD (c .writecredit) i 0) h
+
+  pub load-is : (getD (c .held) i false ≡ false → getD (c .loadcredit) i 0 ≡ 0) → loadCredit (slotAt (stateOf c) i) ≡ getD (c .loadcredit) i 0
+  load-is h = ap loadCredit (slot-is c i l) ∙ from-load (getD (c .held) i false) (dirtyAt c i) (getD (c .loadcredit) i 0) (getD (c .writecredit) i 0) h
+
+  pub write-is :
+      (getD (c .held) i false ≡ false → getD (c .writecredit) i 0 ≡ 0) →
+      (dirtyAt c i ≡ false → getD (c .writecredit) i 0 ≡ 0) →
+      writeCredit (slotAt (stateOf c) i) ≡ getD (c .writecredit) i 0
+  write-is h g = ap writeCredit (slot-is c i l) ∙ from-write (getD (c .held) i false) (dirtyAt c i) (getD (c .loadcredit) i 0) (getD (c .writecredit) i 0) h g
+
+pub dirty-count : (c : Cache) → Normal c → dirtyCount (stateOf c) ≡ countSet (marks (c .dirty))
+unfolding dirtyCount marks
+dirty-count c v =
+    let e : 256 ≡ (256 - c .n) + c .n = omega (arith, v .few) in
+    ap (λ (m : ℕ). sumTo m (λ i. cond (isDirty (slotAt (stateOf c) i)) 1 0)) (size-is c)
+    ∙ sum-eq (c .n) _ _ (λ i l. λ z. cond (dirty-is c i l (λ a. v .absent i l a .dirty) z) 1 0)
+    ∙ sym (sum-cut (c .n) (256 - c .n) (λ i. cond (dirtyAt c i) 1 0) (λ i l b. ap (λ (t : Bool). cond t 1 0) (v .past i l (omega (arith, v .few)) .dirty)))
+    ∙ ap (λ (m : ℕ). sumTo m (λ i. cond (dirtyAt c i) 1 0)) (sym e)
+    ∙ sum-eq 256 _ _ (λ i l. let q : i ≡ 0 + i = omega arith in ap (λ (z : ℕ). cond (dirtyAt c z) 1 0) q)
+    ∙ sym (count-sum 256 (marked (c .dirty)) 0)
+
+-- ---- the turns and the ends of the two loops that test each place
+
+blank-of : (c : Cache) (i : ℕ) → NothingAt c i → Blank c i
+blank-of c i o =
+    record {
+      blocks = o .noBlocks;
+      load = o .noLoad;
+      write = o .noWrite;
+      held = o .notHeld;
+      loadCredit = o .noLoadCredit;
+      writeCredit = o .noWriteCredit;
+      dirty = o .notMarked;
+      tenths = o .noTenths;
+      loads = o .noLoads;
+      writebacks = o .noWritebacks;
+    }
+
+nothing-of : (c : Cache) (i : ℕ) → Blank c i → NothingAt c i
+nothing-of c i b =
+    record {
+      noBlocks = b .blocks;
+      noLoad = b .load;
+      noWrite = b .write;
+      notHeld = b .held;
+      noLoadCredit = b .loadCredit;
+      noWriteCredit = b .writeCredit;
+      notMarked = b .dirty;
+      noTenths = b .tenths;
+      noLoads = b .loads;
+      noWritebacks = b .writebacks;
+    }
+
+-- the places from the catalog's end to i are blank
+abbrev pub BlankTo : Cache → ℕ → Type 0
+BlankTo c i = (j : ℕ) → j < i → c .n ≤ j → Blank c j
+
+module _ (c : Cache) where
+  pub past-begins : BlankTo c (c .n)
+  past-begins j l m = absurd (let z : j < c .n = l in let y : c .n ≤ j = m in omega arith)
+
+  pub past-fails : (i : ℕ) {r : Bool} → c .n ≤ i → i < 256 → Decided (NothingAt c i) r → not r ≡ true → Decided (PastOk c) false
+  past-fails i l m d e = no (λ p. denied d e (nothing-of c i (p .each i l m)))
+
+  pub past-turns : (i : ℕ) {r : Bool} → BlankTo c i → Decided (NothingAt c i) r → not r ≡ false → BlankTo c (i + 1)
+  past-turns i h d e = below-more (λ j. c .n ≤ j → Blank c j) i h (λ l. blank-of c i (granted d e))
+
+  pub past-ends : (i : ℕ) → 256 ≤ i → BlankTo c i → Decided (PastOk c) true
+  past-ends i l h = sure record { each = λ j m b. h j (omega arith) m }
+
+  pub entries-fail : (i : ℕ) {r : Bool} → i < c .n → Decided (EntryAt c i) r → not r ≡ true → Decided (EntriesOk c) false
+  entries-fail i l d e = no (λ p. denied d e (p .each i l))
+
+  pub entries-end : (i : ℕ) → c .n ≤ i → ((j : ℕ) → j < i → EntryAt c j) → Decided (EntriesOk c) true
+  entries-end i l h = sure record { each = λ j m. h j (omega arith) }
+
+-- ---- the parts make the whole
+
+-- what the check finds, one record for each of its tests
+pub record Parts (c : Cache) : Type 0 where
+  pub few : c .n ≤ 256
+  pub past : PastOk c
+  pub entries : EntriesOk c
+  pub sums : SumsOf c
+  pub counts : CountsOk (c .k) (countsOf c)
+
+-- the costs are in range because of their type, with no test
+pub record Costs (c : Cache) : Type 0 where
+  pub load : (i : ℕ) → getD (c .load) i 0 ≤ 65535
+  pub write : (i : ℕ) → getD (c .write) i 0 ≤ 65535
+
+pub normal-of : (c : Cache) → Parts c → Normal c
+normal-of c p =
+    record {
+      few = p .few;
+      past = p .past .each;
+      absent = λ i l e.
+          record {
+            dirty = p .entries .each i l .marks .absentClean e;
+            loadCredit = p .entries .each i l .marks .absentEmpty e;
+            writeCredit = p .entries .each i l .marks .cleanEmpty (p .entries .each i l .marks .absentClean e);
+          };
+      clean = λ i l e. p .entries .each i l .marks .cleanEmpty e;
+    }
+
+-- what the rule reads off the fields of a tidy cache
+module _ (c : Cache) (v : Normal c) (i : ℕ) (l : i < c .n) where
+  pub dirty-here : isDirty (slotAt (stateOf c) i) ≡ dirtyAt c i
+  dirty-here = dirty-is c i l (λ a. v .absent i l a .dirty)
+
+  pub load-here : loadCredit (slotAt (stateOf c) i) ≡ getD (c .loadcredit) i 0
+  load-here = load-is c i l (λ a. v .absent i l a .loadCredit)
+
+  pub write-here : writeCredit (slotAt (stateOf c) i) ≡ getD (c .writecredit) i 0
+  write-here = write-is c i l (λ a. v .absent i l a .writeCredit) (λ e. v .clean i l e)
+
+-- a slot's credits, by the rule and on the fields
+slot-of : (c : Cache) → Normal c → (i : ℕ) → i < c .n → EntryAt c i → SlotKept (itemAt (catalogOf c) i) (slotAt (stateOf c) i)
+slot-of c v i l o =
+    rw (item-is c i l)
+    record {
+      wholeLoad = rw (load-here c v i l) (o .loads .whole);
+      wholeWrite = rw (write-here c v i l) (o .writes .whole);
+      loadTop = rw (load-here c v i l) (o .loads .top);
+      writeTop = rw (write-here c v i l) (o .writes .top);
+    }
+
+sum-loads : (c : Cache) → sumTo (size (stateOf c)) (λ i. useAt (figuresOf c) i .loads) ≡ sumTo (c .n) (λ i. getD (c .itemloads) i 0)
+sum-loads c =
+    ap (λ (m : ℕ). sumTo m (λ i. useAt (figuresOf c) i .loads)) (size-is c)
+    ∙ sum-eq (c .n) _ _ (λ i l. ap (λ (u : Use). u .loads) (use-is c i l))
+
+sum-writebacks : (c : Cache) → sumTo (size (stateOf c)) (λ i. useAt (figuresOf c) i .writebacks) ≡ sumTo (c .n) (λ i. getD (c .itemwritebacks) i 0)
+sum-writebacks c =
+    ap (λ (m : ℕ). sumTo m (λ i. useAt (figuresOf c) i .writebacks)) (size-is c)
+    ∙ sum-eq (c .n) _ _ (λ i l. ap (λ (u : Use). u .writebacks) (use-is c i l))
+
+pub valid-of : (c : Cache) → Costs c → Parts c → Valid c
+valid-of c w p = record { fields = v; rule = rule }
+  where
+    v : Normal c
+    v = normal-of c p
+
+    below : (i : ℕ) → i < size (stateOf c) → i < c .n
+    below i l = rw (size-is c) at l
+
+    item : (i : ℕ) → i < c .n → ItemOk (itemAt (catalogOf c) i)
+    item i l =
+        let o : EntryAt c i = p .entries .each i l in
+        rw (item-is c i l) record { some = o .some; small = o .small; load = w .load i; write = w .write i }
+
+    rule : StandingOk (view c)
+    rule =
+        record {
+          capacity = record { low = p .counts .low; high = p .counts .high };
+          kept =
+              record {
+                catalog = record { few = rw (size-is c) (p .few); each = λ i l. item i (below i l) };
+                slots = slots-length c ∙ sym (size-is c);
+                slot = λ i l. slot-of c v i (below i l) (p .entries .each i (below i l));
+                room = p .sums .room;
+              };
+          steps = p .counts .steps;
+          taken = p .counts .taken;
+          evictions = p .sums .kept;
+          dirtyEvictions = p .counts .dirtyEvictions;
+          dirtyWritten = p .counts .dirtyWritten;
+          writebacks = rw (dirty-count c v) (p .sums .due);
+          loadCost = p .counts .loadCost;
+          writeCost = p .counts .writeCost;
+          uses = uses-length c ∙ sym (size-is c);
+          loadsAdd = sum-loads c ∙ p .sums .loadsAdd;
+          writebacksAdd = sum-writebacks c ∙ p .sums .writebacksAdd;
+          tenths = λ i l. rw (use-is c i (below i l)) (p .entries .each i (below i l) .hours);
+          closed = λ e i l. dirty-here c v i (below i l) ∙ p .entries .each i (below i l) .marks .closedClean e;
+        }
+
+entry-of : (c : Cache) → Valid c → (i : ℕ) → i < c .n → EntryAt c i
+entry-of c o i l =
+    record {
+      some = rw (item-is c i l) at (o .rule .kept .catalog .each i m .some);
+      small = rw (item-is c i l) at (o .rule .kept .catalog .each i m .small);
+      marks =
+          record {
+            absentClean = λ e. v .absent i l e .dirty;
+            absentEmpty = λ e. v .absent i l e .loadCredit;
+            cleanEmpty = λ e. v .clean i l e;
+            closedClean = λ e. sym (dirty-here c v i l) ∙ o .rule .closed e i m;
+          };
+      loads = record { whole = rw (load-here c v i l) at (s .wholeLoad); top = rw (load-here c v i l) at (s .loadTop) };
+      writes = record { whole = rw (write-here c v i l) at (s .wholeWrite); top = rw (write-here c v i l) at (s .writeTop) };
+      hours = rw (use-is c i l) at (o .rule .tenths i m);
+    }
+  where
+    v : Normal c
+    v = o .fields
+
+    m : i < size (stateOf c)
+    m = rw (size-is c) l
+
+    s : SlotKept (itemOf c i) (slotAt (stateOf c) i)
+    s = rw (item-is c i l) at (o .rule .kept .slot i m)
+
+pub parts-of : (c : Cache) → Valid c → Parts c
+parts-of c o =
+    record {
+      few = o .fields .few;
+      past = record { each = o .fields .past };
+      entries = record { each = entry-of c o };
+      sums =
+          record {
+            room = o .rule .kept .room;
+            kept = o .rule .evictions;
+            due = rw (dirty-count c (o .fields)) at (o .rule .writebacks);
+            loadsAdd = sym (sum-loads c) ∙ o .rule .loadsAdd;
+            writebacksAdd = sym (sum-writebacks c) ∙ o .rule .writebacksAdd;
+          };
+      counts =
+          record {
+            low = o .rule .capacity .low;
+            high = o .rule .capacity .high;
+            steps = o .rule .steps;
+            taken = o .rule .taken;
+            dirtyEvictions = o .rule .dirtyEvictions;
+            dirtyWritten = o .rule .dirtyWritten;
+            loadCost = o .rule .loadCost;
+            writeCost = o .rule .writeCost;
+          };
+    }

@@ -1,0 +1,150 @@
+-- The contracts by `view` leave no choice: caches with tidy fields (`Normal`) at which the rule stands alike are one and the same.
+-- Assumes nothing.
+use mathlib.Core.Path.{_≡_, sym, ap, _∙_}
+use mathlib.Core.Bool.{false}
+use mathlib.Core.List.{List}
+use Prim.Native.Nat.{ℕ, _^_, _≤_, _<_}
+use native.Mathlib.Decide.{decLe}
+use native.Mathlib.Omega.{arith}
+use lib.ListN.{length, getD}
+use lib.Seq.{ext-getD}
+use Rattle.landlord.specs.Catalog.{Item, itemAt}
+use Rattle.landlord.specs.Slot.{held, isDirty, loadCredit, writeCredit}
+use Rattle.landlord.specs.Rule.{size, slotAt}
+use Rattle.landlord.specs.Figures.{Standing, Use, useAt}
+use Rattle.marks.specs.Marks.{marks}
+use Rattle.marks.proofs.Laws.{length-marks, marked-at, marks-tell}
+use Rattle.cache_state.specs.declared.Cache.{Cache}
+use Rattle.cache_state.specs.View.{itemOf, usageOf, stateOf, view}
+use Rattle.cache_state.specs.Valid.{Normal, Valid}
+use Rattle.cache_state.specs.Becomes.{Becomes}
+use Rattle.cache_state.proofs.Views.{size-is, item-is, use-is, held-is}
+use Rattle.cache_state.proofs.Checks.{dirty-here, load-here, write-here}
+
+-- what the types of its fields say of a cache: a place for each of 256 items, and four words of 64 bits
+pub record Sizes (c : Cache) : Type 0 where
+  pub blocks : length (c .blocks) ≡ 256
+  pub load : length (c .load) ≡ 256
+  pub write : length (c .write) ≡ 256
+  pub held : length (c .held) ≡ 256
+  pub loadCredit : length (c .loadcredit) ≡ 256
+  pub writeCredit : length (c .writecredit) ≡ 256
+  pub dirty : length (c .dirty) ≡ 4
+  pub words : (k : ℕ) → getD (c .dirty) k 0 < 2 ^ 64
+  pub tenths : length (c .tenths) ≡ 256
+  pub loads : length (c .itemloads) ≡ 256
+  pub writebacks : length (c .itemwritebacks) ≡ 256
+
+module _ (c d : Cache) (sc : Sizes c) (sd : Sizes d) (nc : Normal c) (nd : Normal d) (e : view c ≡ view d) where
+  same-n : c .n ≡ d .n
+  same-n = sym (size-is c) ∙ ap (λ (v : Standing). size (v .state)) e ∙ size-is d
+
+  -- two arrays that agree below the catalog's end, and have nothing past it
+  agree :
+      {A : Type 0} (z : A) (xs ys : List A) →
+      length xs ≡ 256 →
+      length ys ≡ 256 →
+      ((i : ℕ) → i < c .n → i < d .n → getD xs i z ≡ getD ys i z) →
+      ((i : ℕ) → c .n ≤ i → i < 256 → getD xs i z ≡ z) →
+      ((i : ℕ) → d .n ≤ i → i < 256 → getD ys i z ≡ z) →
+      xs ≡ ys
+  agree z xs ys lx ly below px py = ext-getD z xs ys (lx ∙ sym ly) (λ i l. at i (omega arith) (decLe (c .n) i))
+    where
+      at : (i : ℕ) → i < 256 → Dec (c .n ≤ i) → getD xs i z ≡ getD ys i z
+      at i l (yes p) = px i p l ∙ sym (py i (omega (arith, same-n)) l)
+      at i l (no p) = below i (omega arith) (omega (arith, same-n))
+
+  -- the rule's item, line and slot of a number, read off either cache
+  item : (i : ℕ) → i < c .n → i < d .n → itemOf c i ≡ itemOf d i
+  item i l m = sym (item-is c i l) ∙ ap (λ (v : Standing). itemAt (v .state .catalog) i) e ∙ item-is d i m
+
+  line : (i : ℕ) → i < c .n → i < d .n → usageOf c i ≡ usageOf d i
+  line i l m = sym (use-is c i l) ∙ ap (λ (v : Standing). useAt (v .figures) i) e ∙ use-is d i m
+
+  slot : (i : ℕ) → slotAt (stateOf c) i ≡ slotAt (stateOf d) i
+  slot i = ap (λ (v : Standing). slotAt (v .state) i) e
+
+  same-blocks : c .blocks ≡ d .blocks
+  same-blocks =
+      agree 0 (c .blocks) (d .blocks) (sc .blocks) (sd .blocks) (λ i l m. ap (λ (x : Item). x .blocks) (item i l m)) (λ i l b. nc .past i l b .blocks) (λ i l b. nd .past i l b .blocks)
+
+  same-load : c .load ≡ d .load
+  same-load =
+      agree 0 (c .load) (d .load) (sc .load) (sd .load) (λ i l m. ap (λ (x : Item). x .load) (item i l m)) (λ i l b. nc .past i l b .load) (λ i l b. nd .past i l b .load)
+
+  same-write : c .write ≡ d .write
+  same-write =
+      agree 0 (c .write) (d .write) (sc .write) (sd .write) (λ i l m. ap (λ (x : Item). x .write) (item i l m)) (λ i l b. nc .past i l b .write) (λ i l b. nd .past i l b .write)
+
+  same-held : c .held ≡ d .held
+  same-held =
+      agree false (c .held) (d .held) (sc .held) (sd .held) (λ i l m. sym (held-is c i l) ∙ ap held (slot i) ∙ held-is d i m) (λ i l b. nc .past i l b .held) (λ i l b. nd .past i l b .held)
+
+  same-loadcredit : c .loadcredit ≡ d .loadcredit
+  same-loadcredit =
+      agree 0 (c .loadcredit) (d .loadcredit) (sc .loadCredit) (sd .loadCredit) (λ i l m. sym (load-here c nc i l) ∙ ap loadCredit (slot i) ∙ load-here d nd i m) (λ i l b. nc .past i l b .loadCredit) (λ i l b. nd .past i l b .loadCredit)
+
+  same-writecredit : c .writecredit ≡ d .writecredit
+  same-writecredit =
+      agree 0 (c .writecredit) (d .writecredit) (sc .writeCredit) (sd .writeCredit) (λ i l m. sym (write-here c nc i l) ∙ ap writeCredit (slot i) ∙ write-here d nd i m) (λ i l b. nc .past i l b .writeCredit) (λ i l b. nd .past i l b .writeCredit)
+
+  same-tenths : c .tenths ≡ d .tenths
+  same-tenths =
+      agree 0 (c .tenths) (d .tenths) (sc .tenths) (sd .tenths) (λ i l m. ap (λ (u : Use). u .tenths) (line i l m)) (λ i l b. nc .past i l b .tenths) (λ i l b. nd .past i l b .tenths)
+
+  same-itemloads : c .itemloads ≡ d .itemloads
+  same-itemloads =
+      agree 0 (c .itemloads) (d .itemloads) (sc .loads) (sd .loads) (λ i l m. ap (λ (u : Use). u .loads) (line i l m)) (λ i l b. nc .past i l b .loads) (λ i l b. nd .past i l b .loads)
+
+  same-itemwritebacks : c .itemwritebacks ≡ d .itemwritebacks
+  same-itemwritebacks =
+      agree 0 (c .itemwritebacks) (d .itemwritebacks) (sc .writebacks) (sd .writebacks) (λ i l m. ap (λ (u : Use). u .writebacks) (line i l m)) (λ i l b. nc .past i l b .writebacks) (λ i l b. nd .past i l b .writebacks)
+
+  same-marks : marks (c .dirty) ≡ marks (d .dirty)
+  same-marks =
+      agree false (marks (c .dirty)) (marks (d .dirty)) (length-marks (c .dirty)) (length-marks (d .dirty))
+      (λ i l m.
+      marked-at (c .dirty) i (omega (arith, nc .few))
+      ∙ sym (dirty-here c nc i l) ∙ ap isDirty (slot i) ∙ dirty-here d nd i m
+      ∙ sym (marked-at (d .dirty) i (omega (arith, nc .few))))
+      (λ i l b. marked-at (c .dirty) i b ∙ nc .past i l b .dirty)
+      (λ i l b. marked-at (d .dirty) i b ∙ nd .past i l b .dirty)
+
+  same-dirty : c .dirty ≡ d .dirty
+  same-dirty = marks-tell (c .dirty) (d .dirty) (sc .dirty) (sd .dirty) (sc .words) (sd .words) same-marks
+
+  pub tells : c ≡ d
+  tells =
+      λ j.
+      record {
+        k = e j .k;
+        n = same-n j;
+        blocks = same-blocks j;
+        load = same-load j;
+        write = same-write j;
+        held = same-held j;
+        loadcredit = same-loadcredit j;
+        writecredit = same-writecredit j;
+        dirty = same-dirty j;
+        tenths = same-tenths j;
+        itemloads = same-itemloads j;
+        itemwritebacks = same-itemwritebacks j;
+        steps = e j .figures .totals .steps;
+        hits = e j .figures .totals .hits;
+        loads = e j .figures .totals .loads;
+        loadcost = e j .figures .totals .loadCost;
+        evictions = e j .figures .totals .evictions;
+        dirtyevictions = e j .figures .totals .dirtyEvictions;
+        writebacks = e j .figures .totals .writebacks;
+        writecost = e j .figures .totals .writeCost;
+        flushes = e j .figures .totals .flushes;
+        closed = e j .closed;
+      }
+
+-- there is one cache that stands where the rule stands
+pub becomes-one : (v : Standing) (c d : Cache) → Sizes c → Sizes d → Becomes v c → Becomes v d → c ≡ d
+becomes-one v c d sc sd bc bd = tells c d sc sd (bc .fields) (bd .fields) (bc .stands ∙ sym (bd .stands))
+
+-- and so there is one valid cache with a given view
+pub valid-one : (c d : Cache) → Sizes c → Sizes d → Valid c → Valid d → view c ≡ view d → c ≡ d
+valid-one c d sc sd vc vd e = tells c d sc sd (vc .fields) (vd .fields) e

@@ -1,0 +1,38 @@
+-- What the parts of the check of validity decide: the tests of the crate `validity`, on the fields of a cache.
+-- proofs/Checks.antt shows that together they are validity. Assumes nothing.
+use Prim.Native.Nat.{ℕ, _≤_, _<_}
+use mathlib.Core.Bool.{false}
+use lib.ListN.{getD}
+use Rattle.landlord.specs.Fold.{sumTo}
+use Rattle.landlord.specs.Rule.{used, heldCount}
+use Rattle.marks.specs.Marks.{marks, countSet}
+use Rattle.validity.specs.Tests.{Nothing, EntryOk, SumsOk}
+use Rattle.cache_state.specs.declared.Cache.{Cache}
+use Rattle.cache_state.specs.Valid.{Blank}
+use Rattle.cache_state.specs.View.{dirtyAt, stateOf}
+
+-- the same of place i
+abbrev pub NothingAt : Cache → ℕ → Type 0
+NothingAt c i =
+    Nothing (getD (c .blocks) i 0) (getD (c .load) i 0) (getD (c .write) i 0) (getD (c .held) i false) (getD (c .loadcredit) i 0)
+    (getD (c .writecredit) i 0) (dirtyAt c i) (getD (c .tenths) i 0) (getD (c .itemloads) i 0) (getD (c .itemwritebacks) i 0)
+
+-- every place past the catalog is blank
+pub record PastOk (c : Cache) : Type 0 where
+  pub each : (i : ℕ) → c .n ≤ i → i < 256 → Blank c i
+
+-- the same of the item at place i
+abbrev pub EntryAt : Cache → ℕ → Type 0
+EntryAt c i =
+    EntryOk (getD (c .blocks) i 0) (getD (c .load) i 0) (getD (c .write) i 0) (getD (c .held) i false) (dirtyAt c i) (c .closed)
+    (getD (c .loadcredit) i 0) (getD (c .writecredit) i 0) (getD (c .tenths) i 0) (c .steps)
+
+-- every item of the catalog is as it should be
+pub record EntriesOk (c : Cache) : Type 0 where
+  pub each : (i : ℕ) → i < c .n → EntryAt c i
+
+-- the same of the sums over the items of a cache. Its dirty items are counted by their marks.
+abbrev pub SumsOf : Cache → Type 0
+SumsOf c =
+    SumsOk (c .k) (used (stateOf c)) (c .evictions) (heldCount (stateOf c)) (c .loads) (c .writebacks) (countSet (marks (c .dirty))) (c .steps)
+    (sumTo (c .n) (λ i. getD (c .itemloads) i 0)) (sumTo (c .n) (λ i. getD (c .itemwritebacks) i 0))

@@ -1,0 +1,4 @@
+pub mod Rounds
+mod Rows
+mod Stores
+mod Tests
