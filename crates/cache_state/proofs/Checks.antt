@@ -3,25 +3,23 @@
 use mathlib.Core.Path.{_≡_, refl, sym, ap, _∙_}
 use mathlib.Core.Bool.{Bool, true, false, not, cond}
 use mathlib.Core.List.{List, _∷_}
-use Prim.Native.Nat.{ℕ, zero, suc, _+_, _-_, _≤_, _<_, _∣_}
-use native.Mathlib.Nat.{le-refl}
+use Prim.Native.Nat.{ℕ, zero, suc, _+_, _-_, _≤_, _<_}
 use native.Mathlib.Numerals.{add-one}
-use native.Mathlib.Decide.{decLe}
 use native.Mathlib.Omega.{arith}
 use borrow.Author.Count.{below-more}
-use lib.ListN.{length, getD}
+use lib.ListN.{getD}
 use Rattle.landlord.specs.Fold.{sumTo}
-use Rattle.landlord.specs.Catalog.{Item, ItemOk, itemAt, full}
+use Rattle.landlord.specs.Catalog.{ItemOk, itemAt}
 use Rattle.landlord.specs.Slot.{isDirty, loadCredit, writeCredit}
-use Rattle.landlord.specs.Rule.{size, slotAt, used, heldCount}
+use Rattle.landlord.specs.Rule.{size, slotAt}
 use Rattle.landlord.specs.Figures.{Use, useAt}
 use Rattle.landlord.specs.Claims.{SlotKept}
 use Rattle.landlord.specs.Valid.{dirtyCount, StandingOk}
-use Rattle.landlord.proofs.Sums.{sum-eq, sum-zero}
+use Rattle.landlord.proofs.Sums.{sum-eq}
 use Rattle.marks.specs.Marks.{marked, tabFrom, marks, countSet}
 use Rattle.cache_state.specs.declared.Cache.{Cache}
-use Rattle.cache_state.specs.View.{itemOf, dirtyAt, slotOf, catalogOf, stateOf, countsOf, figuresOf, view}
-use Rattle.cache_state.specs.Valid.{Blank, Emptied, Normal, Valid}
+use Rattle.cache_state.specs.View.{itemOf, dirtyAt, catalogOf, stateOf, countsOf, figuresOf, view}
+use Rattle.cache_state.specs.Valid.{Blank, Normal, Valid}
 use Rattle.validity.specs.Tests.{CountsOk}
 use Rattle.cache_state.specs.Parts.{NothingAt, PastOk, EntryAt, EntriesOk, SumsOf}
 use Rattle.validity.specs.Decided.{Decided}

@@ -11,7 +11,7 @@ use Rattle.cache_state.specs.declared.Cache.{Cache}
 use Rattle.cache_state.specs.Valid.{Blank}
 use Rattle.cache_state.specs.View.{dirtyAt, stateOf}
 
--- the same of place i
+-- nothing stands at place i: what `blank` decides of its numbers, and the same as `Blank`
 abbrev pub NothingAt : Cache → ℕ → Type 0
 NothingAt c i =
     Nothing (getD (c .blocks) i 0) (getD (c .load) i 0) (getD (c .write) i 0) (getD (c .held) i false) (getD (c .loadcredit) i 0)
@@ -21,7 +21,7 @@ NothingAt c i =
 pub record PastOk (c : Cache) : Type 0 where
   pub each : (i : ℕ) → c .n ≤ i → i < 256 → Blank c i
 
--- the same of the item at place i
+-- all that is asked of the item at place i: what `entry_ok` decides of its numbers
 abbrev pub EntryAt : Cache → ℕ → Type 0
 EntryAt c i =
     EntryOk (getD (c .blocks) i 0) (getD (c .load) i 0) (getD (c .write) i 0) (getD (c .held) i false) (dirtyAt c i) (c .closed)
@@ -31,7 +31,7 @@ EntryAt c i =
 pub record EntriesOk (c : Cache) : Type 0 where
   pub each : (i : ℕ) → i < c .n → EntryAt c i
 
--- the same of the sums over the items of a cache. Its dirty items are counted by their marks.
+-- what is asked of the sums over the items: what `balanced` decides of them. The dirty items are counted by their marks.
 abbrev pub SumsOf : Cache → Type 0
 SumsOf c =
     SumsOk (c .k) (used (stateOf c)) (c .evictions) (heldCount (stateOf c)) (c .loads) (c .writebacks) (countSet (marks (c .dirty))) (c .steps)

@@ -131,7 +131,7 @@ fn entries_ok(c: Cache) -> bool
     true
 }
 
-// The same, with the sums made.
+// Whether the sums over the items are what the capacity and the totals say.
 fn sums_ok(c: Cache) -> bool
     requires { ⌜ c .n ≤ 256 ⌝ }
     ensures { λ r. ⌜ Decided (SumsOf c) r ⌝ }
@@ -154,7 +154,7 @@ fn sums_ok(c: Cache) -> bool
     )
 }
 
-// Whether a cache is valid.
+// Whether a cache is valid. The loops come after the test of `n`, which bounds them.
 pub fn valid(c: Cache) -> bool
     ensures { λ r. ⌜ Decided (Valid c) r ⌝ }
 {

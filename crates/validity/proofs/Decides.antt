@@ -26,7 +26,3 @@ module _ {A : Type 0} where
 
   pub granted : {r : Bool} → Decided A r → not r ≡ false → A
   granted {r} d e = d .yes (not-false r e)
-
-  -- the last test of a check: with the tests before it, it is all that is left of the statement
-  pub last : {B : Type 0} {r : Bool} → Decided B r → (B → A) → (A → B) → Decided A r
-  last d f g = record { yes = λ e. f (d .yes e); only = λ a. d .only (g a) }

@@ -6,7 +6,7 @@ use Prim.Native.Nat.{ℕ, _+_, _*_, _≤_, _∣_}
 use Rattle.landlord.specs.Catalog.{full}
 use Rattle.landlord.specs.Figures.{Totals}
 
--- nothing stands at a place: what `Blank` says, on the numbers of that place
+-- nothing stands at a place: "empty, with counts 0", and 0 in the catalog's arrays too
 pub record Nothing (blocks load write : ℕ) (held : Bool) (loadCredit writeCredit : ℕ) (marked : Bool) (tenths loads writebacks : ℕ) : Type 0 where
   pub noBlocks : blocks ≡ 0
   pub noLoad : load ≡ 0

@@ -1,6 +1,6 @@
 -- `cache_state::total` meets its contract. The loop's invariant: the sum is that of the counts passed. Assumes nothing.
-use mathlib.Core.Path.{_≡_, sym, _∙_}
-use Prim.Native.Nat.{ℕ, _-_, _*_, _≤_}
+use mathlib.Core.Path.{_≡_}
+use Prim.Native.Nat.{_-_, _*_, _≤_}
 use lib.ListN.{getD}
 use Rattle.landlord.specs.Fold.{sumTo}
 use Rattle.cache_state.proofs.Checks.{sum-first, sum-more}

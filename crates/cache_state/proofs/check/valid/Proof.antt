@@ -1,9 +1,8 @@
 -- `cache_state::valid` meets its contract: the five tests find the parts of which validity is made. Assumes nothing.
-use Prim.Native.Nat.{ℕ, _≤_}
 use mir.Val.{Fits}
 use mir.Syntax.{w16}
 use lib.ListN.{getD}
-use Rattle.validity.proofs.Decides.{no, denied, granted, last}
+use Rattle.validity.proofs.Decides.{no, denied, granted}
 use Rattle.cache_state.proofs.Checks.{Costs, parts-of, valid-of}
 use borrow.Author.Needs.{needs}
 use native.Mathlib.Omega.{arith}
@@ -46,17 +45,18 @@ counts-ok-requires c κs = search needs
 returns-5 : tie.Need-returns-5
 returns-5 c =
     let s = c .before .before .before .before .before .before .before .before .before .args .c in
-    last (c .counts-ok .ensures)
-    (λ counts.
-    valid-of s (costs (c .before .before .before .before .before .before .before .before .before))
     record {
-      few = omega arith;
-      past = granted (c .before .before .before .before .before .before .past-ok .ensures) (c .before .before .before .before .before .if2 .left);
-      entries = granted (c .before .before .before .before .entries-ok .ensures) (c .before .before .before .if3 .left);
-      sums = granted (c .before .before .sums-ok .ensures) (c .before .if4 .left);
-      counts = counts;
-    })
-    (λ v. parts-of s v .counts)
+      yes = λ e.
+          valid-of s (costs (c .before .before .before .before .before .before .before .before .before))
+          record {
+            few = omega arith;
+            past = granted (c .before .before .before .before .before .before .past-ok .ensures) (c .before .before .before .before .before .if2 .left);
+            entries = granted (c .before .before .before .before .entries-ok .ensures) (c .before .before .before .if3 .left);
+            sums = granted (c .before .before .sums-ok .ensures) (c .before .if4 .left);
+            counts = c .counts-ok .ensures .yes e;
+          };
+      only = λ v. c .counts-ok .ensures .only (parts-of s v .counts);
+    }
 
 pub valid-spec : {M : Type 1} → statement M
 valid-spec =
