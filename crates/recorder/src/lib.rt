@@ -1,1 +1,126 @@
-// Exports.
+// The functions that the firmware calls from C, on a state in lent bytes. Each answers 0 or the refusal's number; refused, every
+// lent byte is as before. Nothing is asked of the caller: any bytes, any lengths and any numbers are answered.
+ghost use mathlib.Core.Path.{_≡_};
+ghost use Prim.Native.Nat.{_≤_};
+ghost use lib.ListN.{length};
+ghost use Rattle.landlord.specs.Calls.{take, close};
+ghost use Rattle.recorder.specs.Lent.{CalledLent, OpenedLent};
+ghost use Rattle.recorder.specs.Catalogs.{BlocksIn, CostsIn};
+
+// The bytes of a state.
+const STATE_BYTES: usize = 8792;
+
+fn wide(x: u8) -> u16
+    ensures { λ r. ⌜ r ≡ x ⌝ }
+{
+    x as u16
+}
+
+// The blocks of the items, of which there are at most 256.
+fn blocks_in(catalog: &[u8]) -> [u8; 256]
+    requires { ⌜ length (now catalog) ≤ 1280 ⌝ }
+    ensures { λ r. ⌜ BlocksIn (now (catalog .entry)) r ⌝ }
+{
+    let n = catalog.len() / 5;
+    let mut out = [0u8; 256];
+    let mut at = 0;
+    let mut i = 0;
+    while i < n {
+        out[i] = catalog[at];
+        at = at + 5;
+        i = i + 1;
+    }
+    out
+}
+
+// The costs of the items, two bytes each, the low one first; `part` is the place of the first in an item's five bytes.
+fn costs_in(catalog: &[u8], part: usize) -> [u16; 256]
+    requires { ⌜ (length (now catalog) ≤ 1280) × (part ≤ 3) ⌝ }
+    ensures { λ r. ⌜ CostsIn (now (catalog .entry)) part r ⌝ }
+{
+    let n = catalog.len() / 5;
+    let mut out = [0u16; 256];
+    let mut at = part;
+    let mut i = 0;
+    while i < n {
+        out[i] = wide(catalog[at]) + wide(catalog[at + 1]) * 256;
+        at = at + 5;
+        i = i + 1;
+    }
+    out
+}
+
+// Opens the state for a cache of `k` blocks and the items of the catalog, five bytes each.
+#[no_mangle]
+pub extern "C" fn recorder_open(state: &mut [u8], k: u32, catalog: &[u8]) -> u32
+    ensures { λ r. ⌜ OpenedLent (now (state .entry)) k (now (catalog .entry)) r (now (state .exit)) ⌝ }
+{
+    if state.len() != STATE_BYTES {
+        return 17;
+    }
+    let size = catalog.len();
+    if size % 5 != 0 {
+        return 3;
+    }
+    if 1280 < size {
+        return 3;
+    }
+    let blocks = blocks_in(catalog);
+    let load = costs_in(catalog, 1);
+    let write = costs_in(catalog, 3);
+    let r = cache::open(k, size / 5, blocks, load, write);
+    let number = r.number;
+    if number != 0 {
+        return number;
+    }
+    let next = r.cache;
+    layout::fitting(next);
+    layout::encode(next, state);
+    0
+}
+
+// Takes one step: `kind` is the code of its letter, 82 for R, 87 for W, 76 for L.
+#[no_mangle]
+pub extern "C" fn recorder_step(state: &mut [u8], kind: u32, item: u32, minutes: u32) -> u32
+    ensures { λ r. ⌜ CalledLent (now (state .entry)) (take kind item minutes) r (now (state .exit)) ⌝ }
+{
+    if state.len() != STATE_BYTES {
+        return 17;
+    }
+    if !layout::flagged(state) {
+        return 17;
+    }
+    let c = layout::decode(state);
+    let r = cache::take(c, kind, item, minutes);
+    let number = r.number;
+    if number != 0 {
+        return number;
+    }
+    let next = r.cache;
+    layout::fitting(next);
+    layout::encode(next, state);
+    0
+}
+
+// Closes the log.
+#[no_mangle]
+pub extern "C" fn recorder_close(state: &mut [u8]) -> u32
+    ensures { λ r. ⌜ CalledLent (now (state .entry)) close r (now (state .exit)) ⌝ }
+{
+    if state.len() != STATE_BYTES {
+        return 17;
+    }
+    if !layout::flagged(state) {
+        return 17;
+    }
+    let c = layout::decode(state);
+    let r = cache::shut(c);
+    let number = r.number;
+    if number != 0 {
+        return number;
+    }
+    let next = r.cache;
+    layout::fitting(next);
+    layout::encode(next, state);
+    0
+}
