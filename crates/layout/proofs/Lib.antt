@@ -1,4 +1,4 @@
 pub mod Rounds
-mod Rows
+pub mod Rows
 mod Stores
 mod Tests

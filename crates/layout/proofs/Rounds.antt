@@ -1,7 +1,7 @@
 -- The layout loses nothing: a cache that fits, stored and read back, is that cache, and bytes whose flags are 0 or 1, read and stored
 -- again, are those bytes. Assumes nothing.
-use mathlib.Core.Path.{_≡_, refl, sym, ap, _∙_}
-use mathlib.Core.List.{List, [], _∷_, _++_, append-nil}
+use mathlib.Core.Path.{_≡_, refl, ap, _∙_}
+use mathlib.Core.List.{List, [], _++_, append-nil}
 use mathlib.Core.Bool.{Bool, true, false, not}
 use Prim.Native.Nat.{ℕ, suc, _+_, _*_, _^_, _≤_, _<_}
 use native.Mathlib.Omega.{arith}
@@ -40,6 +40,7 @@ packed c w =
     (numbers 2 256 (c .write) (w .write)
     (numbers 1 256 (c .blocks) (w .blocks) (marks 256 (c .held) (w .held) end)))))))))))))))))))))
 
+-- so the bytes of a cache are all the bytes of the state
 pub length-whole : (c : Cache) → Whole c → length (bytesOf c) ≡ stateBytes
 unfolding bytesOf
 length-whole c w = omega (arith, packed-length (packed c w))
@@ -47,6 +48,7 @@ length-whole c w = omega (arith, packed-length (packed c w))
 pub length-bytesOf : (c : Cache) → Fits c → length (bytesOf c) ≡ stateBytes
 length-bytesOf c f = length-whole c (f .whole)
 
+-- and each is a byte
 pub bytesOf-below : (c : Cache) → Fits c → Below 256 (bytesOf c)
 unfolding bytesOf
 bytesOf-below c f = packed-below (packed c (f .whole))
@@ -78,10 +80,12 @@ module _ (c : Cache) (f : Fits c) where
   unfolding bytesOf rows
   stands n l = reach (packed c (f .whole)) n (getD (rows c) n (0, []) .0) l (omega arith)
 
+  -- the cache's own flag
   closed-at : un (take 4 (drop 36 (bytesOf c))) ≡ flag (c .closed)
   unfolding rows
   closed-at = number-at 4 (flag (c .closed)) 36 (bytesOf c) _ (omega (arith, flag-lt (c .closed))) (stands 9 (omega arith))
 
+  -- a cache that fits, stored and read back, is that cache
   pub round : cacheOf (bytesOf c) ≡ c
   unfolding rows
   round = λ i.
@@ -110,6 +114,7 @@ module _ (c : Cache) (f : Fits c) where
         held = flags-at 256 8536 (c .held) (bytesOf c) _ (f .whole .held) (stands 21 (omega arith)) i;
       }
 
+  -- the flags of a cache are stored as 0 or 1
   pub flagged-bytesOf : Flagged (bytesOf c)
   unfolding rows
   flagged-bytesOf = record {
@@ -120,6 +125,7 @@ module _ (c : Cache) (f : Fits c) where
 -- ---- read and stored again
 
 module _ (b : List ℕ) (h : Below 256 b) where
+  -- a number, or each of several, that is read has room in the bytes that it was read from
   number-fits : (w at : ℕ) → un (take w (drop at b)) < 256 ^ w
   number-fits w at = un-take-lt w (drop at b) (below-drop 256 at b h)
 
@@ -172,6 +178,7 @@ module _ (b : List ℕ) (e : length b ≡ stateBytes) (h : Below 256 b) where
   numbers-back w n at rest l r = rw (r, run-back w n at b (omega arith) h) (rejoin b at (n * w) (at + n * w) refl)
 
   module _ (g : Flagged b) where
+    -- the two kinds of flags
     closed-back : (rest : List ℕ) → rest ≡ drop 40 b → le 4 (flag (not (eqb (un (take 4 (drop 36 b))) 0))) ++ rest ≡ drop 36 b
     closed-back rest r = rw (flag-byte (un (take 4 (drop 36 b))) (g .closed)) (number-back 4 36 rest (omega arith) r)
 
@@ -180,6 +187,7 @@ module _ (b : List ℕ) (e : length b ≡ stateBytes) (h : Below 256 b) where
         rw (append-nil, flags-back 256 8536 b (omega arith) (g .held))
         (take-all 256 (drop 8536 b) (omega (arith, length-drop 8536 b)))
 
+    -- bytes whose flags are 0 or 1, read and stored again, are those bytes
     pub back : bytesOf (cacheOf b) ≡ b
     unfolding bytesOf rows
     back =

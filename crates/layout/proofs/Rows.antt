@@ -1,11 +1,11 @@
 -- Rows that lie end to end: stored one by one they are one store of their bytes, and each is found at its place. Assumes nothing.
-use mathlib.Core.Path.{_≡_, refl, sym, ap, _∙_}
+use mathlib.Core.Path.{_≡_, refl, _∙_}
 use mathlib.Core.List.{List, [], _∷_, _++_}
+use mathlib.Core.Bool.{Bool}
 use Prim.Native.Nat.{ℕ, zero, suc, _+_, _*_, _-_, _≤_, _<_}
 use native.Mathlib.Omega.{arith}
 use lib.ListN.{length, drop, getD, length-append}
 use lib.Seq.{sets}
-use mathlib.Core.Bool.{Bool}
 use Rattle.fields.specs.LittleEndian.{Below, le, run, flags}
 use Rattle.fields.proofs.Laws.{length-le, length-run, length-flags, le-lt, run-lt, flags-lt, below-append, past, sets-append}
 use Rattle.layout.specs.Layout.{Row, joined, stored}
@@ -25,6 +25,7 @@ numbers w n vs e p = row {x = run w vs} (n * w) (rw (length-run, e)) (run-lt w v
 pub marks : {at to : ℕ} {rs : List Row} (n : ℕ) (fs : List Bool) → length fs ≡ n → Packed (at + n) rs to → Packed at ((at, flags fs) ∷ rs) to
 marks n fs e p = row {x = flags fs} n (length-flags fs ∙ e) (λ i. omega (arith, flags-lt fs i)) p
 
+-- their bytes reach from the one place to the other, and each is a byte
 pub packed-length : {at to : ℕ} {rs : List Row} → Packed at rs to → at + length (joined rs) ≡ to
 packed-length end = omega arith
 packed-length (row {x = x} {rs = rs} w e h p) = omega (arith, length-append x (joined rs), packed-length p)

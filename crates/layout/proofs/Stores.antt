@@ -11,7 +11,7 @@ use Rattle.fields.specs.LittleEndian.{le, un, run, unrun}
 use Rattle.fields.proofs.Laws.{sets-all}
 use Rattle.cache_state.specs.declared.Cache.{Cache}
 use Rattle.layout.specs.Layout.{stateBytes, joined, stored, flag, rows, bytesOf, Whole}
-use Rattle.layout.proofs.Rows.{Packed, end, number, packed-length, packed-stored}
+use Rattle.layout.proofs.Rows.{end, number, packed-stored}
 use Rattle.layout.proofs.Rounds.{packed, length-whole}
 
 -- a yes or no, as the code makes it a number
@@ -19,6 +19,7 @@ pub as-flag : (f : Bool) → boolByte f ≡ flag f
 as-flag true = refl
 as-flag false = refl
 
+-- four numbers are the four that stand at its places
 run-four : (xs : List ℕ) → length xs ≡ 4 → le 8 (getD xs 0 0) ++ (le 8 (getD xs 1 0) ++ (le 8 (getD xs 2 0) ++ (le 8 (getD xs 3 0) ++ []))) ≡ run 8 xs
 unfolding run
 run-four [] e = absurd (omega arith)

@@ -1,6 +1,6 @@
 // The fixed layout of a cache in 8,792 lent bytes: stored, read back, and the test that every flag is 0 or 1.
 //
-// specs/Layout.antt has each field's place and width. The fields are stored and read in groups of a few neighbours.
+// specs/Layout.antt has each field's place and width. Neighbouring fields are stored together, a few at a time.
 ghost use mathlib.Core.Path.{_≡_};
 ghost use mathlib.Core.List.{[], _∷_};
 ghost use Prim.Native.Nat.{_^_, _<_};
@@ -12,7 +12,7 @@ use cache_state::Cache;
 
 // ---- storing
 
-// The bytes 0 to 19.
+// Stores the capacity, the size of the catalog and the counts of steps, hits and loads: the bytes 0 to 19.
 fn put_head(b: &mut [u8], k: u32, n: usize, steps: u32, hits: u32, loads: u32)
     requires { ⌜ length (now b) ≡ stateBytes ⌝ }
     ensures { λ _. ⌜ now (b .exit) ≡ stored (now (b .entry)) ((0, le 4 k) ∷ (4, le 4 n) ∷ (8, le 4 steps) ∷ (12, le 4 hits) ∷ (16, le 4 loads) ∷ []) ⌝ }
@@ -24,7 +24,7 @@ fn put_head(b: &mut [u8], k: u32, n: usize, steps: u32, hits: u32, loads: u32)
     fields::put(b, 16, 4, loads as u64);
 }
 
-// The bytes 20 to 39.
+// Stores the other counts, and whether the cache is closed: the bytes 20 to 39.
 fn put_totals(
     b: &mut [u8],
     evictions: u32,
@@ -43,7 +43,7 @@ fn put_totals(
     fields::put(b, 36, 4, closed as u64);
 }
 
-// The bytes 40 to 87.
+// Stores the two costs and the dirty marks: the bytes 40 to 87.
 fn put_costs(b: &mut [u8], loadcost: u64, writecost: u64, dirty: [u64; 4])
     requires { ⌜ length (now b) ≡ stateBytes ⌝ }
     ensures { λ _. ⌜ now (b .exit) ≡ stored (now (b .entry)) ((40, le 8 loadcost) ∷ (48, le 8 writecost) ∷ (56, run 8 dirty) ∷ []) ⌝ }
@@ -56,7 +56,7 @@ fn put_costs(b: &mut [u8], loadcost: u64, writecost: u64, dirty: [u64; 4])
     fields::put(b, 80, 8, dirty[3]);
 }
 
-// The bytes 88 to 4183.
+// Stores the credits: the bytes 88 to 4183.
 fn put_credits<'a>(b: &mut [u8], load: &'a [u64; 256], write: &'a [u64; 256])
     requires { ⌜ length (now b) ≡ stateBytes ⌝ }
     ensures { λ _. ⌜ now (b .exit) ≡ stored (now (b .entry)) ((88, run 8 (now (load .entry))) ∷ (2136, run 8 (now (write .entry))) ∷ []) ⌝ }
@@ -65,7 +65,7 @@ fn put_credits<'a>(b: &mut [u8], load: &'a [u64; 256], write: &'a [u64; 256])
     fields::put_run8(b, 2136, write);
 }
 
-// The bytes 4184 to 7255.
+// Stores what the report says of each item: the bytes 4184 to 7255.
 fn put_uses<'a>(
     b: &mut [u8],
     tenths: &'a [u32; 256],
@@ -80,7 +80,7 @@ fn put_uses<'a>(
     fields::put_run4(b, 6232, writebacks);
 }
 
-// The bytes 7256 to 8791.
+// Stores the catalog, and which items are held: the bytes 7256 to 8791.
 fn put_catalog<'a>(
     b: &mut [u8],
     load: &'a [u16; 256],
@@ -97,7 +97,7 @@ fn put_catalog<'a>(
     fields::put_flags(b, 8536, held);
 }
 
-// Stores the cache over all of `b`.
+// Stores the cache over all of `b`. Of `n` the four low bytes are stored, so a cache that is to be read back has to fit.
 pub fn encode(c: Cache, b: &mut [u8])
     requires { ⌜ length (now b) ≡ stateBytes ⌝ }
     ensures { λ _. ⌜ now (b .exit) ≡ bytesOf c ⌝ }
@@ -120,7 +120,7 @@ pub fn encode(c: Cache, b: &mut [u8])
 
 // ---- reading
 
-// The bytes 56 to 87.
+// The dirty marks: the bytes 56 to 87.
 fn get_dirty(b: &[u8]) -> [u64; 4]
     requires { ⌜ length (now b) ≡ stateBytes ⌝ }
     ensures { λ r. ⌜ r ≡ numbers (now (b .entry)) 56 4 8 ⌝ }
@@ -133,7 +133,7 @@ fn get_dirty(b: &[u8]) -> [u64; 4]
     ]
 }
 
-// The cache that the bytes stand for: any other number than 0 is read as a flag that is set.
+// The cache that the bytes stand for. A flag is read as set unless its number is 0.
 pub fn decode(b: &[u8]) -> Cache
     requires { ⌜ length (now b) ≡ stateBytes ⌝ }
     ensures { λ r. ⌜ r ≡ cacheOf (now (b .entry)) ⌝ }

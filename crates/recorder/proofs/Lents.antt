@@ -5,7 +5,9 @@ use mathlib.Core.Bool.{Bool, true, false, cond, _&&_, false≢true}
 use mathlib.Core.List.{List}
 use Prim.Native.Nat.{ℕ, _+_, _*_, _/_, _%_, _^_, _≤_, _<_}
 use native.Mathlib.Omega.{arith}
-use lib.ListN.{length, getD}
+use native.Mathlib.Decide.{ℕ-discrete}
+use lib.ListN.{length, getD, set}
+use lib.Seq.{getD-set-same, getD-set-other}
 use lib.Dec.{eqb, leb}
 use borrow.Author.Tests.{eq-eqb, ne-eqb, le-leb, lt-leb}
 use Rattle.landlord.specs.Fold.{tab}
@@ -90,4 +92,76 @@ lent-taken b left call r h e fits is size flags =
       foul = λ bad.
         let n : r .number ≡ 17 = h .foul (λ ok. bad (record { size = size; flags = flags; cache = ok })) .0 in
         absurd (let z : _≡_ {A = ℕ} 0 17 = sym e ∙ n in omega arith)
+    }
+
+-- one entry more stored
+pub copy-more :
+  (f : ℕ → ℕ) (out : List ℕ) (i v : ℕ) →
+  i < length out →
+  v ≡ f i →
+  ((j : ℕ) → j < i → getD out j 0 ≡ f j) →
+  (j : ℕ) → j < i + 1 → getD (set out i v) j 0 ≡ f j
+copy-more f out i v l e h j b = go (ℕ-discrete j i)
+  where
+    go : Dec (j ≡ i) → getD (set out i v) j 0 ≡ f j
+    go (yes q) = ap (λ (z : ℕ). getD (set out i v) z 0) q ∙ getD-set-same out i v 0 l ∙ e ∙ ap f (sym q)
+    go (no q) = getD-set-other out i j v 0 q ∙ h j (omega arith)
+
+-- the arrays read from lent bytes make up their catalog
+pub catalog-same :
+  (xs blocks load write : List ℕ) →
+  BlocksIn xs blocks →
+  CostsIn xs 1 load →
+  CostsIn xs 3 write →
+  catalogFrom (length xs / 5) blocks load write ≡ catalogIn xs
+unfolding catalogFrom catalogIn
+catalog-same xs blocks load write hb hl hw =
+    tab-eq (length xs / 5) _ _
+    (λ i l z. record {
+      blocks = hb .each i l z;
+      load = (hl .each i l ∙ ap (λ (n : ℕ). getD xs (5 * i + 1) 0 + 256 * getD xs n 0) (let e : 5 * i + 1 + 1 ≡ 5 * i + 2 = omega arith in e)) z;
+      write = (hw .each i l ∙ ap (λ (n : ℕ). getD xs (5 * i + 3) 0 + 256 * getD xs n 0) (let e : 5 * i + 3 + 1 ≡ 5 * i + 4 = omega arith in e)) z
+    })
+
+-- the opening: refused for the state's length, for the catalog's length, by the table; or taken
+still : (b xs : List ℕ) (k n : ℕ) → n ≡ openingNumber b k xs → n ≢ 0 → OpenedLent b k xs n b
+still b xs k n e d = record { answer = e; taken = λ z. absurd (d z); empty = λ z. absurd (d z); refused = λ z. refl }
+
+pub open-length : (b xs : List ℕ) (k : ℕ) → length b ≢ stateBytes → OpenedLent b k xs 17 b
+open-length b xs k e = still b xs k 17 (unfold openingNumber in rw (ne-eqb (length b) stateBytes e)) (λ z. let y : _≡_ {A = ℕ} 17 0 = z in omega arith)
+
+pub open-ragged : (b xs : List ℕ) (k : ℕ) → length b ≡ stateBytes → length xs % 5 ≢ 0 → OpenedLent b k xs 3 b
+open-ragged b xs k e d =
+    still b xs k 3 (unfold openingNumber in rw (eq-eqb (length b) stateBytes e, ne-eqb (length xs % 5) 0 d)) (λ z. let y : _≡_ {A = ℕ} 3 0 = z in omega arith)
+
+pub open-long : (b xs : List ℕ) (k : ℕ) → length b ≡ stateBytes → length xs % 5 ≡ 0 → 1280 < length xs → OpenedLent b k xs 3 b
+open-long b xs k e d l =
+    still b xs k 3 (unfold openingNumber in rw (eq-eqb (length b) stateBytes e, eq-eqb (length xs % 5) 0 d, lt-leb (length xs) 1280 l)) (λ z. let y : _≡_ {A = ℕ} 3 0 = z in omega arith)
+
+asked : (b xs : List ℕ) (k : ℕ) → length b ≡ stateBytes → length xs % 5 ≡ 0 → length xs ≤ 1280 → openingNumber b k xs ≡ openingRefusal k (catalogIn xs)
+unfolding openingNumber
+asked b xs k e d l = rw (eq-eqb (length b) stateBytes e, eq-eqb (length xs % 5) 0 d, le-leb (length xs) 1280 l)
+
+pub open-refused : (b xs : List ℕ) (k : ℕ) (r : Reply) → length b ≡ stateBytes → length xs % 5 ≡ 0 → length xs ≤ 1280 → Opened k (catalogIn xs) r → r .number ≢ 0 → OpenedLent b k xs (r .number) b
+open-refused b xs k r e d l o n = still b xs k (r .number) (o .number ∙ sym (asked b xs k e d l)) n
+
+pub open-taken :
+  (b left xs : List ℕ) (k : ℕ) (r : Reply) →
+  length b ≡ stateBytes →
+  length xs % 5 ≡ 0 →
+  length xs ≤ 1280 →
+  Opened k (catalogIn xs) r →
+  r .number ≡ 0 →
+  (r .cache .n < 2 ^ 32 → Fits (r .cache)) →
+  left ≡ bytesOf (r .cache) →
+  OpenedLent b k xs 0 left
+open-taken b left xs k r e d l o n fits is =
+    let ranges = opening-taken k (catalogIn xs) (sym (o .number) ∙ n) in
+    let so : Becomes (opened k (catalogIn xs)) (r .cache) = o .taken n in
+    let f : Fits (r .cache) = fits (let z : r .cache .n ≤ 256 = so .fields .few in omega arith) in
+    record {
+      answer = sym n ∙ o .number ∙ sym (asked b xs k e d l);
+      taken = λ z. subst (LentBecomes (opened k (catalogIn xs))) (sym is) (stored (opened k (catalogIn xs)) (r .cache) (ok-opened k (catalogIn xs) (ranges .0) (ranges .1)) so fits);
+      empty = λ z i m. subst (λ (c : Cache). EmptyPlace c i) (sym (ap cacheOf is ∙ round (r .cache) f)) (o .empty i m);
+      refused = λ z. absurd (z refl)
     }

@@ -1,8 +1,12 @@
 -- `layout::decode` meets its contract: each field is what its reader found at its place. Assumes nothing.
+use mathlib.Core.Path.{_≡_}
+use mathlib.Core.List.{List}
 use mathlib.Core.Bool.{not}
+use Prim.Native.Nat.{ℕ}
 use native.Mathlib.Omega.{arith}
 use lib.Dec.{eqb}
 use borrow.Author.Needs.{needs}
+use Rattle.layout.specs.Layout.{number, numbers}
 use Rattle.layout.proofs.decode.Statement.{statement}
 use Rattle.layout.proofs.decode.Tie as tie
 
@@ -96,31 +100,39 @@ get-run1-requires c κs = omega (arith, c .before .before .before .before .befor
 get-flags-requires : tie.Need-get-flags-requires
 get-flags-requires c κs = omega (arith, c .before .before .before .before .before .before .before .before .before .before .before .before .before .before .before .before .before .before .before .before .before .before .pre)
 
+-- a number, or numbers, as the reader has found them, with the place and the width at which the layout has them
+one : (b : List ℕ) (at w : ℕ) {v : ℕ} → v ≡ number b at w → v ≡ number b at w
+one b at w e = e
+
+many : (b : List ℕ) (at n w : ℕ) {vs : List ℕ} → vs ≡ numbers b at n w → vs ≡ numbers b at n w
+many b at n w e = e
+
 returns : tie.Need-returns
 returns c =
+    let b = c .before .before .before .before .before .before .before .before .before .before .before .before .before .before .before .before .before .before .before .before .before .before .before .args .b .now in
     λ i.
     record {
-      k = c .before .before .before .before .before .before .before .before .before .before .before .before .before .before .before .before .before .before .before .before .before .get .ensures .0 i;
-      n = c .before .before .before .before .before .before .before .before .before .before .before .before .before .before .before .before .before .before .before .before .get2 .ensures .0 i;
-      steps = c .before .before .before .before .before .before .before .before .before .before .before .before .before .before .before .before .before .before .before .get3 .ensures .0 i;
-      hits = c .before .before .before .before .before .before .before .before .before .before .before .before .before .before .before .before .before .before .get4 .ensures .0 i;
-      loads = c .before .before .before .before .before .before .before .before .before .before .before .before .before .before .before .before .before .get5 .ensures .0 i;
-      evictions = c .before .before .before .before .before .before .before .before .before .before .before .before .before .before .before .before .get6 .ensures .0 i;
-      dirtyevictions = c .before .before .before .before .before .before .before .before .before .before .before .before .before .before .before .get7 .ensures .0 i;
-      writebacks = c .before .before .before .before .before .before .before .before .before .before .before .before .before .before .get8 .ensures .0 i;
-      flushes = c .before .before .before .before .before .before .before .before .before .before .before .before .before .get9 .ensures .0 i;
-      closed = not (eqb (c .before .before .before .before .before .before .before .before .before .before .before .before .get10 .ensures .0 i) 0);
-      loadcost = c .before .before .before .before .before .before .before .before .before .before .before .get11 .ensures .0 i;
-      writecost = c .before .before .before .before .before .before .before .before .before .before .get12 .ensures .0 i;
-      dirty = c .before .before .before .before .before .before .before .before .before .get-dirty .ensures i;
-      loadcredit = c .before .before .before .before .before .before .before .before .get-run8 .ensures i;
-      writecredit = c .before .before .before .before .before .before .before .get-run82 .ensures i;
-      tenths = c .before .before .before .before .before .before .get-run4 .ensures i;
-      itemloads = c .before .before .before .before .before .get-run42 .ensures i;
-      itemwritebacks = c .before .before .before .before .get-run43 .ensures i;
-      load = c .before .before .before .get-run2 .ensures i;
-      write = c .before .before .get-run22 .ensures i;
-      blocks = c .before .get-run1 .ensures i;
+      k = one b 0 4 (c .before .before .before .before .before .before .before .before .before .before .before .before .before .before .before .before .before .before .before .before .before .get .ensures .0) i;
+      n = one b 4 4 (c .before .before .before .before .before .before .before .before .before .before .before .before .before .before .before .before .before .before .before .before .get2 .ensures .0) i;
+      steps = one b 8 4 (c .before .before .before .before .before .before .before .before .before .before .before .before .before .before .before .before .before .before .before .get3 .ensures .0) i;
+      hits = one b 12 4 (c .before .before .before .before .before .before .before .before .before .before .before .before .before .before .before .before .before .before .get4 .ensures .0) i;
+      loads = one b 16 4 (c .before .before .before .before .before .before .before .before .before .before .before .before .before .before .before .before .before .get5 .ensures .0) i;
+      evictions = one b 20 4 (c .before .before .before .before .before .before .before .before .before .before .before .before .before .before .before .before .get6 .ensures .0) i;
+      dirtyevictions = one b 24 4 (c .before .before .before .before .before .before .before .before .before .before .before .before .before .before .before .get7 .ensures .0) i;
+      writebacks = one b 28 4 (c .before .before .before .before .before .before .before .before .before .before .before .before .before .before .get8 .ensures .0) i;
+      flushes = one b 32 4 (c .before .before .before .before .before .before .before .before .before .before .before .before .before .get9 .ensures .0) i;
+      closed = not (eqb (one b 36 4 (c .before .before .before .before .before .before .before .before .before .before .before .before .get10 .ensures .0) i) 0);
+      loadcost = one b 40 8 (c .before .before .before .before .before .before .before .before .before .before .before .get11 .ensures .0) i;
+      writecost = one b 48 8 (c .before .before .before .before .before .before .before .before .before .before .get12 .ensures .0) i;
+      dirty = many b 56 4 8 (c .before .before .before .before .before .before .before .before .before .get-dirty .ensures) i;
+      loadcredit = many b 88 256 8 (c .before .before .before .before .before .before .before .before .get-run8 .ensures) i;
+      writecredit = many b 2136 256 8 (c .before .before .before .before .before .before .before .get-run82 .ensures) i;
+      tenths = many b 4184 256 4 (c .before .before .before .before .before .before .get-run4 .ensures) i;
+      itemloads = many b 5208 256 4 (c .before .before .before .before .before .get-run42 .ensures) i;
+      itemwritebacks = many b 6232 256 4 (c .before .before .before .before .get-run43 .ensures) i;
+      load = many b 7256 256 2 (c .before .before .before .get-run2 .ensures) i;
+      write = many b 7768 256 2 (c .before .before .get-run22 .ensures) i;
+      blocks = many b 8280 256 1 (c .before .get-run1 .ensures) i;
       held = c .get-flags .ensures i;
     }
 

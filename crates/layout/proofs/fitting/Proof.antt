@@ -1,4 +1,4 @@
--- `layout::fitting` meets its contract: the array's lengths and the numbers' ranges are those of the parameter's type. Assumes nothing.
+-- `layout::fitting` meets its contract: the arrays' lengths and the numbers' ranges are those of the parameter's type. Assumes nothing.
 use Prim.Native.Nat.{ℕ, _^_, _<_}
 use mir.Syntax.{Width, w8, w16, w32, w64}
 use mir.Val.{bits}
@@ -9,6 +9,7 @@ use Rattle.layout.specs.Layout.{Whole}
 use Rattle.layout.proofs.fitting.Statement.{statement}
 use Rattle.layout.proofs.fitting.Tie as tie
 
+-- what it is to fit a width
 fits-below : (w : Width) (v : ℕ) → val.Fits w v → v < 2 ^ bits w
 fits-below w v f = f .fits
 
