@@ -28,7 +28,7 @@ pub foul-reply : (c : Cache) (call : Call) (r : Bool) → Decided (Valid c) r �
 foul-reply c call r d e =
     record {
       fine = λ ok. absurd (false≢true (sym e ∙ d .only ok));
-      foul = λ none. (refl, refl)
+      foul = λ none. (refl, refl);
     }
 
 -- an answer to a valid cache is all that is asked
@@ -56,11 +56,11 @@ taken-reply c r call ok e h =
     goes = rw (sym e)
 
 pub step-reply :
-  (c r : Cache) (kind i m : ℕ) →
-  Valid c →
-  0 ≡ refusalNow (view c) (take kind i m) →
-  Becomes (took writeFirst (view c) (stepOf kind i m)) r →
-  Called c (take kind i m) (reply 0 r)
+    (c r : Cache) (kind i m : ℕ) →
+    Valid c →
+    0 ≡ refusalNow (view c) (take kind i m) →
+    Becomes (took writeFirst (view c) (stepOf kind i m)) r →
+    Called c (take kind i m) (reply 0 r)
 step-reply c r kind i m ok e h = taken-reply c r (take kind i m) ok e h
 
 -- the closing: closed already, or open
@@ -92,7 +92,7 @@ closedOf q =
       writebacks = q .writebacks;
       writecost = q .writecost;
       flushes = q .flushes;
-      closed = true
+      closed = true;
     }
 
 closed-normal : (q : Cache) → Normal q → Normal (closedOf q)
@@ -100,49 +100,51 @@ closed-normal q n =
     record {
       few = n .few;
       past = λ i a b.
-        let x = n .past i a b in
-        record {
-          blocks = x .blocks;
-          load = x .load;
-          write = x .write;
-          held = x .held;
-          loadCredit = x .loadCredit;
-          writeCredit = x .writeCredit;
-          dirty = x .dirty;
-          tenths = x .tenths;
-          loads = x .loads;
-          writebacks = x .writebacks
-        };
+          let x = n .past i a b in
+          record {
+            blocks = x .blocks;
+            load = x .load;
+            write = x .write;
+            held = x .held;
+            loadCredit = x .loadCredit;
+            writeCredit = x .writeCredit;
+            dirty = x .dirty;
+            tenths = x .tenths;
+            loads = x .loads;
+            writebacks = x .writebacks;
+          };
       absent = λ i a e.
-        let x = n .absent i a e in
-        record { dirty = x .dirty; loadCredit = x .loadCredit; writeCredit = x .writeCredit };
-      clean = n .clean
+          let x = n .absent i a e in
+          record { dirty = x .dirty; loadCredit = x .loadCredit; writeCredit = x .writeCredit };
+      clean = n .clean;
     }
 
 -- the closing flushes, counts no step, and closes
 pub closing-reply :
-  (c q : Cache) →
-  Valid c →
-  c .closed ≡ false →
-  Becomes (moved (view c) (flush (stateOf c)) (c .closed)) q →
-  Called c close (reply 0 (closedOf q))
+    (c q : Cache) →
+    Valid c →
+    c .closed ≡ false →
+    Becomes (moved (view c) (flush (stateOf c)) (c .closed)) q →
+    Called c close (reply 0 (closedOf q))
 closing-reply c q ok e h =
     taken-reply c (closedOf q) close ok (unfold refusalAt in rw e)
     (record { stands = ended ∙ ap shut (h .stands) ∙ same; fields = closed-normal q (h .fields) })
   where
     shut : Standing → Standing
     shut v = record { k = v .k; state = v .state; figures = v .figures; closed = true }
+
     same : shut (moved (view c) (flush (stateOf c)) (c .closed)) ≡ closes (view c)
     same = unfold closes in refl
+
     ended : view (closedOf q) ≡ shut (view q)
     ended = unfold catalogOf slotsOf usesOf in refl
 
 -- a step's numbers are those of its call
 pub called-as :
-  (c : Cache) (s : Step) (r : Reply) (kind i m : ℕ) →
-  kind ≡ stepKind s →
-  i ≡ stepItem s →
-  m ≡ stepMinutes s →
-  Called c (take kind i m) r →
-  Called c (callOf s) r
+    (c : Cache) (s : Step) (r : Reply) (kind i m : ℕ) →
+    kind ≡ stepKind s →
+    i ≡ stepItem s →
+    m ≡ stepMinutes s →
+    Called c (take kind i m) r →
+    Called c (callOf s) r
 called-as c s r kind i m p q w h = subst (λ (z : Call). Called c z r) (λ j. take (p j) (q j) (w j)) h

@@ -39,10 +39,10 @@ call-is xs i l = tab-at (length xs / 4) (callAt xs) i close l
 
 -- the same, where the code keeps four times the number of the call
 pub call-at :
-  (xs : List ℕ) (i at : ℕ) →
-  i < length xs / 4 →
-  at ≡ 4 * i →
-  getD (callsOf xs) i close ≡ callFrom (getD xs at 0) (getD xs (at + 1) 0) (getD xs (at + 2) 0) (getD xs (at + 3) 0)
+    (xs : List ℕ) (i at : ℕ) →
+    i < length xs / 4 →
+    at ≡ 4 * i →
+    getD (callsOf xs) i close ≡ callFrom (getD xs at 0) (getD xs (at + 1) 0) (getD xs (at + 2) 0) (getD xs (at + 3) 0)
 call-at xs i at l e = call-is xs i l ∙ ap (λ (z : ℕ). callFrom (getD xs z 0) (getD xs (z + 1) 0) (getD xs (z + 2) 0) (getD xs (z + 3) 0)) (sym e)
 
 -- storing a run of values and one more
@@ -61,23 +61,24 @@ pub going-starts : (c : Cache) (calls : List Call) (before : List ℕ) → Going
 going-starts c calls before = record { numbers = []; count = refl; goes = λ rest d f. f; noted = refl }
 
 pub going-on :
-  (c q : Cache) (calls : List Call) (before out after : List ℕ) (i : ℕ) (call : Call) (r : Reply) →
-  i < length calls →
-  getD calls i close ≡ call →
-  Called q call r →
-  after ≡ set out i (r .number) →
-  Going c calls before i q out →
-  Going c calls before (i + 1) (r .cache) after
+    (c q : Cache) (calls : List Call) (before out after : List ℕ) (i : ℕ) (call : Call) (r : Reply) →
+    i < length calls →
+    getD calls i close ≡ call →
+    Called q call r →
+    after ≡ set out i (r .number) →
+    Going c calls before i q out →
+    Going c calls before (i + 1) (r .cache) after
 going-on c q calls before out after i call r l e h noted g =
     record {
       numbers = g .numbers ++ (r .number ∷ []);
       count = length-append (g .numbers) (r .number ∷ []) ∙ (let z : length (g .numbers) + 1 ≡ i + 1 = omega (arith, g .count) in z);
       goes = λ rest d f. subst (λ (z : List ℕ). Follows c calls z d) (sym (append-snoc (g .numbers) (r .number) rest)) (g .goes (r .number ∷ rest) d (steps rest d f));
-      noted = noted ∙ ap (λ (z : List ℕ). set z i (r .number)) (g .noted) ∙ ap (λ (n : ℕ). set (sets before 0 (g .numbers)) n (r .number)) (let z : i ≡ 0 + length (g .numbers) = omega (arith, g .count) in z) ∙ sym (sets-more before (g .numbers) 0 (r .number))
+      noted = noted ∙ ap (λ (z : List ℕ). set z i (r .number)) (g .noted) ∙ ap (λ (n : ℕ). set (sets before 0 (g .numbers)) n (r .number)) (let z : i ≡ 0 + length (g .numbers) = omega (arith, g .count) in z) ∙ sym (sets-more before (g .numbers) 0 (r .number));
     }
   where
     left : drop i calls ≡ call ∷ drop (i + 1) calls
     left = drop-cons calls i close l ∙ (λ z. e z ∷ drop (sym (add-one i) z) calls)
+
     steps : (rest : List ℕ) (d : Cache) → Follows (r .cache) (drop (i + 1) calls) rest d → Follows q (drop i calls) (r .number ∷ rest) d
     steps rest d f = subst (λ (z : List Call). Follows q z (r .number ∷ rest) d) (sym left) (then h f)
 
@@ -86,7 +87,7 @@ going-ends c q calls before out i l g =
     record {
       numbers = g .numbers ++ [];
       follows = g .goes [] q (subst (λ (z : List Call). Follows q z [] q) (sym (drop-of-length-le calls l)) none);
-      noted = g .noted ∙ ap (sets before 0) (sym (append-nil (g .numbers)))
+      noted = g .noted ∙ ap (sets before 0) (sym (append-nil (g .numbers)));
     }
 
 -- the whole list: a refused opening, and an accepted one, of which the season theorem holds
@@ -95,15 +96,15 @@ run-refused k cat calls before r o e =
     record { number = o .number; refused = λ z. (refl, o .refused z); numbers = []; season = λ z. absurd (e z) }
 
 pub run-taken :
-  (k : ℕ) (cat : Catalog) (calls : List Call) (before after : List ℕ) (first : Reply) (d : Cache) →
-  Opened k cat first →
-  first .number ≡ 0 →
-  RanCalls (first .cache) calls before after d →
-  Ran k cat calls before after (record { number = 0; cache = d })
+    (k : ℕ) (cat : Catalog) (calls : List Call) (before after : List ℕ) (first : Reply) (d : Cache) →
+    Opened k cat first →
+    first .number ≡ 0 →
+    RanCalls (first .cache) calls before after d →
+    Ran k cat calls before after (record { number = 0; cache = d })
 run-taken k cat calls before after first d o e ran =
     record {
       number = sym e ∙ o .number;
       refused = λ z. absurd (z refl);
       numbers = ran .numbers;
-      season = λ z. (season-by-value k cat calls (ran .numbers) d (record { first = first; opening = o; accepted = e; follows = ran .follows }), ran .noted)
+      season = λ z. (season-by-value k cat calls (ran .numbers) d (record { first = first; opening = o; accepted = e; follows = ran .follows }), ran .noted);
     }

@@ -30,9 +30,9 @@ use Rattle.cache.proofs.Table.{Ranged, asked}
 
 -- the tests that an answer of 0 has passed
 passes :
-  (a b c : Bool) (n : ℕ) →
-  cond a 9 (cond b 8 (cond c n 3)) ≡ 0 →
-  (a ≡ false) × (b ≡ false) × (c ≡ true)
+    (a b c : Bool) (n : ℕ) →
+    cond a 9 (cond b 8 (cond c n 3)) ≡ 0 →
+    (a ≡ false) × (b ≡ false) × (c ≡ true)
 passes true b c n e = absurd (omega arith)
 passes false true c n e = absurd (omega arith)
 passes false false true n e = (refl, refl, refl)
@@ -71,6 +71,7 @@ passed-minutes c kind i m p n r = go (eqb kind 87) (leb i 255) (leb m 1440) refl
   where
     shut : inRange kind i m ≡ cond (eqb kind 87) (cond (leb i 255) (leb m 1440) false) false
     shut = rw (ne-eqb kind 82 r, ne-eqb kind 76 n)
+
     go : (a b d : Bool) → leb m 1440 ≡ d → cond a (cond b d false) false ≡ true → m ≤ 1440
     go true true true e f = leb-true m 1440 e
     go true true false e f = absurd (false≢true f)
@@ -99,14 +100,14 @@ module _ (c : Cache) (kind i m : ℕ) (p : Passed c kind i m) (n : kind ≢ 76) 
       record {
         valid = becomes-valid _ room (ready .taking .standing) made;
         item = omega (arith, size-is room, r .below);
-        room = r .taking .few
+        room = r .taking .few;
       }
 
   together : (b : State → Moved) → moved (view room) (b (stateOf room)) (room .closed) ≡ moved (view c) (joined (makeRoom writeFirst (c .k) i (stateOf c)) (b (makeRoom writeFirst (c .k) i (stateOf c) .state))) (c .closed)
   together b =
       ap (λ (z : Standing). moved z (b (z .state)) (z .closed)) (made .stands)
       ∙ sym (moved-joined (view c) (makeRoom writeFirst (c .k) i (stateOf c)) (b (makeRoom writeFirst (c .k) i (stateOf c) .state)) (c .closed)
-        (make-room writeFirst (c .k) i (stateOf c) write-first-ok below small .catalog))
+      (make-room writeFirst (c .k) i (stateOf c) write-first-ok below small .catalog))
 
   pub read-took : (r : Cache) → kind ≡ 82 → Becomes (moved (view room) (serveRead i (stateOf room)) (room .closed)) r → Becomes (took writeFirst (view c) (stepOf kind i m)) r
   read-took r e h = subst (λ (z : Standing). Becomes z r) (together (serveRead i) ∙ told) h
@@ -123,5 +124,6 @@ module _ (c : Cache) (kind i m : ℕ) (p : Passed c kind i m) (n : kind ≢ 76) 
           go : (a : Bool) → cond a (cond (leb i 255) (leb m 1440) false) false ≡ true → a ≡ true
           go true f = refl
           go false f = absurd (false≢true f)
+
       told : moved (view c) (joined (makeRoom writeFirst (c .k) i (stateOf c)) (serveWrite i m (makeRoom writeFirst (c .k) i (stateOf c) .state))) (c .closed) ≡ took writeFirst (view c) (stepOf kind i m)
       told = unfold took stepOf step in rw (ne-eqb kind 82 e, isWrite)

@@ -290,7 +290,13 @@ fn answer_to(number: u32) -> Answer
 
 impl Ledger {
     // Opens a cache of `k` blocks for the first `n` items of the arrays.
-    pub fn open(k: u32, n: usize, blocks: [u8; 256], load: [u16; 256], write: [u16; 256]) -> Answered
+    pub fn open(
+        k: u32,
+        n: usize,
+        blocks: [u8; 256],
+        load: [u16; 256],
+        write: [u16; 256],
+    ) -> Answered
         ensures { λ r. ⌜ OpenedBy k (catalogFrom n blocks load write) r ⌝ }
     {
         let r = open(k, n, blocks, load, write);

@@ -41,22 +41,22 @@ wrong-flags b call r d e = record { fine = λ ok. absurd (false≢true (sym e �
 
 -- the call was refused, by the table or because the cache is not valid
 pub lent-refused :
-  (b : List ℕ) (call : Call) (r : Reply) →
-  length b ≡ stateBytes →
-  Flagged b →
-  Called (cacheOf b) call r →
-  r .number ≢ 0 →
-  CalledLent b call (r .number) b
+    (b : List ℕ) (call : Call) (r : Reply) →
+    length b ≡ stateBytes →
+    Flagged b →
+    Called (cacheOf b) call r →
+    r .number ≢ 0 →
+    CalledLent b call (r .number) b
 lent-refused b call r size flags h e =
     record {
       fine = λ ok.
-        let a = h .fine (ok .cache) in
-        record {
-          answer = a .number;
-          next = record { valid = ok; stands = ap view (sym (a .refused e)) ∙ a .next .stands };
-          refused = λ z. refl
-        };
-      foul = λ bad. (h .foul (λ ok. bad (record { size = size; flags = flags; cache = ok })) .0, refl)
+          let a = h .fine (ok .cache) in
+          record {
+            answer = a .number;
+            next = record { valid = ok; stands = ap view (sym (a .refused e)) ∙ a .next .stands };
+            refused = λ z. refl;
+          };
+      foul = λ bad. (h .foul (λ ok. bad (record { size = size; flags = flags; cache = ok })) .0, refl);
     }
 
 -- a valid cache has few enough items for the layout, and stored, it is what the bytes stand for
@@ -66,41 +66,41 @@ stored v c ok h fits =
     let same : cacheOf (bytesOf c) ≡ c = round c f in
     record {
       valid = record { size = length-bytesOf c f; flags = flagged-bytesOf c f; cache = subst Valid (sym same) (becomes-valid v c ok h) };
-      stands = ap view same ∙ h .stands
+      stands = ap view same ∙ h .stands;
     }
 
 -- the call was taken, and the next cache stored
 pub lent-taken :
-  (b left : List ℕ) (call : Call) (r : Reply) →
-  Called (cacheOf b) call r →
-  r .number ≡ 0 →
-  (r .cache .n < 2 ^ 32 → Fits (r .cache)) →
-  left ≡ bytesOf (r .cache) →
-  length b ≡ stateBytes →
-  Flagged b →
-  CalledLent b call 0 left
+    (b left : List ℕ) (call : Call) (r : Reply) →
+    Called (cacheOf b) call r →
+    r .number ≡ 0 →
+    (r .cache .n < 2 ^ 32 → Fits (r .cache)) →
+    left ≡ bytesOf (r .cache) →
+    length b ≡ stateBytes →
+    Flagged b →
+    CalledLent b call 0 left
 lent-taken b left call r h e fits is size flags =
     record {
       fine = λ ok.
-        let a = h .fine (ok .cache) in
-        record {
-          answer = sym e ∙ a .number;
-          next = subst (LentBecomes (after writeFirst (view (cacheOf b)) call)) (sym is)
-            (stored (after writeFirst (view (cacheOf b)) call) (r .cache) (subst StandingOk (a .next .stands) (called-valid (cacheOf b) call r (ok .cache) h .rule)) (a .next) fits);
-          refused = λ z. absurd (z refl)
-        };
+          let a = h .fine (ok .cache) in
+          record {
+            answer = sym e ∙ a .number;
+            next = subst (LentBecomes (after writeFirst (view (cacheOf b)) call)) (sym is)
+                (stored (after writeFirst (view (cacheOf b)) call) (r .cache) (subst StandingOk (a .next .stands) (called-valid (cacheOf b) call r (ok .cache) h .rule)) (a .next) fits);
+            refused = λ z. absurd (z refl);
+          };
       foul = λ bad.
-        let n : r .number ≡ 17 = h .foul (λ ok. bad (record { size = size; flags = flags; cache = ok })) .0 in
-        absurd (let z : _≡_ {A = ℕ} 0 17 = sym e ∙ n in omega arith)
+          let n : r .number ≡ 17 = h .foul (λ ok. bad (record { size = size; flags = flags; cache = ok })) .0 in
+          absurd (let z : _≡_ {A = ℕ} 0 17 = sym e ∙ n in omega arith);
     }
 
 -- one entry more stored
 pub copy-more :
-  (f : ℕ → ℕ) (out : List ℕ) (i v : ℕ) →
-  i < length out →
-  v ≡ f i →
-  ((j : ℕ) → j < i → getD out j 0 ≡ f j) →
-  (j : ℕ) → j < i + 1 → getD (set out i v) j 0 ≡ f j
+    (f : ℕ → ℕ) (out : List ℕ) (i v : ℕ) →
+    i < length out →
+    v ≡ f i →
+    ((j : ℕ) → j < i → getD out j 0 ≡ f j) →
+    (j : ℕ) → j < i + 1 → getD (set out i v) j 0 ≡ f j
 copy-more f out i v l e h j b = go (ℕ-discrete j i)
   where
     go : Dec (j ≡ i) → getD (set out i v) j 0 ≡ f j
@@ -109,18 +109,18 @@ copy-more f out i v l e h j b = go (ℕ-discrete j i)
 
 -- the arrays read from lent bytes make up their catalog
 pub catalog-same :
-  (xs blocks load write : List ℕ) →
-  BlocksIn xs blocks →
-  CostsIn xs 1 load →
-  CostsIn xs 3 write →
-  catalogFrom (length xs / 5) blocks load write ≡ catalogIn xs
+    (xs blocks load write : List ℕ) →
+    BlocksIn xs blocks →
+    CostsIn xs 1 load →
+    CostsIn xs 3 write →
+    catalogFrom (length xs / 5) blocks load write ≡ catalogIn xs
 unfolding catalogFrom catalogIn
 catalog-same xs blocks load write hb hl hw =
     tab-eq (length xs / 5) _ _
     (λ i l z. record {
       blocks = hb .each i l z;
       load = (hl .each i l ∙ ap (λ (n : ℕ). getD xs (5 * i + 1) 0 + 256 * getD xs n 0) (let e : 5 * i + 1 + 1 ≡ 5 * i + 2 = omega arith in e)) z;
-      write = (hw .each i l ∙ ap (λ (n : ℕ). getD xs (5 * i + 3) 0 + 256 * getD xs n 0) (let e : 5 * i + 3 + 1 ≡ 5 * i + 4 = omega arith in e)) z
+      write = (hw .each i l ∙ ap (λ (n : ℕ). getD xs (5 * i + 3) 0 + 256 * getD xs n 0) (let e : 5 * i + 3 + 1 ≡ 5 * i + 4 = omega arith in e)) z;
     })
 
 -- the opening: refused for the state's length, for the catalog's length, by the table; or taken
@@ -146,15 +146,15 @@ pub open-refused : (b xs : List ℕ) (k : ℕ) (r : Reply) → length b ≡ stat
 open-refused b xs k r e d l o n = still b xs k (r .number) (o .number ∙ sym (asked b xs k e d l)) n
 
 pub open-taken :
-  (b left xs : List ℕ) (k : ℕ) (r : Reply) →
-  length b ≡ stateBytes →
-  length xs % 5 ≡ 0 →
-  length xs ≤ 1280 →
-  Opened k (catalogIn xs) r →
-  r .number ≡ 0 →
-  (r .cache .n < 2 ^ 32 → Fits (r .cache)) →
-  left ≡ bytesOf (r .cache) →
-  OpenedLent b k xs 0 left
+    (b left xs : List ℕ) (k : ℕ) (r : Reply) →
+    length b ≡ stateBytes →
+    length xs % 5 ≡ 0 →
+    length xs ≤ 1280 →
+    Opened k (catalogIn xs) r →
+    r .number ≡ 0 →
+    (r .cache .n < 2 ^ 32 → Fits (r .cache)) →
+    left ≡ bytesOf (r .cache) →
+    OpenedLent b k xs 0 left
 open-taken b left xs k r e d l o n fits is =
     let ranges = opening-taken k (catalogIn xs) (sym (o .number) ∙ n) in
     let so : Becomes (opened k (catalogIn xs)) (r .cache) = o .taken n in
@@ -163,5 +163,5 @@ open-taken b left xs k r e d l o n fits is =
       answer = sym n ∙ o .number ∙ sym (asked b xs k e d l);
       taken = λ z. subst (LentBecomes (opened k (catalogIn xs))) (sym is) (stored (opened k (catalogIn xs)) (r .cache) (ok-opened k (catalogIn xs) (ranges .0) (ranges .1)) so fits);
       empty = λ z i m. subst (λ (c : Cache). EmptyPlace c i) (sym (ap cacheOf is ∙ round (r .cache) f)) (o .empty i m);
-      refused = λ z. absurd (z refl)
+      refused = λ z. absurd (z refl);
     }

@@ -27,12 +27,12 @@ lent-called b left call n ok h =
     let a = h .fine ok in
     record {
       fine = λ again.
-        record {
-          number = a .answer;
-          next = record { stands = a .next .stands; fields = a .next .valid .cache .fields };
-          refused = λ z. ap cacheOf (a .refused z)
-        };
-      foul = λ bad. absurd (bad (ok .cache))
+          record {
+            number = a .answer;
+            next = record { stands = a .next .stands; fields = a .next .valid .cache .fields };
+            refused = λ z. ap cacheOf (a .refused z);
+          };
+      foul = λ bad. absurd (bad (ok .cache));
     }
 
 record Both (b : List ℕ) (calls : List Call) (numbers d : List ℕ) : Type 0 where
@@ -58,7 +58,7 @@ lent-opened b xs first k o =
       number = taken-number (eqb (length b) stateBytes) (sized xs) (openingRefusal k (catalogIn xs)) (o .answer);
       taken = λ z. record { stands = o .taken refl .stands; fields = o .taken refl .valid .cache .fields };
       refused = λ z. absurd (z refl);
-      empty = o .empty refl
+      empty = o .empty refl;
     }
 
 -- Demand 3 for lent bytes.
@@ -66,7 +66,7 @@ pub season-lent : (k : ℕ) (xs : List ℕ) (calls : List Call) (numbers d : Lis
 season-lent k xs calls numbers d chain =
     let both = lent-follows (chain .opening .taken refl .valid) (chain .follows) in
     let s : Season k (catalogIn xs) calls numbers (cacheOf d) =
-      season-by-value k (catalogIn xs) calls numbers (cacheOf d)
-      (record { first = reply 0 (chain .first); opening = lent-opened (chain .before) xs (chain .first) k (chain .opening); accepted = refl; follows = both .follows })
+    season-by-value k (catalogIn xs) calls numbers (cacheOf d)
+    (record { first = reply 0 (chain .first); opening = lent-opened (chain .before) xs (chain .first) k (chain .opening); accepted = refl; follows = both .follows })
     in
     record { answers = s .answers; valid = both .valid; stands = s .stands; wear = s .wear }

@@ -14,10 +14,10 @@ use Rattle.recorder.specs.Lent.{ValidBytes, CalledLent, OpenedLent, cata
 pub data FollowsLent : List ℕ → List Call → List ℕ → List ℕ → Type 0 where
   none : {b : List ℕ} → FollowsLent b [] [] b
   then :
-    {b left d : List ℕ} {call : Call} {calls : List Call} {answer : ℕ} {numbers : List ℕ} →
-    CalledLent b call answer left →
-    FollowsLent left calls numbers d →
-    FollowsLent b (call ∷ calls) (answer ∷ numbers) d
+      {b left d : List ℕ} {call : Call} {calls : List Call} {answer : ℕ} {numbers : List ℕ} →
+      CalledLent b call answer left →
+      FollowsLent left calls numbers d →
+      FollowsLent b (call ∷ calls) (answer ∷ numbers) d
 
 -- the list starts from an opening that was not refused
 pub record ChainLent (k : ℕ) (xs : List ℕ) (calls : List Call) (numbers d : List ℕ) : Type 0 where

@@ -45,7 +45,7 @@ catalogIn xs =
     (λ i. record {
       blocks = getD xs (5 * i) 0;
       load = getD xs (5 * i + 1) 0 + 256 * getD xs (5 * i + 2) 0;
-      write = getD xs (5 * i + 3) 0 + 256 * getD xs (5 * i + 4) 0
+      write = getD xs (5 * i + 3) 0 + 256 * getD xs (5 * i + 4) 0;
     })
 
 -- "a length that is no multiple of 5, or above 1,280, is 3"

@@ -76,13 +76,12 @@ loop-again : tie.Need-loop-again Inv-loop μ-loop
 loop-again c =
     let a = c .before .before .before .before .before .before .before .before .before .before .before .before .before .before .args in
     let w = c .before .before .before .before .before .before .before .before .before .before .before .loop in
-    let xs = a .calls .now in
-    (
+    let xs = a .calls .now in (
       omega arith,
       omega arith,
       refl,
       going-on (a .c) (w .q) (callsOf xs) (a .answers .now) (w .answers) (c .before .before .note .last .0) (w .i) _ (c .before .before .before .before .before .call .result)
-      (omega (arith, count-is xs)) (call-at xs (w .i) (w .at) (omega arith) (w .inv .1)) (c .before .before .before .before .before .call .ensures) (c .before .before .note .ensures) (w .inv .3)
+          (omega (arith, count-is xs)) (call-at xs (w .i) (w .at) (omega arith) (w .inv .1)) (c .before .before .before .before .before .call .ensures) (c .before .before .note .ensures) (w .inv .3),
     )
 
 same-length : tie.Need-same-length Inv-loop μ-loop

@@ -31,10 +31,9 @@ returns-2 c =
 
 serve-write-requires : tie.Need-serve-write-requires
 serve-write-requires c κs =
-    let a = c .before .before .before .args in
-    (
+    let a = c .before .before .before .args in (
       room-servable (a .c) (a .kind) (a .item) (a .minutes) (c .before .before .before .pre) (c .before .before .if1 .left) (c .before .make-room .result) (c .before .make-room .ensures),
-      passed-minutes (a .c) (a .kind) (a .item) (a .minutes) (c .before .before .before .pre) (c .before .before .if1 .left) (c .if2 .left)
+      passed-minutes (a .c) (a .kind) (a .item) (a .minutes) (c .before .before .before .pre) (c .before .before .if1 .left) (c .if2 .left),
     )
 
 returns-3 : tie.Need-returns-3

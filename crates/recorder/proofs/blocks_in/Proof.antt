@@ -18,13 +18,12 @@ abbrev μ-loop : tie.MeasureT-loop
 μ-loop catalog n out₀ at₀ i₀ out at i = length catalog / 5 - i
 
 loop-holds : tie.Need-loop-holds Inv-loop μ-loop
-loop-holds c =
-    (
-      omega arith,
-      omega arith,
-      (let e : length (replicate {A = ℕ} 256 0) ≡ 256 = length-replicate {A = ℕ} 256 0 in e),
-      λ j l. absurd (let z : j < 0 = l in omega arith)
-    )
+loop-holds c = (
+  omega arith,
+  omega arith,
+  (let e : length (replicate {A = ℕ} 256 0) ≡ 256 = length-replicate {A = ℕ} 256 0 in e),
+  λ j l. absurd (let z : j < 0 = l in omega arith),
+)
 
 shared-slice-read-out : tie.Need-shared-slice-read-out Inv-loop μ-loop
 shared-slice-read-out c = omega arith
@@ -44,12 +43,11 @@ loop-less c = omega arith
 loop-again : tie.Need-loop-again Inv-loop μ-loop
 loop-again c =
     let w = c .before .before .loop in
-    let xs = c .before .before .before .args .catalog .now in
-    (
+    let xs = c .before .before .before .args .catalog .now in (
       omega arith,
       omega arith,
       length-set (w .out) (w .i) _ ∙ w .inv .2,
-      copy-more (λ j. getD xs (5 * j) 0) (w .out) (w .i) (getD xs (w .at) 0) (omega arith) (ap (λ (z : ℕ). getD xs z 0) (w .inv .1)) (w .inv .3)
+      copy-more (λ j. getD xs (5 * j) 0) (w .out) (w .i) (getD xs (w .at) 0) (omega arith) (ap (λ (z : ℕ). getD xs z 0) (w .inv .1)) (w .inv .3),
     )
 
 returns : tie.Need-returns Inv-loop μ-loop

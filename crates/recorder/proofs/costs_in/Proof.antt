@@ -22,13 +22,12 @@ abbrev μ-loop : tie.MeasureT-loop
 μ-loop catalog part n out₀ at₀ i₀ out at i = length catalog / 5 - i
 
 loop-holds : tie.Need-loop-holds Inv-loop μ-loop
-loop-holds c =
-    (
-      omega arith,
-      omega arith,
-      (let e : length (replicate {A = ℕ} 256 0) ≡ 256 = length-replicate {A = ℕ} 256 0 in e),
-      λ j l. absurd (let z : j < 0 = l in omega arith)
-    )
+loop-holds c = (
+  omega arith,
+  omega arith,
+  (let e : length (replicate {A = ℕ} 256 0) ≡ 256 = length-replicate {A = ℕ} 256 0 in e),
+  λ j l. absurd (let z : j < 0 = l in omega arith),
+)
 
 shared-slice-read-wide : tie.Need-shared-slice-read-wide Inv-loop μ-loop
 shared-slice-read-wide c = omega arith
@@ -50,13 +49,12 @@ mul-out c = omega (arith, c .wide2 .ensures, c .before .shared-slice-known3 .giv
 
 add-out : tie.Need-add-out Inv-loop μ-loop
 add-out c =
-    omega
-    (
+    omega (
       arith,
       c .wide2 .ensures,
       c .before .before .wide .ensures,
       c .before .shared-slice-known3 .given (c .before .before .before .before .before .loop .at + 1),
-      c .before .before .before .shared-slice-known2 .given (c .before .before .before .before .before .loop .at)
+      c .before .before .before .shared-slice-known2 .given (c .before .before .before .before .before .loop .at),
     )
 
 mul-out-2 : tie.Need-mul-out-2 Inv-loop μ-loop
@@ -80,14 +78,13 @@ loop-again c =
     let a = c .before .before .before .before .before .before .before .args in
     let xs = a .catalog .now in
     let v : getD xs (w .at) 0 + 256 * getD xs (w .at + 1) 0 ≡ getD xs (5 * w .i + a .part) 0 + 256 * getD xs (5 * w .i + a .part + 1) 0 =
-      ap (λ (z : ℕ). getD xs z 0 + 256 * getD xs (z + 1) 0) (w .inv .1)
-    in
-    (
+    ap (λ (z : ℕ). getD xs z 0 + 256 * getD xs (z + 1) 0) (w .inv .1)
+    in (
       omega arith,
       omega arith,
       length-set (w .out) (w .i) _ ∙ w .inv .2,
       copy-more (λ j. getD xs (5 * j + a .part) 0 + 256 * getD xs (5 * j + a .part + 1) 0) (w .out) (w .i) _ (omega arith)
-      (omega (arith, c .wide2 .ensures, c .before .before .wide .ensures, v)) (w .inv .3)
+          (omega (arith, c .wide2 .ensures, c .before .before .wide .ensures, v)) (w .inv .3),
     )
 
 returns : tie.Need-returns Inv-loop μ-loop

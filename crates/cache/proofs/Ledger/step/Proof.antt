@@ -33,9 +33,9 @@ returns c =
     record {
       reply = c .before .before .take .result;
       called =
-        called-as (a .self .cache) (a .s) (c .before .before .take .result) (c .before .before .before .before .before .kind .result) (c .before .before .before .before .item .result) (c .before .before .before .minutes .result)
-        (c .before .before .before .before .before .kind .ensures) (c .before .before .before .before .item .ensures) (c .before .before .before .minutes .ensures) (c .before .before .take .ensures);
-      replied = record { answer = c .answer-to .ensures; cache = refl }
+          called-as (a .self .cache) (a .s) (c .before .before .take .result) (c .before .before .before .before .before .kind .result) (c .before .before .before .before .item .result) (c .before .before .before .minutes .result)
+          (c .before .before .before .before .before .kind .ensures) (c .before .before .before .before .item .ensures) (c .before .before .before .minutes .ensures) (c .before .before .take .ensures);
+      replied = record { answer = c .answer-to .ensures; cache = refl };
     }
 
 pub step-spec : {M : Type 1} → statement M
