@@ -348,7 +348,7 @@ fn call(c: Cache, which: u32, kind: u32, item: u32, minutes: u32) -> Reply
 }
 
 // Notes the answer to call `i`, if there is a place for it.
-fn note(answers: &mut [u32], i: usize, number: u32)
+pub fn note(answers: &mut [u32], i: usize, number: u32)
     ensures { λ _. ⌜ now (answers .exit) ≡ set (now (answers .entry)) i number ⌝ }
 {
     if i < answers.len() {

@@ -1,2 +1,4 @@
 pub mod Season
 pub mod Lents
+pub mod Tells
+pub mod Runs

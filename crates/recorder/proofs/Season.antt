@@ -18,11 +18,11 @@ use Rattle.cache.proofs.Season.{season-by-value}
 use Rattle.recorder.specs.Lent.{ValidBytes, LentBecomes, CalledLent, OpenedLent, catalogIn, sized, openingNumber}
 use Rattle.recorder.specs.Chain.{FollowsLent, none, then, ChainLent, SeasonLent}
 
-abbrev reply : ℕ → List ℕ → Reply
+abbrev pub reply : ℕ → List ℕ → Reply
 reply n b = record { number = n; cache = cacheOf b }
 
 -- a call on valid bytes is a call on their cache
-lent-called : (b left : List ℕ) (call : Call) (n : ℕ) → ValidBytes b → CalledLent b call n left → Called (cacheOf b) call (reply n left)
+pub lent-called : (b left : List ℕ) (call : Call) (n : ℕ) → ValidBytes b → CalledLent b call n left → Called (cacheOf b) call (reply n left)
 lent-called b left call n ok h =
     let a = h .fine ok in
     record {

@@ -1,3 +1,4 @@
 pub mod Lent
 pub mod Chain
 pub mod Catalogs
+pub mod Run

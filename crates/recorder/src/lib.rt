@@ -4,7 +4,9 @@ ghost use mathlib.Core.Path.{_≡_};
 ghost use Prim.Native.Nat.{_≤_};
 ghost use lib.ListN.{length};
 ghost use Rattle.landlord.specs.Calls.{take, close};
-ghost use Rattle.recorder.specs.Lent.{CalledLent, OpenedLent};
+ghost use Rattle.cache.specs.Run.{callFrom, callsOf};
+ghost use Rattle.recorder.specs.Lent.{ValidBytes, CalledLent, OpenedLent};
+ghost use Rattle.recorder.specs.Run.{RanLentCalls, RanLent};
 ghost use Rattle.recorder.specs.Catalogs.{BlocksIn, CostsIn};
 
 // The bytes of a state.
@@ -122,5 +124,46 @@ pub extern "C" fn recorder_close(state: &mut [u8]) -> u32
     let next = r.cache;
     layout::fitting(next);
     layout::encode(next, state);
+    0
+}
+
+// A call from four numbers: 0 and then a step's kind, item and minutes; or another number, and it is the closing.
+fn call(state: &mut [u8], which: u32, kind: u32, item: u32, minutes: u32) -> u32
+    ensures { λ r. ⌜ CalledLent (now (state .entry)) (callFrom which kind item minutes) r (now (state .exit)) ⌝ }
+{
+    if which == 0 {
+        return recorder_step(state, kind, item, minutes);
+    }
+    recorder_close(state)
+}
+
+// Makes the calls that the numbers stand for, four to a call; a remainder is no call.
+fn run_calls(state: &mut [u8], calls: &[u32], answers: &mut [u32])
+    ensures {
+        λ _. ⌜ (ValidBytes (now (state .entry)) → RanLentCalls (now (state .entry)) (callsOf (now (calls .entry))) (now (answers .entry)) (now (answers .exit)) (now (state .exit))) ⌝
+    }
+{
+    let count = calls.len() / 4;
+    let mut at = 0;
+    let mut i = 0;
+    while i < count {
+        let number = call(state, calls[at], calls[at + 1], calls[at + 2], calls[at + 3]);
+        cache::note(answers, i, number);
+        at = at + 4;
+        i = i + 1;
+    }
+}
+
+// A whole list of calls on lent bytes, from an opening on. The answers are noted as far as there is place.
+pub fn run(state: &mut [u8], k: u32, catalog: &[u8], calls: &[u32], answers: &mut [u32]) -> u32
+    ensures {
+        λ r. ⌜ RanLent (now (state .entry)) k (now (catalog .entry)) (callsOf (now (calls .entry))) (now (answers .entry)) (now (answers .exit)) r (now (state .exit)) ⌝
+    }
+{
+    let number = recorder_open(state, k, catalog);
+    if number != 0 {
+        return number;
+    }
+    run_calls(state, calls, answers);
     0
 }
