@@ -5,7 +5,7 @@ use mathlib.Core.Bool.{Bool, true, false, cond, _&&_, false≢true}
 use mathlib.Core.List.{List}
 use Prim.Native.Nat.{ℕ, _+_, _*_, _/_, _%_, _^_, _≤_, _<_}
 use native.Mathlib.Omega.{arith}
-use native.Mathlib.Decide.{ℕ-discrete}
+use native.Mathlib.Decide.{ℕ-discrete, decLe}
 use lib.ListN.{length, getD, set}
 use lib.Seq.{getD-set-same, getD-set-other}
 use lib.Dec.{eqb, leb}
@@ -29,18 +29,29 @@ use Rattle.layout.proofs.Rounds.{round, length-bytesOf, flagged-bytesOf}
 use Rattle.cache.specs.declared.Reply.{Reply}
 use Rattle.cache.specs.Contract.{Called, Opened, EmptyPlace, catalogFrom}
 use Rattle.cache.proofs.Season.{becomes-valid, called-valid}
-use Rattle.recorder.specs.Lent.{ValidBytes, LentBecomes, AnswersLent, CalledLent, OpenedLent, catalogIn, sized, openingNumber}
-use Rattle.recorder.specs.Catalogs.{BlocksIn, CostsIn}
+use Rattle.recorder.specs.Lent.{ValidBytes, Readable, Settled, LentBecomes, AnswersLent, CalledLent, OpenedLent, catalogIn, sized, openingNumber}
+use Rattle.recorder.specs.Catalogs.{BlocksIn, CostsIn, LengthsAsked}
 
--- bytes that cannot be valid: 17, and untouched
-pub wrong-length : (b : List ℕ) (call : Call) → length b ≢ stateBytes → CalledLent b call 17 b
-wrong-length b call e = record { fine = λ ok. absurd (e (ok .size)); foul = λ bad. (refl, refl) }
+-- bytes of no cache: 17, and untouched
+pub unreadable : (b : List ℕ) (call : Call) (r : Bool) → Decided (Readable b) r → r ≡ false → CalledLent b call 17 b
+unreadable b call r d e =
+    record { fine = λ ok. absurd (false≢true (sym e ∙ d .only (record { size = ok .size; flags = ok .flags }))); foul = λ bad. (refl, refl) }
 
-pub wrong-flags : (b : List ℕ) (call : Call) (r : Bool) → Decided (Flagged b) r → r ≡ false → CalledLent b call 17 b
-wrong-flags b call r d e = record { fine = λ ok. absurd (false≢true (sym e ∙ d .only (ok .flags))); foul = λ bad. (refl, refl) }
+pub reads-so : (b : List ℕ) (r : Bool) → length b ≡ stateBytes → Decided (Flagged b) r → Decided (Readable b) r
+reads-so b r e d = record { yes = λ t. record { size = e; flags = d .yes t }; only = λ ok. d .only (ok .flags) }
+
+pub reads-not : (b : List ℕ) → length b ≢ stateBytes → Decided (Readable b) false
+reads-not b e = record { yes = λ t. absurd (false≢true t); only = λ ok. absurd (e (ok .size)) }
+
+-- a refused reply leaves the bytes, a taken one stores the next cache
+pub settled-not : (b : List ℕ) (r : Reply) → r .number ≢ 0 → (r .cache .n < 2 ^ 32 → Fits (r .cache)) → Settled b r (r .number) b
+settled-not b r e fits = record { answer = refl; refused = λ z. refl; stored = λ z. absurd (e z); fits = fits }
+
+pub settled-so : (b left : List ℕ) (r : Reply) → r .number ≡ 0 → left ≡ bytesOf (r .cache) → (r .cache .n < 2 ^ 32 → Fits (r .cache)) → Settled b r 0 left
+settled-so b left r e is fits = record { answer = sym e; refused = λ z. absurd (z e); stored = λ z. is; fits = fits }
 
 -- the call was refused, by the table or because the cache is not valid
-pub lent-refused :
+lent-refused :
     (b : List ℕ) (call : Call) (r : Reply) →
     length b ≡ stateBytes →
     Flagged b →
@@ -70,7 +81,7 @@ stored v c ok h fits =
     }
 
 -- the call was taken, and the next cache stored
-pub lent-taken :
+lent-taken :
     (b left : List ℕ) (call : Call) (r : Reply) →
     Called (cacheOf b) call r →
     r .number ≡ 0 →
@@ -93,6 +104,23 @@ lent-taken b left call r h e fits is size flags =
           let n : r .number ≡ 17 = h .foul (λ ok. bad (record { size = size; flags = flags; cache = ok })) .0 in
           absurd (let z : _≡_ {A = ℕ} 0 17 = sym e ∙ n in omega arith);
     }
+
+-- a call whose reply was settled
+pub lent-settled :
+    (b left : List ℕ) (call : Call) (r : Reply) (n : ℕ) →
+    Readable b →
+    Called (cacheOf b) call r →
+    Settled b r n left →
+    CalledLent b call n left
+lent-settled b left call r n ok h s = go (ℕ-discrete (r .number) 0)
+  where
+    go : Dec (r .number ≡ 0) → CalledLent b call n left
+    go (yes e) =
+        subst (λ (z : ℕ). CalledLent b call z left) (sym (s .answer ∙ e))
+        (lent-taken b left call r h e (s .fits) (s .stored e) (ok .size) (ok .flags))
+    go (no e) =
+        subst (λ (z : ℕ). CalledLent b call z left) (sym (s .answer))
+        (subst (CalledLent b call (r .number)) (sym (s .refused e)) (lent-refused b call r (ok .size) (ok .flags) h e))
 
 -- one entry more stored
 pub copy-more :
@@ -127,14 +155,14 @@ catalog-same xs blocks load write hb hl hw =
 still : (b xs : List ℕ) (k n : ℕ) → n ≡ openingNumber b k xs → n ≢ 0 → OpenedLent b k xs n b
 still b xs k n e d = record { answer = e; taken = λ z. absurd (d z); empty = λ z. absurd (d z); refused = λ z. refl }
 
-pub open-length : (b xs : List ℕ) (k : ℕ) → length b ≢ stateBytes → OpenedLent b k xs 17 b
+open-length : (b xs : List ℕ) (k : ℕ) → length b ≢ stateBytes → OpenedLent b k xs 17 b
 open-length b xs k e = still b xs k 17 (unfold openingNumber in rw (ne-eqb (length b) stateBytes e)) (λ z. let y : _≡_ {A = ℕ} 17 0 = z in omega arith)
 
-pub open-ragged : (b xs : List ℕ) (k : ℕ) → length b ≡ stateBytes → length xs % 5 ≢ 0 → OpenedLent b k xs 3 b
+open-ragged : (b xs : List ℕ) (k : ℕ) → length b ≡ stateBytes → length xs % 5 ≢ 0 → OpenedLent b k xs 3 b
 open-ragged b xs k e d =
     still b xs k 3 (unfold openingNumber in rw (eq-eqb (length b) stateBytes e, ne-eqb (length xs % 5) 0 d)) (λ z. let y : _≡_ {A = ℕ} 3 0 = z in omega arith)
 
-pub open-long : (b xs : List ℕ) (k : ℕ) → length b ≡ stateBytes → length xs % 5 ≡ 0 → 1280 < length xs → OpenedLent b k xs 3 b
+open-long : (b xs : List ℕ) (k : ℕ) → length b ≡ stateBytes → length xs % 5 ≡ 0 → 1280 < length xs → OpenedLent b k xs 3 b
 open-long b xs k e d l =
     still b xs k 3 (unfold openingNumber in rw (eq-eqb (length b) stateBytes e, eq-eqb (length xs % 5) 0 d, lt-leb (length xs) 1280 l)) (λ z. let y : _≡_ {A = ℕ} 3 0 = z in omega arith)
 
@@ -142,10 +170,10 @@ asked : (b xs : List ℕ) (k : ℕ) → length b ≡ stateBytes → length xs % 
 unfolding openingNumber
 asked b xs k e d l = rw (eq-eqb (length b) stateBytes e, eq-eqb (length xs % 5) 0 d, le-leb (length xs) 1280 l)
 
-pub open-refused : (b xs : List ℕ) (k : ℕ) (r : Reply) → length b ≡ stateBytes → length xs % 5 ≡ 0 → length xs ≤ 1280 → Opened k (catalogIn xs) r → r .number ≢ 0 → OpenedLent b k xs (r .number) b
+open-refused : (b xs : List ℕ) (k : ℕ) (r : Reply) → length b ≡ stateBytes → length xs % 5 ≡ 0 → length xs ≤ 1280 → Opened k (catalogIn xs) r → r .number ≢ 0 → OpenedLent b k xs (r .number) b
 open-refused b xs k r e d l o n = still b xs k (r .number) (o .number ∙ sym (asked b xs k e d l)) n
 
-pub open-taken :
+open-taken :
     (b left xs : List ℕ) (k : ℕ) (r : Reply) →
     length b ≡ stateBytes →
     length xs % 5 ≡ 0 →
@@ -165,3 +193,60 @@ open-taken b left xs k r e d l o n fits is =
       empty = λ z i m. subst (λ (c : Cache). EmptyPlace c i) (sym (ap cacheOf is ∙ round (r .cache) f)) (o .empty i m);
       refused = λ z. absurd (z refl);
     }
+
+-- an opening refused for its lengths
+pub open-unsized : (b xs : List ℕ) (k n : ℕ) → LengthsAsked (length b) (length xs) n → n ≢ 0 → OpenedLent b k xs n b
+open-unsized b xs k n a e = state (ℕ-discrete (length b) stateBytes)
+  where
+    same : {m : ℕ} → n ≡ m → OpenedLent b k xs m b → OpenedLent b k xs n b
+    same f o = subst (λ (z : ℕ). OpenedLent b k xs z b) (sym f) o
+
+    size : length b ≡ stateBytes → length xs % 5 ≡ 0 → Dec (length xs ≤ 1280) → OpenedLent b k xs n b
+    size s d (yes l) = absurd (e (a .right s d l))
+    size s d (no l) = let m : 1280 < length xs = omega arith in same (a .long s d m) (open-long b xs k s d m)
+
+    shape : length b ≡ stateBytes → Dec (length xs % 5 ≡ 0) → OpenedLent b k xs n b
+    shape s (yes d) = size s d (decLe (length xs) 1280)
+    shape s (no d) = same (a .ragged s d) (open-ragged b xs k s d)
+
+    state : Dec (length b ≡ stateBytes) → OpenedLent b k xs n b
+    state (yes s) = shape s (ℕ-discrete (length xs % 5) 0)
+    state (no s) = same (a .first s) (open-length b xs k s)
+
+-- lengths that are not refused
+pub record Lengths (b xs : List ℕ) : Type 0 where
+  pub state : length b ≡ stateBytes
+  pub whole : length xs % 5 ≡ 0
+  pub few : length xs ≤ 1280
+
+pub lengths-right : (b xs : List ℕ) (n : ℕ) → LengthsAsked (length b) (length xs) n → n ≡ 0 → Lengths b xs
+lengths-right b xs n a z = state (ℕ-discrete (length b) stateBytes)
+  where
+    size : length b ≡ stateBytes → length xs % 5 ≡ 0 → Dec (length xs ≤ 1280) → Lengths b xs
+    size s d (yes l) = record { state = s; whole = d; few = l }
+    size s d (no l) = absurd (let y : n ≡ 3 = a .long s d (omega arith) in omega arith)
+
+    shape : length b ≡ stateBytes → Dec (length xs % 5 ≡ 0) → Lengths b xs
+    shape s (yes d) = size s d (decLe (length xs) 1280)
+    shape s (no d) = absurd (let y : n ≡ 3 = a .ragged s d in omega arith)
+
+    state : Dec (length b ≡ stateBytes) → Lengths b xs
+    state (yes s) = shape s (ℕ-discrete (length xs % 5) 0)
+    state (no s) = absurd (let y : n ≡ 17 = a .first s in omega arith)
+
+-- an opening whose reply was settled
+pub open-settled :
+    (b left xs : List ℕ) (k : ℕ) (r : Reply) (n : ℕ) →
+    Lengths b xs →
+    Opened k (catalogIn xs) r →
+    Settled b r n left →
+    OpenedLent b k xs n left
+open-settled b left xs k r n ls o s = go (ℕ-discrete (r .number) 0)
+  where
+    go : Dec (r .number ≡ 0) → OpenedLent b k xs n left
+    go (yes e) =
+        subst (λ (z : ℕ). OpenedLent b k xs z left) (sym (s .answer ∙ e))
+        (open-taken b left xs k r (ls .state) (ls .whole) (ls .few) o e (s .fits) (s .stored e))
+    go (no e) =
+        subst (λ (z : ℕ). OpenedLent b k xs z left) (sym (s .answer))
+        (subst (OpenedLent b k xs (r .number)) (sym (s .refused e)) (open-refused b xs k r (ls .state) (ls .whole) (ls .few) o e))

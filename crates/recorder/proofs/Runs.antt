@@ -34,17 +34,17 @@ pub lent-starts : (b : List ℕ) (calls : List Call) (before : List ℕ) → Val
 lent-starts b calls before ok = record { valid = ok; going = going-starts (cacheOf b) calls before }
 
 pub lent-on :
-  (b now left : List ℕ) (calls : List Call) (before out after : List ℕ) (i : ℕ) (call : Call) (n : ℕ) →
-  i < length calls →
-  getD calls i close ≡ call →
-  CalledLent now call n left →
-  after ≡ set out i n →
-  GoingLent b calls before i now out →
-  GoingLent b calls before (i + 1) left after
+    (b now left : List ℕ) (calls : List Call) (before out after : List ℕ) (i : ℕ) (call : Call) (n : ℕ) →
+    i < length calls →
+    getD calls i close ≡ call →
+    CalledLent now call n left →
+    after ≡ set out i n →
+    GoingLent b calls before i now out →
+    GoingLent b calls before (i + 1) left after
 lent-on b now left calls before out after i call n l e h noted g =
     record {
       valid = h .fine (g .valid) .next .valid;
-      going = going-on (cacheOf b) (cacheOf now) calls before out after i call (reply n left) l e (lent-called now left call n (g .valid) h) noted (g .going)
+      going = going-on (cacheOf b) (cacheOf now) calls before out after i call (reply n left) l e (lent-called now left call n (g .valid) h) noted (g .going);
     }
 
 pub lent-ends : (b now : List ℕ) (calls : List Call) (before out : List ℕ) (i : ℕ) → length calls ≤ i → GoingLent b calls before i now out → RanLentCalls b calls before out now
@@ -56,21 +56,21 @@ lent-run-refused b xs k calls before left n o e =
     record { answer = o .answer; refused = λ z. (o .refused z, refl); numbers = []; season = λ z. absurd (e z) }
 
 pub lent-run-taken :
-  (b xs first : List ℕ) (k : ℕ) (calls : List Call) (before after left : List ℕ) (n : ℕ) →
-  OpenedLent b k xs n first →
-  n ≡ 0 →
-  (ValidBytes first → RanLentCalls first calls before after left) →
-  RanLent b k xs calls before after 0 left
+    (b xs first : List ℕ) (k : ℕ) (calls : List Call) (before after left : List ℕ) (n : ℕ) →
+    OpenedLent b k xs n first →
+    n ≡ 0 →
+    (ValidBytes first → RanLentCalls first calls before after left) →
+    RanLent b k xs calls before after 0 left
 lent-run-taken b xs first k calls before after left n o e run =
     let begun : OpenedLent b k xs 0 first = subst (λ (z : ℕ). OpenedLent b k xs z first) e o in
     let r = run (begun .taken refl .valid) in
     let s : Season k (catalogIn xs) calls (r .ran .numbers) (cacheOf left) =
-      season-by-value k (catalogIn xs) calls (r .ran .numbers) (cacheOf left)
-      (record { first = reply 0 first; opening = lent-opened b xs first k begun; accepted = refl; follows = r .ran .follows })
+    season-by-value k (catalogIn xs) calls (r .ran .numbers) (cacheOf left)
+    (record { first = reply 0 first; opening = lent-opened b xs first k begun; accepted = refl; follows = r .ran .follows })
     in
     record {
       answer = sym e ∙ o .answer;
       refused = λ z. absurd (z refl);
       numbers = r .ran .numbers;
-      season = λ z. (record { answers = s .answers; valid = r .valid; stands = s .stands; wear = s .wear }, r .ran .noted)
+      season = λ z. (record { answers = s .answers; valid = r .valid; stands = s .stands; wear = s .wear }, r .ran .noted);
     }

@@ -24,7 +24,7 @@ sizes c f =
       words = f .dirty;
       tenths = f .whole .tenths;
       loads = f .whole .itemloads;
-      writebacks = f .whole .itemwritebacks
+      writebacks = f .whole .itemwritebacks;
     }
 
 -- valid bytes are the encoding of the cache that they stand for
@@ -35,6 +35,6 @@ pub lent-one : (v : Standing) (b d : List ℕ) → Below 256 b → Below 256 d �
 lent-one v b d hb hd sb sd =
     sym (encoded v b hb sb)
     ∙ ap bytesOf
-      (tells (cacheOf b) (cacheOf d) (sizes (cacheOf b) (fits b hb)) (sizes (cacheOf d) (fits d hd)) (sb .valid .cache .fields) (sd .valid .cache .fields)
-      (sb .stands ∙ sym (sd .stands)))
+    (tells (cacheOf b) (cacheOf d) (sizes (cacheOf b) (fits b hb)) (sizes (cacheOf d) (fits d hd)) (sb .valid .cache .fields) (sd .valid .cache .fields)
+    (sb .stands ∙ sym (sd .stands)))
     ∙ encoded v d hd sd

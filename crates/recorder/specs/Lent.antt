@@ -3,7 +3,7 @@ use mathlib.Core.Path.{_≡_}
 use mathlib.Core.Logic.{_≢_}
 use mathlib.Core.Bool.{Bool, cond, _&&_}
 use mathlib.Core.List.{List}
-use Prim.Native.Nat.{ℕ, _+_, _*_, _/_, _%_, _<_}
+use Prim.Native.Nat.{ℕ, _+_, _*_, _/_, _%_, _^_, _<_}
 use lib.ListN.{length, getD}
 use lib.Dec.{eqb, leb}
 use Rattle.landlord.specs.Fold.{tab}
@@ -13,7 +13,8 @@ use Rattle.landlord.specs.Figures.{Standing, opened}
 use Rattle.landlord.specs.Calls.{Call, openingRefusal, refusalNow, after}
 use Rattle.cache_state.specs.View.{view}
 use Rattle.cache_state.specs.Valid.{Valid}
-use Rattle.layout.specs.Layout.{stateBytes, cacheOf, Flagged}
+use Rattle.layout.specs.Layout.{stateBytes, cacheOf, bytesOf, Flagged, Fits}
+use Rattle.cache.specs.declared.Reply.{Reply}
 use Rattle.cache.specs.Contract.{EmptyPlace}
 
 -- "A lent state is foul unless": its length is right, its flags are 0 or 1, and the cache that the bytes stand for is valid
@@ -21,6 +22,18 @@ pub record ValidBytes (b : List ℕ) : Type 0 where
   pub size : length b ≡ stateBytes
   pub flags : Flagged b
   pub cache : Valid (cacheOf b)
+
+-- bytes of some cache, valid or not
+pub record Readable (b : List ℕ) : Type 0 where
+  pub size : length b ≡ stateBytes
+  pub flags : Flagged b
+
+-- what a reply leaves in the bytes: the next cache, or, refused, what they held
+pub record Settled (b : List ℕ) (r : Reply) (number : ℕ) (left : List ℕ) : Type 0 where
+  pub answer : number ≡ r .number
+  pub refused : r .number ≢ 0 → left ≡ b
+  pub stored : r .number ≡ 0 → left ≡ bytesOf (r .cache)
+  pub fits : r .cache .n < 2 ^ 32 → Fits (r .cache)
 
 -- valid bytes of the one cache that stands where the rule stands (there is one such list of bytes: proofs/Tells.antt)
 pub record LentBecomes (v : Standing) (b : List ℕ) : Type 0 where

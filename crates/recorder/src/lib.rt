@@ -7,7 +7,11 @@ ghost use Rattle.landlord.specs.Calls.{take, close};
 ghost use Rattle.cache.specs.Run.{callFrom, callsOf};
 ghost use Rattle.recorder.specs.Lent.{ValidBytes, CalledLent, OpenedLent};
 ghost use Rattle.recorder.specs.Run.{RanLentCalls, RanLent};
-ghost use Rattle.recorder.specs.Catalogs.{BlocksIn, CostsIn};
+ghost use Rattle.recorder.specs.Catalogs.{BlocksIn, CostsIn, LengthsAsked};
+ghost use Rattle.recorder.specs.Lent.{Readable, Settled};
+ghost use Rattle.validity.specs.Decided.{Decided};
+ghost use Rattle.layout.specs.Layout.{stateBytes};
+use cache::Reply;
 
 // The bytes of a state.
 const STATE_BYTES: usize = 8792;
@@ -52,33 +56,63 @@ fn costs_in(catalog: &[u8], part: usize) -> [u16; 256]
     out
 }
 
+// The refusal of an opening for its lengths: the state's comes first (17), then the catalog's (3); 0 if both are right.
+fn lengths_refused(state: usize, catalog: usize) -> u32
+    ensures { λ r. ⌜ LengthsAsked state catalog r ⌝ }
+{
+    if state != STATE_BYTES {
+        return 17;
+    }
+    if catalog % 5 != 0 {
+        return 3;
+    }
+    if 1280 < catalog {
+        return 3;
+    }
+    0
+}
+
+// Whether bytes are those of some cache, valid or not.
+fn readable(state: &[u8]) -> bool
+    ensures { λ r. ⌜ Decided (Readable (now (state .entry))) r ⌝ }
+{
+    if state.len() == STATE_BYTES {
+        return layout::flagged(state);
+    }
+    false
+}
+
+// Stores the next cache, unless the call was refused: then every byte stays.
+fn settle(state: &mut [u8], r: Reply) -> u32
+    requires { ⌜ length (now state) ≡ stateBytes ⌝ }
+    ensures { λ n. ⌜ Settled (now (state .entry)) r n (now (state .exit)) ⌝ }
+{
+    let next = r.cache;
+    layout::fitting(next);
+    let answer = r.number;
+    if answer != 0 {
+        return answer;
+    }
+    layout::encode(next, state);
+    0
+}
+
 // Opens the state for a cache of `k` blocks and the items of the catalog, five bytes each.
 #[no_mangle]
 pub extern "C" fn recorder_open(state: &mut [u8], k: u32, catalog: &[u8]) -> u32
     ensures { λ r. ⌜ OpenedLent (now (state .entry)) k (now (catalog .entry)) r (now (state .exit)) ⌝ }
 {
-    if state.len() != STATE_BYTES {
-        return 17;
-    }
-    let size = catalog.len();
-    if size % 5 != 0 {
-        return 3;
-    }
-    if 1280 < size {
-        return 3;
+    let number = lengths_refused(state.len(), catalog.len());
+    if number != 0 {
+        return number;
     }
     let blocks = blocks_in(catalog);
     let load = costs_in(catalog, 1);
     let write = costs_in(catalog, 3);
-    let r = cache::open(k, size / 5, blocks, load, write);
-    let number = r.number;
-    if number != 0 {
-        return number;
-    }
-    let next = r.cache;
-    layout::fitting(next);
-    layout::encode(next, state);
-    0
+    settle(
+        state,
+        cache::open(k, catalog.len() / 5, blocks, load, write),
+    )
 }
 
 // Takes one step: `kind` is the code of its letter, 82 for R, 87 for W, 76 for L.
@@ -86,22 +120,13 @@ pub extern "C" fn recorder_open(state: &mut [u8], k: u32, catalog: &[u8]) -> u32
 pub extern "C" fn recorder_step(state: &mut [u8], kind: u32, item: u32, minutes: u32) -> u32
     ensures { λ r. ⌜ CalledLent (now (state .entry)) (take kind item minutes) r (now (state .exit)) ⌝ }
 {
-    if state.len() != STATE_BYTES {
+    if !readable(state) {
         return 17;
     }
-    if !layout::flagged(state) {
-        return 17;
-    }
-    let c = layout::decode(state);
-    let r = cache::take(c, kind, item, minutes);
-    let number = r.number;
-    if number != 0 {
-        return number;
-    }
-    let next = r.cache;
-    layout::fitting(next);
-    layout::encode(next, state);
-    0
+    settle(
+        state,
+        cache::take(layout::decode(state), kind, item, minutes),
+    )
 }
 
 // Closes the log.
@@ -109,22 +134,10 @@ pub extern "C" fn recorder_step(state: &mut [u8], kind: u32, item: u32, minutes:
 pub extern "C" fn recorder_close(state: &mut [u8]) -> u32
     ensures { λ r. ⌜ CalledLent (now (state .entry)) close r (now (state .exit)) ⌝ }
 {
-    if state.len() != STATE_BYTES {
+    if !readable(state) {
         return 17;
     }
-    if !layout::flagged(state) {
-        return 17;
-    }
-    let c = layout::decode(state);
-    let r = cache::shut(c);
-    let number = r.number;
-    if number != 0 {
-        return number;
-    }
-    let next = r.cache;
-    layout::fitting(next);
-    layout::encode(next, state);
-    0
+    settle(state, cache::shut(layout::decode(state)))
 }
 
 // A call from four numbers: 0 and then a step's kind, item and minutes; or another number, and it is the closing.
@@ -139,15 +152,19 @@ fn call(state: &mut [u8], which: u32, kind: u32, item: u32, minutes: u32) -> u32
 
 // Makes the calls that the numbers stand for, four to a call; a remainder is no call.
 fn run_calls(state: &mut [u8], calls: &[u32], answers: &mut [u32])
-    ensures {
-        λ _. ⌜ (ValidBytes (now (state .entry)) → RanLentCalls (now (state .entry)) (callsOf (now (calls .entry))) (now (answers .entry)) (now (answers .exit)) (now (state .exit))) ⌝
-    }
+    ensures { λ _. ⌜ (ValidBytes (now (state .entry)) → RanLentCalls (now (state .entry)) (callsOf (now (calls .entry))) (now (answers .entry)) (now (answers .exit)) (now (state .exit))) ⌝ }
 {
     let count = calls.len() / 4;
     let mut at = 0;
     let mut i = 0;
     while i < count {
-        let number = call(state, calls[at], calls[at + 1], calls[at + 2], calls[at + 3]);
+        let number = call(
+            state,
+            calls[at],
+            calls[at + 1],
+            calls[at + 2],
+            calls[at + 3],
+        );
         cache::note(answers, i, number);
         at = at + 4;
         i = i + 1;
@@ -156,9 +173,7 @@ fn run_calls(state: &mut [u8], calls: &[u32], answers: &mut [u32])
 
 // A whole list of calls on lent bytes, from an opening on. The answers are noted as far as there is place.
 pub fn run(state: &mut [u8], k: u32, catalog: &[u8], calls: &[u32], answers: &mut [u32]) -> u32
-    ensures {
-        λ r. ⌜ RanLent (now (state .entry)) k (now (catalog .entry)) (callsOf (now (calls .entry))) (now (answers .entry)) (now (answers .exit)) r (now (state .exit)) ⌝
-    }
+    ensures { λ r. ⌜ RanLent (now (state .entry)) k (now (catalog .entry)) (callsOf (now (calls .entry))) (now (answers .entry)) (now (answers .exit)) r (now (state .exit)) ⌝ }
 {
     let number = recorder_open(state, k, catalog);
     if number != 0 {

@@ -2,76 +2,55 @@
 use mathlib.Core.Path.{_≡_, sym, subst, _∙_}
 use borrow.Author.Needs.{needs}
 use borrow.Author.Tests.{not-true, not-false}
+use Rattle.landlord.specs.Calls.{take}
 use Rattle.cache_state.specs.declared.Cache.{Cache}
 use Rattle.cache.specs.Contract.{Called}
-use Rattle.recorder.proofs.Lents.{wrong-length, wrong-flags, lent-refused, lent-taken}
-use Rattle.landlord.specs.Calls.{take}
+use Rattle.recorder.proofs.Lents.{unreadable, lent-settled}
 use Rattle.recorder.proofs.recorder_step.Statement.{statement}
 use Rattle.recorder.proofs.recorder_step.Tie as tie
 use Rattle.recorder.proofs.recorder_step.Reads as reads
 use Rattle.recorder.proofs.recorder_step.Lts as lts
 use Rattle.cache.proofs.take.Reads as take-reads
 use Rattle.layout.proofs.decode.Reads as decode-reads
-use Rattle.layout.proofs.encode.Reads as encode-reads
-use Rattle.layout.proofs.fitting.Reads as fitting-reads
-use Rattle.layout.proofs.flagged.Reads as flagged-reads
+use Rattle.recorder.proofs.readable.Reads as readable-reads
+use Rattle.recorder.proofs.settle.Reads as settle-reads
 
-returns : tie.Need-returns
-returns c = let a = c .before .before .args in wrong-length (a .state .now) (take (a .kind) (a .item) (a .minutes)) (c .if1 .taken)
-
-flagged-requires : tie.Need-flagged-requires
-flagged-requires c κs = c .before .if1 .left
+readable-requires : tie.Need-readable-requires
+readable-requires c κs = search needs
 
 same-length : tie.Need-same-length
 same-length c = search needs
 
-returns-2 : tie.Need-returns-2
-returns-2 c = let a = c .before .before .before .before .before .args in wrong-flags (a .state .now) (take (a .kind) (a .item) (a .minutes)) (c .before .flagged .result) (c .before .flagged .ensures) (not-true _ (c .if2 .taken))
+returns : tie.Need-returns
+returns c = let a = c .before .before .before .before .args in unreadable (a .state .now) (take (a .kind) (a .item) (a .minutes)) (c .before .readable .result) (c .before .readable .ensures) (not-true _ (c .if1 .taken))
 
 decode-requires : tie.Need-decode-requires
-decode-requires c κs = c .before .before .before .before .if1 .left
+decode-requires c κs = c .before .before .before .readable .ensures .yes (not-false _ (c .before .before .if1 .left)) .size
 
 take-requires : tie.Need-take-requires
 take-requires c κs = search needs
 
+settle-requires : tie.Need-settle-requires
+settle-requires c κs = c .before .before .before .before .before .readable .ensures .yes (not-false _ (c .before .before .before .before .if1 .left)) .size
+
 same-length-2 : tie.Need-same-length-2
 same-length-2 c = search needs
 
-returns-3 : tie.Need-returns-3
-returns-3 c =
-    let a = c .before .before .before .before .before .before .before .before .before .args in
-    lent-refused (a .state .now) (take (a .kind) (a .item) (a .minutes)) (c .before .take .result) (c .before .before .before .before .before .before .before .if1 .left) (c .before .before .before .before .before .flagged .ensures .yes (not-false _ (c .before .before .before .before .if2 .left)))
-    (subst (λ (z : Cache). Called z (take (a .kind) (a .item) (a .minutes)) (c .before .take .result)) (c .before .before .decode .ensures) (c .before .take .ensures)) (c .if3 .taken)
-
-fitting-requires : tie.Need-fitting-requires
-fitting-requires c κs = search needs
-
-encode-requires : tie.Need-encode-requires
-encode-requires c κs = c .before .before .before .before .before .before .before .before .before .before .if1 .left
-
-same-length-3 : tie.Need-same-length-3
-same-length-3 c = search needs
-
-returns-4 : tie.Need-returns-4
-returns-4 c =
-    let a = c .before .before .before .before .before .before .before .before .before .before .before .before .before .before .before .args in
-    lent-taken (a .state .now) _ (take (a .kind) (a .item) (a .minutes)) (c .before .before .before .before .before .before .before .take .result)
-    (subst (λ (z : Cache). Called z (take (a .kind) (a .item) (a .minutes)) (c .before .before .before .before .before .before .before .take .result)) (c .before .before .before .before .before .before .before .before .decode .ensures) (c .before .before .before .before .before .before .before .take .ensures)) (c .before .before .before .before .before .before .if3 .left)
-    (c .before .before .before .before .fitting .ensures) (c .before .before .encode .ensures) (c .before .before .before .before .before .before .before .before .before .before .before .before .before .if1 .left) (c .before .before .before .before .before .before .before .before .before .before .before .flagged .ensures .yes (not-false _ (c .before .before .before .before .before .before .before .before .before .before .if2 .left)))
+returns-2 : tie.Need-returns-2
+returns-2 c =
+    let a = c .before .before .before .before .before .before .before .before .before .before .before .args in
+    lent-settled (a .state .now) _ (take (a .kind) (a .item) (a .minutes)) (c .before .before .before .take .result) (c .before .before .settle .result) (c .before .before .before .before .before .before .before .before .readable .ensures .yes (not-false _ (c .before .before .before .before .before .before .before .if1 .left)))
+    (subst (λ (z : Cache). Called z (take (a .kind) (a .item) (a .minutes)) (c .before .before .before .take .result)) (c .before .before .before .before .decode .ensures) (c .before .before .before .take .ensures)) (c .before .before .settle .ensures)
 
 pub recorder-step-spec : {M : Type 1} → statement M
 recorder-step-spec =
     tie.close
     (tie.spec
-    returns
-    flagged-requires
+    readable-requires
     same-length
-    returns-2
+    returns
     decode-requires
     take-requires
+    settle-requires
     same-length-2
-    returns-3
-    fitting-requires
-    encode-requires
-    same-length-3
-    returns-4)
+    returns-2)

@@ -83,15 +83,14 @@ loop-again : tie.Need-loop-again Inv-loop μ-loop
 loop-again c =
     let a = c .before .before .before .before .before .before .before .before .before .before .before .before .before .before .before .before .before .args in
     let w = c .before .before .before .before .before .before .before .before .before .before .before .before .before .loop in
-    let xs = a .calls .now in
-    (
+    let xs = a .calls .now in (
       omega arith,
       omega arith,
       search needs,
       ap length (c .before .before .note .ensures) ∙ length-set (w .answers) (w .i) (c .before .before .before .before .before .before .call .result) ∙ w .inv .3,
       λ ok.
-        lent-on (a .state .now) (w .state) _ (callsOf xs) (a .answers .now) (w .answers) _ (w .i) _ (c .before .before .before .before .before .before .call .result)
-        (omega (arith, count-is xs)) (call-at xs (w .i) (w .at) (omega arith) (w .inv .1)) (c .before .before .before .before .before .before .call .ensures) (c .before .before .note .ensures) (w .inv .4 ok)
+          lent-on (a .state .now) (w .state) _ (callsOf xs) (a .answers .now) (w .answers) _ (w .i) _ (c .before .before .before .before .before .before .call .result)
+          (omega (arith, count-is xs)) (call-at xs (w .i) (w .at) (omega arith) (w .inv .1)) (c .before .before .before .before .before .before .call .ensures) (c .before .before .note .ensures) (w .inv .4 ok),
     )
 
 same-length : tie.Need-same-length Inv-loop μ-loop

@@ -1,0 +1,40 @@
+//! The three calls of the library and of the plain implementation, under one type.
+
+use crate::plain;
+
+unsafe extern "C" {
+    fn recorder_open(
+        state: *mut u8,
+        state_len: usize,
+        k: u32,
+        catalog: *const u8,
+        catalog_len: usize,
+    ) -> u32;
+    fn recorder_step(state: *mut u8, state_len: usize, kind: u32, item: u32, minutes: u32) -> u32;
+    fn recorder_close(state: *mut u8, state_len: usize) -> u32;
+}
+
+#[derive(Clone, Copy)]
+pub struct Calls {
+    pub open: fn(&mut [u8], u32, &[u8]) -> u32,
+    pub step: fn(&mut [u8], u32, u32, u32) -> u32,
+    pub close: fn(&mut [u8]) -> u32,
+}
+
+// SAFETY, of each call: the pointer is good for the length beside it, the state's bytes are borrowed alone, and the
+// library has no condition on the values.
+pub const LIBRARY: Calls = Calls {
+    open: |s, k, catalog| unsafe {
+        recorder_open(s.as_mut_ptr(), s.len(), k, catalog.as_ptr(), catalog.len())
+    },
+    step: |s, kind, item, minutes| unsafe {
+        recorder_step(s.as_mut_ptr(), s.len(), kind, item, minutes)
+    },
+    close: |s| unsafe { recorder_close(s.as_mut_ptr(), s.len()) },
+};
+
+pub const PLAIN: Calls = Calls {
+    open: plain::open,
+    step: plain::step,
+    close: plain::close,
+};

@@ -1,0 +1,387 @@
+//! Equal answers and equal bytes: every call is made on both implementations, on openings and logs at random, on damaged
+//! states, and on valid states that no log leads to.
+
+use crate::calls::{LIBRARY, PLAIN};
+use crate::plain::{self, FLUSH, MAX_STEPS, READ, STATE_BYTES, UNIT, WRITE, at};
+use crate::random::{Random, catalog};
+
+/// One state for each implementation, always with the same bytes.
+#[derive(Clone)]
+struct Pair {
+    library: Vec<u8>,
+    plain: Vec<u8>,
+}
+
+/// How often each number was answered.
+#[derive(Default)]
+pub struct Tally {
+    pub answers: [u64; 18],
+}
+
+impl Pair {
+    fn of(bytes: Vec<u8>) -> Pair {
+        Pair {
+            plain: bytes.clone(),
+            library: bytes,
+        }
+    }
+
+    fn both(
+        &mut self,
+        tally: &mut Tally,
+        what: &str,
+        before: &[u8],
+        [library, plain]: [u32; 2],
+    ) -> u32 {
+        if library != plain || self.library != self.plain {
+            println!("DIFFERENCE: {what}: the library answers {library}, plain Rust {plain}");
+            for (i, (a, b)) in self
+                .library
+                .iter()
+                .zip(&self.plain)
+                .enumerate()
+                .filter(|(_, (a, b))| a != b)
+                .take(20)
+            {
+                println!(
+                    "  byte {i}: before {}, library {a}, plain Rust {b}",
+                    before[i]
+                );
+            }
+            let file = std::env::temp_dir().join("recorder-difference.state");
+            std::fs::write(&file, before).expect("the state is written");
+            println!("  the state before the call is in {}", file.display());
+            std::process::exit(1);
+        }
+        if plain != 0 && self.plain != before {
+            println!("DIFFERENCE: {what}: refused ({plain}), and yet a byte has changed");
+            std::process::exit(1);
+        }
+        tally.answers[plain as usize] += 1;
+        plain
+    }
+
+    fn open(&mut self, tally: &mut Tally, k: u32, catalog: &[u8]) -> u32 {
+        let before = self.plain.clone();
+        let answers = [
+            (LIBRARY.open)(&mut self.library, k, catalog),
+            (PLAIN.open)(&mut self.plain, k, catalog),
+        ];
+        self.both(tally, &format!("open {k} {catalog:?}"), &before, answers)
+    }
+
+    fn step(&mut self, tally: &mut Tally, [kind, item, minutes]: [u32; 3]) -> u32 {
+        let before = self.plain.clone();
+        let answers = [
+            (LIBRARY.step)(&mut self.library, kind, item, minutes),
+            (PLAIN.step)(&mut self.plain, kind, item, minutes),
+        ];
+        self.both(
+            tally,
+            &format!("step {kind} {item} {minutes}"),
+            &before,
+            answers,
+        )
+    }
+
+    fn close(&mut self, tally: &mut Tally) -> u32 {
+        let before = self.plain.clone();
+        let answers = [
+            (LIBRARY.close)(&mut self.library),
+            (PLAIN.close)(&mut self.plain),
+        ];
+        self.both(tally, "close", &before, answers)
+    }
+}
+
+fn put32(s: &mut [u8], at: usize, value: u32) {
+    s[at..at + 4].copy_from_slice(&value.to_le_bytes());
+}
+
+fn put64(s: &mut [u8], at: usize, value: u64) {
+    s[at..at + 8].copy_from_slice(&value.to_le_bytes());
+}
+
+/// The arguments of a step: mostly good ones, over the first `n` items.
+fn arguments(r: &mut Random, n: usize) -> [u32; 3] {
+    if r.one_in(25) {
+        let any = [0, 5, 76, 82, 87, 255, 256, 1440, 1441, u32::MAX];
+        return [r.pick(&any), r.pick(&any), r.pick(&any)];
+    }
+    let kind = if r.one_in(12) {
+        FLUSH
+    } else {
+        r.pick(&[READ, WRITE])
+    };
+    let item = if n == 0 || r.one_in(40) {
+        r.below(257) as u32
+    } else {
+        r.below(n as u64) as u32
+    };
+    let minutes = if r.one_in(40) {
+        r.next() as u32
+    } else {
+        r.below(1441) as u32
+    };
+    [kind, item, minutes]
+}
+
+fn some_n(r: &mut Random) -> usize {
+    let few = r.below(12) as usize;
+    let any = r.below(257) as usize;
+    r.pick(&[few, few, few, 30, any, 256])
+}
+
+/// A capacity for a catalog: from one item's blocks to all of them.
+fn some_k(r: &mut Random, catalog: &[u8]) -> u32 {
+    let all: u64 = catalog.iter().step_by(5).map(|&b| u64::from(b)).sum();
+    let part = r.between(1, all.clamp(1, 4096)) as u32;
+    r.pick(&[part, part, part.min(16), all.clamp(1, 4096) as u32, 4096])
+}
+
+/// Changes some bytes: any, or a number by little.
+fn damage(r: &mut Random, s: &mut Pair) {
+    for _ in 0..r.pick(&[1, 1, 1, 2, 3]) {
+        let n = s.plain[at::N] as usize;
+        let i = r.pick(&[0, 1, 2, n, r.0 as usize % 256, 255]).min(255);
+        let any = r.below(STATE_BYTES as u64) as usize;
+        let head = r.below(at::LOAD_CREDIT as u64) as usize;
+        let place = r.pick(&[
+            any,
+            head,
+            at::LOAD_CREDIT + 8 * i,
+            at::WRITE_CREDIT + 8 * i,
+            at::TENTHS + 4 * i,
+            at::ITEM_LOADS + 4 * i,
+            at::ITEM_WRITEBACKS + 4 * i,
+            at::LOAD + 2 * i,
+            at::WRITE + 2 * i,
+            at::BLOCKS + i,
+            at::HELD + i,
+        ]);
+        let old = s.plain[place];
+        let bit = 1 << r.below(8);
+        let new = r.pick(&[
+            old.wrapping_add(1),
+            old.wrapping_sub(1),
+            old ^ bit,
+            0,
+            1,
+            255,
+        ]);
+        s.plain[place] = new;
+        s.library[place] = new;
+    }
+}
+
+/// A log at random; on the way, copies of the state are damaged and called.
+fn random_log(r: &mut Random, tally: &mut Tally) {
+    let n = some_n(r);
+    let catalog = catalog(r, n);
+    let k = some_k(r, &catalog);
+    let mut pair = Pair::of(vec![r.next() as u8; STATE_BYTES]);
+    assert_eq!(pair.open(tally, k, &catalog), 0);
+    for _ in 0..150 {
+        pair.step(tally, arguments(r, n));
+        if r.one_in(4) {
+            let mut other = pair.clone();
+            damage(r, &mut other);
+            for _ in 0..3 {
+                other.step(tally, arguments(r, n));
+            }
+            other.close(tally);
+        }
+        if r.one_in(150) {
+            pair.close(tally);
+        }
+    }
+    pair.close(tally);
+    pair.close(tally);
+    pair.step(tally, arguments(r, n));
+}
+
+fn random_opening(r: &mut Random, tally: &mut Tally) {
+    let n = some_n(r);
+    let mut bytes = catalog(r, n);
+    match r.below(6) {
+        0 => bytes.truncate(r.below(bytes.len() as u64 + 1) as usize),
+        1 => bytes.resize(r.pick(&[1279, 1280, 1281, 1285, 4096]), 1),
+        2 if n > 0 => bytes[5 * r.below(n as u64) as usize] = r.pick(&[0, 17, 255]),
+        _ => {}
+    }
+    let k = r.pick(&[0, 1, 2, 16, 4095, 4096, 4097, u32::MAX]);
+    let right = STATE_BYTES;
+    let len = r.pick(&[right, right, right, right, 0, 1, right - 1, right + 1]);
+    let mut pair = Pair::of((0..len).map(|_| r.next() as u8).collect());
+    pair.open(tally, k, &bytes);
+    pair.step(tally, [READ, 0, 0]);
+    pair.close(tally);
+}
+
+/// Shares out `total` among the first `n` numbers of the run at `at`.
+fn share_out(r: &mut Random, s: &mut [u8], at: usize, n: usize, total: u32) {
+    let mut rest = total;
+    for i in 0..n {
+        let part = if i + 1 == n {
+            rest
+        } else {
+            r.below(u64::from(rest) + 1) as u32
+        };
+        put32(s, at + 4 * i, part);
+        rest -= part;
+    }
+}
+
+/// A valid state that need not be one that a log leads to: any items held, any credits, figures at the ends of their ranges.
+fn random_valid(r: &mut Random, n: usize) -> Vec<u8> {
+    let catalog = catalog(r, n);
+    let k = some_k(r, &catalog);
+    let mut s = vec![0; STATE_BYTES];
+    assert_eq!(plain::open(&mut s, k, &catalog), 0);
+    let closed = r.one_in(20);
+    let (mut used, mut held, mut dirty) = (0, 0, 0);
+    for (i, &[blocks, load_low, load_high, write_low, write_high]) in
+        catalog.as_chunks().0.iter().enumerate()
+    {
+        if used + u32::from(blocks) > k || r.one_in(4) {
+            continue;
+        }
+        used += u32::from(blocks);
+        held += 1;
+        s[at::HELD + i] = 1;
+        let mut credit = |cost: [u8; 2]| {
+            let most = u64::from(u16::from_le_bytes(cost)) * UNIT / u64::from(blocks);
+            let any = r.below(most + 1);
+            r.pick(&[0, most, any, any]) * u64::from(blocks)
+        };
+        put64(
+            &mut s,
+            at::LOAD_CREDIT + 8 * i,
+            credit([load_low, load_high]),
+        );
+        let write_credit = credit([write_low, write_high]);
+        if !closed && r.one_in(2) {
+            dirty += 1;
+            s[at::DIRTY + i / 8] |= 1 << (i % 8);
+            put64(&mut s, at::WRITE_CREDIT + 8 * i, write_credit);
+        }
+    }
+    let evictions = if n == 0 {
+        0
+    } else {
+        r.pick(&[0, 1, 5, 1000, 300_000])
+    };
+    let loads = held + evictions;
+    let writebacks = if n == 0 {
+        0
+    } else {
+        r.pick(&[0, 1, 5, 1000, 300_000])
+    };
+    let dirty_evictions = r.below(u64::from(evictions.min(writebacks)) + 1) as u32;
+    let least = loads.max(writebacks + dirty);
+    let steps = r.pick(&[least, least + 1, MAX_STEPS - 1, MAX_STEPS]);
+    let hits = r.below(u64::from(steps - loads) + 1) as u32;
+    for (at, count) in [
+        (at::STEPS, steps),
+        (at::HITS, hits),
+        (at::LOADS, loads),
+        (at::FLUSHES, steps - loads - hits),
+        (at::EVICTIONS, evictions),
+        (at::DIRTY_EVICTIONS, dirty_evictions),
+        (at::WRITEBACKS, writebacks),
+        (at::CLOSED, u32::from(closed)),
+    ] {
+        put32(&mut s, at, count);
+    }
+    for (at, count) in [(at::LOAD_COST, loads), (at::WRITE_COST, writebacks)] {
+        let most = 65_535 * u64::from(count);
+        let any = r.below(most + 1);
+        put64(&mut s, at, r.pick(&[0, most, any]));
+    }
+    share_out(r, &mut s, at::ITEM_LOADS, n, loads);
+    share_out(r, &mut s, at::ITEM_WRITEBACKS, n, writebacks);
+    for i in 0..n {
+        put32(&mut s, at::TENTHS + 4 * i, r.pick(&[0, 1, 240]) * steps);
+    }
+    s
+}
+
+fn from_valid(r: &mut Random, tally: &mut Tally) {
+    let n = some_n(r);
+    let start = Pair::of(random_valid(r, n));
+    assert_ne!(
+        start.clone().close(tally),
+        plain::INVALID_STATE,
+        "the generator makes valid states"
+    );
+    let mut pair = start.clone();
+    for _ in 0..20 {
+        pair.step(tally, arguments(r, n));
+    }
+    pair.close(tally);
+    for _ in 0..20 {
+        let mut other = start.clone();
+        damage(r, &mut other);
+        other.step(tally, arguments(r, n));
+        other.close(tally);
+    }
+}
+
+/// Every byte of a state in turn, with some other values.
+fn each_byte(r: &mut Random, tally: &mut Tally, n: usize) {
+    let start = Pair::of(random_valid(r, n));
+    for place in 0..STATE_BYTES {
+        let old = start.plain[place];
+        for new in [old.wrapping_add(1), old.wrapping_sub(1), old ^ 0x80, 17] {
+            let mut pair = start.clone();
+            pair.plain[place] = new;
+            pair.library[place] = new;
+            pair.step(tally, arguments(r, n));
+            pair.close(tally);
+        }
+    }
+}
+
+/// A whole log of 1,000,000 steps, and what comes after it.
+fn longest_log(r: &mut Random, tally: &mut Tally) {
+    let mut pair = Pair::of(vec![0; STATE_BYTES]);
+    let items = [
+        [1, 4, 0, 6, 0],
+        [2, 6, 0, 2, 0],
+        [1, 3, 0, 9, 0],
+        [16, 255, 255, 255, 255],
+    ];
+    assert_eq!(pair.open(tally, 17, items.as_flattened()), 0);
+    for _ in 0..MAX_STEPS {
+        let kind = if r.one_in(50) {
+            FLUSH
+        } else {
+            r.pick(&[READ, WRITE])
+        };
+        assert_eq!(pair.step(tally, [kind, r.below(4) as u32, 1440]), 0);
+    }
+    assert_eq!(pair.step(tally, [READ, 0, 0]), plain::LOG_FULL);
+    assert_eq!(pair.step(tally, [0, 0, 0]), plain::LOG_FULL);
+    assert_eq!(pair.close(tally), 0);
+    assert_eq!(pair.close(tally), plain::CLOSED);
+}
+
+/// Compares both; a difference ends the program.
+pub fn compare() -> Tally {
+    let r = &mut Random(1);
+    let tally = &mut Tally::default();
+    for _ in 0..2_000 {
+        random_opening(r, tally);
+    }
+    for _ in 0..600 {
+        random_log(r, tally);
+    }
+    for _ in 0..600 {
+        from_valid(r, tally);
+    }
+    for n in [0, 3, 30, 256] {
+        each_byte(r, tally, n);
+    }
+    longest_log(r, tally);
+    std::mem::take(tally)
+}

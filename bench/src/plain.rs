@@ -1,0 +1,364 @@
+//! The recorder's three calls in plain Rust: the same bytes (docs/LAYOUT.md), the same checks, the same answers as the
+//! proved library, which this is the yardstick for. The whole state is tested at every step and close; the rule then
+//! works on the lent bytes in place.
+
+pub const STATE_BYTES: usize = 8_792;
+/// One unit of cost in shares: the least common multiple of 1 to 16.
+pub const UNIT: u64 = 720_720;
+pub const MAX_STEPS: u32 = 1_000_000;
+
+// Answers: 0 is taken, the others are paper 01's refusals.
+pub const TAKEN: u32 = 0;
+pub const OUT_OF_RANGE: u32 = 3; // off the tape
+pub const UNKNOWN_ITEM: u32 = 6; // stranger
+pub const ITEM_TOO_LARGE: u32 = 7; // too bulky
+pub const LOG_FULL: u32 = 8; // log full
+pub const CLOSED: u32 = 9; // closed
+pub const INVALID_STATE: u32 = 17; // foul locker
+
+pub const READ: u32 = b'R' as u32;
+pub const WRITE: u32 = b'W' as u32;
+pub const FLUSH: u32 = b'L' as u32; // landing
+
+/// Where each field stands.
+pub mod at {
+    pub const K: usize = 0;
+    pub const N: usize = 4;
+    pub const STEPS: usize = 8;
+    pub const HITS: usize = 12;
+    pub const LOADS: usize = 16;
+    pub const EVICTIONS: usize = 20;
+    pub const DIRTY_EVICTIONS: usize = 24;
+    pub const WRITEBACKS: usize = 28;
+    pub const FLUSHES: usize = 32;
+    pub const CLOSED: usize = 36;
+    pub const LOAD_COST: usize = 40;
+    pub const WRITE_COST: usize = 48;
+    pub const DIRTY: usize = 56;
+    pub const LOAD_CREDIT: usize = 88;
+    pub const WRITE_CREDIT: usize = 2136;
+    pub const TENTHS: usize = 4184;
+    pub const ITEM_LOADS: usize = 5208;
+    pub const ITEM_WRITEBACKS: usize = 6232;
+    pub const LOAD: usize = 7256;
+    pub const WRITE: usize = 7768;
+    pub const BLOCKS: usize = 8280;
+    pub const HELD: usize = 8536;
+}
+
+type Bytes = [u8; STATE_BYTES];
+
+fn get32(s: &Bytes, at: usize) -> u32 {
+    u32::from_le_bytes(s[at..at + 4].try_into().unwrap())
+}
+
+fn get64(s: &Bytes, at: usize) -> u64 {
+    u64::from_le_bytes(s[at..at + 8].try_into().unwrap())
+}
+
+fn add32(s: &mut Bytes, at: usize, more: u32) {
+    let sum = get32(s, at) + more;
+    s[at..at + 4].copy_from_slice(&sum.to_le_bytes());
+}
+
+fn add64(s: &mut Bytes, at: usize, more: u64) {
+    let sum = get64(s, at) + more;
+    s[at..at + 8].copy_from_slice(&sum.to_le_bytes());
+}
+
+/// The 256 numbers of `W` bytes from the place `AT` on.
+fn run<const AT: usize, const W: usize>(s: &Bytes) -> &[[u8; W]; 256] {
+    s[AT..AT + 256 * W].as_chunks().0.try_into().unwrap()
+}
+
+fn run_mut<const AT: usize, const W: usize>(s: &mut Bytes) -> &mut [[u8; W]; 256] {
+    s[AT..AT + 256 * W].as_chunks_mut().0.try_into().unwrap()
+}
+
+/// What one place of the state says of its item.
+struct Item {
+    blocks: u8,
+    load: u16,
+    write: u16,
+    held: u8,
+    load_credit: u64,
+    write_credit: u64,
+}
+
+fn item(s: &Bytes, i: usize) -> Item {
+    Item {
+        blocks: s[at::BLOCKS + i],
+        load: u16::from_le_bytes(run::<{ at::LOAD }, 2>(s)[i]),
+        write: u16::from_le_bytes(run::<{ at::WRITE }, 2>(s)[i]),
+        held: s[at::HELD + i],
+        load_credit: u64::from_le_bytes(run::<{ at::LOAD_CREDIT }, 8>(s)[i]),
+        write_credit: u64::from_le_bytes(run::<{ at::WRITE_CREDIT }, 8>(s)[i]),
+    }
+}
+
+fn set_load_credit(s: &mut Bytes, i: usize, credit: u64) {
+    run_mut::<{ at::LOAD_CREDIT }, 8>(s)[i] = credit.to_le_bytes();
+}
+
+fn set_write_credit(s: &mut Bytes, i: usize, credit: u64) {
+    run_mut::<{ at::WRITE_CREDIT }, 8>(s)[i] = credit.to_le_bytes();
+}
+
+/// The four words of dirty marks.
+fn dirty_words(s: &Bytes) -> [u64; 4] {
+    [0, 1, 2, 3].map(|w| get64(s, at::DIRTY + 8 * w))
+}
+
+fn is_dirty(s: &Bytes, i: usize) -> bool {
+    s[at::DIRTY + i / 8] >> (i % 8) & 1 == 1
+}
+
+/// Whether every byte of the places from `n` on is 0.
+fn blank_past<const AT: usize, const W: usize>(s: &Bytes, n: usize) -> bool {
+    let past = run::<AT, W>(s)[n..].as_flattened();
+    past.iter().fold(0, |all, byte| all | byte) == 0
+}
+
+fn sum32<const AT: usize>(s: &Bytes) -> u64 {
+    run::<AT, 4>(s)
+        .iter()
+        .map(|&x| u64::from(u32::from_le_bytes(x)))
+        .sum()
+}
+
+/// The blocks in use, if the state is valid (paper 01: not foul).
+fn used_if_valid(s: &Bytes) -> Option<u32> {
+    let k = get32(s, at::K);
+    let n = get32(s, at::N) as usize;
+    let steps = get32(s, at::STEPS);
+    let closed = get32(s, at::CLOSED);
+    if !(1..=4096).contains(&k) || n > 256 || steps > MAX_STEPS || closed > 1 {
+        return None;
+    }
+
+    let [hits, loads, flushes, evictions, dirty_evictions, writebacks] = [
+        at::HITS,
+        at::LOADS,
+        at::FLUSHES,
+        at::EVICTIONS,
+        at::DIRTY_EVICTIONS,
+        at::WRITEBACKS,
+    ]
+    .map(|at| u64::from(get32(s, at)));
+    let dirty = dirty_words(s);
+    let dirty_count: u32 = dirty.iter().map(|word| word.count_ones()).sum();
+    if hits + loads + flushes != u64::from(steps)
+        || dirty_evictions > evictions
+        || dirty_evictions > writebacks
+        || writebacks + u64::from(dirty_count) > u64::from(steps)
+        || get64(s, at::LOAD_COST) > 65_535 * loads
+        || get64(s, at::WRITE_COST) > 65_535 * writebacks
+        || sum32::<{ at::ITEM_LOADS }>(s) != loads
+        || sum32::<{ at::ITEM_WRITEBACKS }>(s) != writebacks
+        || (closed == 1 && dirty_count > 0)
+    {
+        return None;
+    }
+
+    let blank = blank_past::<{ at::LOAD_CREDIT }, 8>(s, n)
+        && blank_past::<{ at::WRITE_CREDIT }, 8>(s, n)
+        && blank_past::<{ at::TENTHS }, 4>(s, n)
+        && blank_past::<{ at::ITEM_LOADS }, 4>(s, n)
+        && blank_past::<{ at::ITEM_WRITEBACKS }, 4>(s, n)
+        && blank_past::<{ at::LOAD }, 2>(s, n)
+        && blank_past::<{ at::WRITE }, 2>(s, n)
+        && blank_past::<{ at::BLOCKS }, 1>(s, n)
+        && blank_past::<{ at::HELD }, 1>(s, n);
+    let tenths = &run::<{ at::TENTHS }, 4>(s)[..n];
+    if !blank || tenths.iter().any(|&t| u32::from_le_bytes(t) > 240 * steps) {
+        return None;
+    }
+
+    let mut used = 0;
+    let mut held = 0;
+    let mut held_words = [0u64; 4];
+    for i in 0..n {
+        let it = item(s, i);
+        if !(1..=16).contains(&it.blocks) {
+            return None;
+        }
+        if it.held == 0 {
+            if it.load_credit | it.write_credit != 0 {
+                return None;
+            }
+            continue;
+        }
+        let blocks = u64::from(it.blocks);
+        if it.held > 1
+            || it.load_credit > u64::from(it.load) * UNIT
+            || it.write_credit > u64::from(it.write) * UNIT
+            || !it.load_credit.is_multiple_of(blocks)
+            || !it.write_credit.is_multiple_of(blocks)
+            || (it.write_credit != 0 && dirty[i / 64] >> (i % 64) & 1 == 0)
+        {
+            return None;
+        }
+        used += u32::from(it.blocks);
+        held += 1;
+        held_words[i / 64] |= 1 << (i % 64);
+    }
+    let held_only = dirty.iter().zip(held_words).all(|(d, h)| d & !h == 0);
+    (held_only && used <= k && evictions + held == loads).then_some(used)
+}
+
+/// Item `i` is written back: it pays its write cost, is clean, and has no write credit.
+fn write_back(s: &mut Bytes, i: usize) {
+    let cost = u16::from_le_bytes(run::<{ at::WRITE }, 2>(s)[i]);
+    add32(s, at::WRITEBACKS, 1);
+    add64(s, at::WRITE_COST, u64::from(cost));
+    let count = &mut run_mut::<{ at::ITEM_WRITEBACKS }, 4>(s)[i];
+    *count = (u32::from_le_bytes(*count) + 1).to_le_bytes();
+    s[at::DIRTY + i / 8] &= !(1 << (i % 8));
+    set_write_credit(s, i, 0);
+}
+
+/// Every dirty item is written back.
+fn flush(s: &mut Bytes) {
+    for (w, mut word) in dirty_words(s).into_iter().enumerate() {
+        while word != 0 {
+            write_back(s, 64 * w + word.trailing_zeros() as usize);
+            word &= word - 1;
+        }
+    }
+}
+
+/// Evicts the held item of least credit a block, the lowest number first; each other held item loses as much for each
+/// of its blocks, from its write credit first. Answers the blocks that are free by it.
+fn evict(s: &mut Bytes, n: usize) -> u32 {
+    let mut victim = n;
+    let mut least = u64::MAX;
+    for i in 0..n {
+        let it = item(s, i);
+        if it.held == 1 {
+            let rank = (it.load_credit + it.write_credit) / u64::from(it.blocks);
+            if rank < least {
+                victim = i;
+                least = rank;
+            }
+        }
+    }
+    for i in 0..n {
+        let it = item(s, i);
+        if it.held == 1 && least != 0 {
+            let loss = u64::from(it.blocks) * least;
+            let from_write = loss.min(it.write_credit);
+            set_write_credit(s, i, it.write_credit - from_write);
+            set_load_credit(s, i, it.load_credit - (loss - from_write));
+        }
+    }
+    add32(s, at::EVICTIONS, 1);
+    if is_dirty(s, victim) {
+        add32(s, at::DIRTY_EVICTIONS, 1);
+        write_back(s, victim);
+    }
+    s[at::HELD + victim] = 0;
+    u32::from(s[at::BLOCKS + victim])
+}
+
+/// Opens a cache of `k` blocks for a catalog of 5 bytes an item.
+pub fn open(state: &mut [u8], k: u32, catalog: &[u8]) -> u32 {
+    let Ok(s): Result<&mut Bytes, _> = state.try_into() else {
+        return INVALID_STATE;
+    };
+    let (items, rest) = catalog.as_chunks::<5>();
+    if !(1..=4096).contains(&k)
+        || items.len() > 256
+        || !rest.is_empty()
+        || items.iter().any(|it| !(1..=16).contains(&it[0]))
+    {
+        return OUT_OF_RANGE;
+    }
+    s.fill(0);
+    add32(s, at::K, k);
+    add32(s, at::N, items.len() as u32);
+    for (i, &[blocks, load_low, load_high, write_low, write_high]) in items.iter().enumerate() {
+        s[at::BLOCKS + i] = blocks;
+        run_mut::<{ at::LOAD }, 2>(s)[i] = [load_low, load_high];
+        run_mut::<{ at::WRITE }, 2>(s)[i] = [write_low, write_high];
+    }
+    TAKEN
+}
+
+/// Takes one step.
+pub fn step(state: &mut [u8], kind: u32, number: u32, minutes: u32) -> u32 {
+    let Ok(s): Result<&mut Bytes, _> = state.try_into() else {
+        return INVALID_STATE;
+    };
+    let Some(mut used) = used_if_valid(s) else {
+        return INVALID_STATE;
+    };
+    if get32(s, at::CLOSED) == 1 {
+        return CLOSED;
+    }
+    if get32(s, at::STEPS) >= MAX_STEPS {
+        return LOG_FULL;
+    }
+    let in_range = match kind {
+        READ => number <= 255,
+        WRITE => number <= 255 && minutes <= 1440,
+        FLUSH => true,
+        _ => false,
+    };
+    if !in_range {
+        return OUT_OF_RANGE;
+    }
+    if kind == FLUSH {
+        flush(s);
+        add32(s, at::STEPS, 1);
+        add32(s, at::FLUSHES, 1);
+        return TAKEN;
+    }
+
+    let k = get32(s, at::K);
+    let n = get32(s, at::N) as usize;
+    let i = number as usize;
+    if i >= n {
+        return UNKNOWN_ITEM;
+    }
+    let it = item(s, i);
+    if u32::from(it.blocks) > k {
+        return ITEM_TOO_LARGE;
+    }
+    if it.held == 1 {
+        add32(s, at::HITS, 1);
+    } else {
+        while used + u32::from(it.blocks) > k {
+            used -= evict(s, n);
+        }
+        s[at::HELD + i] = 1;
+        add32(s, at::LOADS, 1);
+        add64(s, at::LOAD_COST, u64::from(it.load));
+        let count = &mut run_mut::<{ at::ITEM_LOADS }, 4>(s)[i];
+        *count = (u32::from_le_bytes(*count) + 1).to_le_bytes();
+    }
+    add32(s, at::STEPS, 1);
+    set_load_credit(s, i, u64::from(it.load) * UNIT);
+    if kind == WRITE {
+        s[at::DIRTY + i / 8] |= 1 << (i % 8);
+        set_write_credit(s, i, u64::from(it.write) * UNIT);
+        let tenths = &mut run_mut::<{ at::TENTHS }, 4>(s)[i];
+        *tenths = (u32::from_le_bytes(*tenths) + minutes / 6).to_le_bytes();
+    }
+    TAKEN
+}
+
+/// Closes the log: what is dirty is written back.
+pub fn close(state: &mut [u8]) -> u32 {
+    let Ok(s): Result<&mut Bytes, _> = state.try_into() else {
+        return INVALID_STATE;
+    };
+    if used_if_valid(s).is_none() {
+        return INVALID_STATE;
+    }
+    if get32(s, at::CLOSED) == 1 {
+        return CLOSED;
+    }
+    flush(s);
+    add32(s, at::CLOSED, 1);
+    TAKEN
+}

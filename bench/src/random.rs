@@ -1,0 +1,54 @@
+//! Random numbers from a seed (splitmix64), and random catalogs.
+
+pub struct Random(pub u64);
+
+impl Random {
+    pub fn next(&mut self) -> u64 {
+        self.0 = self.0.wrapping_add(0x9E37_79B9_7F4A_7C15);
+        let mut z = self.0;
+        z = (z ^ (z >> 30)).wrapping_mul(0xBF58_476D_1CE4_E5B9);
+        z = (z ^ (z >> 27)).wrapping_mul(0x94D0_49BB_1331_11EB);
+        z ^ (z >> 31)
+    }
+
+    /// A number below `end`.
+    pub fn below(&mut self, end: u64) -> u64 {
+        self.next() % end
+    }
+
+    /// A number from `low` to `high`, both included.
+    pub fn between(&mut self, low: u64, high: u64) -> u64 {
+        low + self.below(high - low + 1)
+    }
+
+    /// True once in `n` times.
+    pub fn one_in(&mut self, n: u64) -> bool {
+        self.below(n) == 0
+    }
+
+    pub fn pick<T: Copy>(&mut self, from: &[T]) -> T {
+        from[self.below(from.len() as u64) as usize]
+    }
+}
+
+/// A cost: small, so that ranks are often equal, or at the ends of its range, or any.
+fn cost(r: &mut Random, style: u64) -> u16 {
+    match style {
+        0 => r.below(4) as u16,
+        1 => r.pick(&[0, 1, 65_534, 65_535]),
+        _ => r.next() as u16,
+    }
+}
+
+/// A catalog of `n` items, 5 bytes each.
+pub fn catalog(r: &mut Random, n: usize) -> Vec<u8> {
+    let style = r.below(3);
+    let most = r.pick(&[1, 2, 4, 16]);
+    let mut bytes = Vec::with_capacity(5 * n);
+    for _ in 0..n {
+        bytes.push(r.between(1, most) as u8);
+        bytes.extend(cost(r, style).to_le_bytes());
+        bytes.extend(cost(r, style).to_le_bytes());
+    }
+    bytes
+}

@@ -1,0 +1,125 @@
+//! ns per step: hits, misses, and steps that are refused once the state has been tested.
+
+use std::hint::black_box;
+use std::time::Instant;
+
+use crate::calls::{Calls, LIBRARY, PLAIN};
+use crate::plain::{self, OUT_OF_RANGE, READ, STATE_BYTES, WRITE, at};
+use crate::random::Random;
+
+const STEPS: usize = 1_000;
+const ROUNDS: usize = 100;
+
+/// A state to start from and steps to take, each answered by `answer`.
+struct Log {
+    start: Vec<u8>,
+    steps: Vec<[u32; 3]>,
+    answer: u32,
+    evictions: u32,
+}
+
+#[derive(Clone, Copy)]
+enum Kind {
+    Hit,
+    Miss,
+    Refused,
+}
+
+fn get32(s: &[u8], at: usize) -> u32 {
+    u32::from_le_bytes(s[at..at + 4].try_into().unwrap())
+}
+
+/// `n` items of 1 to 4 blocks. For hits the cache has room for all and holds them; for misses it has room for half, is
+/// full, and each step asks for an item that is not held. Half of the steps are writes.
+fn log(kind: Kind, n: u32) -> Log {
+    let r = &mut Random(u64::from(n));
+    let mut catalog = Vec::new();
+    let mut all = 0;
+    for i in 0..n {
+        let blocks = 1 + i % 4;
+        all += blocks;
+        catalog.push(blocks as u8);
+        catalog.extend((r.between(1, 1000) as u16).to_le_bytes());
+        catalog.extend((r.between(1, 1000) as u16).to_le_bytes());
+    }
+    let k = if matches!(kind, Kind::Miss) {
+        all / 2
+    } else {
+        all
+    };
+    let mut state = vec![0; STATE_BYTES];
+    assert_eq!(plain::open(&mut state, k, &catalog), 0);
+    for i in 0..n {
+        assert_eq!(plain::step(&mut state, WRITE, i, 60), 0);
+    }
+    let start = state.clone();
+    let mut steps = Vec::new();
+    let mut answer = 0;
+    for _ in 0..STEPS {
+        let wanted = matches!(kind, Kind::Miss);
+        let item = loop {
+            let i = r.below(u64::from(n)) as u32;
+            if (state[at::HELD + i as usize] == 0) == wanted {
+                break i;
+            }
+        };
+        let step = match kind {
+            Kind::Refused => [0, item, 0],
+            _ => [r.pick(&[READ, WRITE]), item, r.below(1441) as u32],
+        };
+        answer = plain::step(&mut state, step[0], step[1], step[2]);
+        steps.push(step);
+    }
+    let moved = |at| get32(&state, at) - get32(&start, at);
+    let (hits, loads) = (moved(at::HITS), moved(at::LOADS));
+    match kind {
+        Kind::Hit => assert_eq!((hits, answer), (STEPS as u32, 0)),
+        Kind::Miss => assert_eq!((loads, answer), (STEPS as u32, 0)),
+        Kind::Refused => assert_eq!((hits + loads, answer), (0, OUT_OF_RANGE)),
+    }
+    Log {
+        evictions: moved(at::EVICTIONS),
+        start,
+        steps,
+        answer,
+    }
+}
+
+/// ns per step of one run over the log, the copy of the start apart.
+fn run(calls: Calls, log: &Log, state: &mut Vec<u8>) -> f64 {
+    state.clone_from(&log.start);
+    let step = black_box(calls).step;
+    let begun = Instant::now();
+    for &[kind, item, minutes] in &log.steps {
+        assert_eq!(step(state, kind, item, minutes), log.answer);
+    }
+    begun.elapsed().as_nanos() as f64 / log.steps.len() as f64
+}
+
+pub fn table() {
+    println!(
+        "ns per step: the least of {ROUNDS} rounds of {STEPS} steps, library and plain Rust in turn"
+    );
+    println!("step     items  evictions a step  library ns  plain Rust ns  ratio");
+    let mut state = Vec::new();
+    for (name, kind) in [
+        ("hit", Kind::Hit),
+        ("miss", Kind::Miss),
+        ("refused", Kind::Refused),
+    ] {
+        for n in [3, 30, 256] {
+            let log = log(kind, n);
+            let (mut library, mut plain) = (f64::MAX, f64::MAX);
+            for _ in 0..ROUNDS {
+                library = library.min(run(LIBRARY, &log, &mut state));
+                plain = plain.min(run(PLAIN, &log, &mut state));
+            }
+            let evictions = f64::from(log.evictions) / log.steps.len() as f64;
+            let ratio = library / plain;
+            println!(
+                "{name:<8} {n:>5}  {evictions:>16.2}  {library:>10.0}  {plain:>13.0}  {ratio:>5.2}"
+            );
+        }
+    }
+    println!("a refused step (kind 0, answer 3) is the test of the whole state and nothing else");
+}

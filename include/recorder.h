@@ -1,0 +1,174 @@
+/*
+ * recorder.h: the cache recorder, as the firmware calls it.
+ *
+ * Three functions over bytes that the caller lends: open a cache, take one step of the log, close the log. They are
+ * compiled from proved code into a static library; link it with nothing else:
+ *
+ *     cc -Iinclude main.c librecorder.a
+ *
+ * OWNERSHIP. The state is RECORDER_STATE_BYTES bytes that the caller owns: static, on the stack or anywhere else, at any
+ * alignment. The library keeps no pointer, no static data and no heap, takes no lock and does no input or output. A
+ * state may be copied, moved, stored and read back byte for byte between calls. Calls on different states may run at the
+ * same time; calls on one state may not, and nothing else may write it during a call.
+ *
+ * OVERLAP. The bytes of `state` must not overlap those of `catalog`.
+ *
+ * ANSWERS. Each call answers 0 (taken) or the number of a refusal. Refused, every lent byte is as it was before the call.
+ * Any bytes, any numbers and any length may be handed in; a call never traps and always returns. A pointer must be good
+ * for the count of bytes that is handed in with it; with a count of 0 it is not used, and may be NULL.
+ *
+ * STACK. STACK_USE
+ */
+#ifndef RECORDER_H
+#define RECORDER_H
+
+#include <stdbool.h>
+#include <stddef.h>
+#include <stdint.h>
+
+#ifdef __cplusplus
+extern "C" {
+#endif
+
+/* The bytes of a state; a state of any other length is RECORDER_INVALID_STATE. */
+#define RECORDER_STATE_BYTES 8792
+
+/* The limits of the arguments. */
+#define RECORDER_MAX_K 4096         /* capacity, in blocks: 1 to 4,096 */
+#define RECORDER_MAX_ITEMS 256      /* items of a catalog: 0 to 256, numbered from 0 */
+#define RECORDER_ITEM_BYTES 5       /* bytes of an item in a catalog */
+#define RECORDER_MAX_BLOCKS 16      /* blocks of an item: 1 to 16 */
+#define RECORDER_MAX_MINUTES 1440   /* minutes of a write: 0 to 1,440 */
+#define RECORDER_MAX_STEPS 1000000  /* steps of a log */
+
+/* One unit of cost in credit units (the scope's 'shares'): the least common multiple of 1 to 16. */
+#define RECORDER_UNIT 720720
+
+/* What a call answers. The numbers and the words in quotes are those of the table of refusals. */
+enum recorder_answer {
+    RECORDER_TAKEN = 0,
+    RECORDER_OUT_OF_RANGE = 3,   /* 'off the tape': k, the catalog, a kind, an item number or minutes out of range */
+    RECORDER_UNKNOWN_ITEM = 6,   /* 'stranger': the item is not in the catalog */
+    RECORDER_ITEM_TOO_LARGE = 7, /* 'too bulky': the item has more than k blocks */
+    RECORDER_LOG_FULL = 8,       /* 'log full': 1,000,000 steps are already taken */
+    RECORDER_CLOSED = 9,         /* 'closed': a step or a close on a closed cache */
+    RECORDER_INVALID_STATE = 17  /* 'foul locker': a state of the wrong length, or damaged */
+};
+
+/* The kinds of a step: the letters of the text log. */
+enum recorder_kind {
+    RECORDER_READ = 82,  /* 'R' */
+    RECORDER_WRITE = 87, /* 'W' */
+    RECORDER_FLUSH = 76  /* 'L', a landing: each dirty item is written back and stays, clean */
+};
+
+/*
+ * Opens an empty cache of k blocks.
+ *
+ * The catalog has RECORDER_ITEM_BYTES bytes an item, in the order of the item numbers:
+ *     byte 0      blocks, 1 to 16
+ *     bytes 1, 2  load cost, low byte first, 0 to 65,535
+ *     bytes 3, 4  write cost, low byte first, 0 to 65,535
+ * It is copied into the state and not needed afterwards. An item of more than k blocks may stand in it; steps that ask for
+ * that item are refused (7).
+ *
+ * Of the state only the length is looked at, never the bytes: they need not be initialised, and a state that is in use
+ * is lost when the opening is taken.
+ *
+ * Answers, the first that holds:
+ *     17  state_len is not RECORDER_STATE_BYTES
+ *      3  k is not 1 to 4,096; or catalog_len is no multiple of 5 or above 1,280; or an item's blocks are not 1 to 16
+ *      0  taken: the state is that of an open cache in which nothing is held and nothing counted
+ */
+uint32_t recorder_open(uint8_t *state, size_t state_len, uint32_t k, const uint8_t *catalog, size_t catalog_len);
+
+/*
+ * Takes one step of the log: a read of an item, a write of an item that took some minutes, or a flush.
+ * A read looks at kind and item; a write at kind, item and minutes; a flush at kind alone. The rest may be any numbers.
+ *
+ * Answers, the first that holds:
+ *     17  the state is invalid
+ *      9  the cache is closed
+ *      8  1,000,000 steps are already taken
+ *      3  kind is none of 82, 87 and 76; or the item of a read or write is above 255; or a write's minutes are above 1,440
+ *      6  the item of a read or write is not in the catalog
+ *      7  the item of a read or write has more than k blocks
+ *      0  taken: the step is done and counted
+ *
+ * A step may evict items to make room; see below for how to learn which.
+ */
+uint32_t recorder_step(uint8_t *state, size_t state_len, uint32_t kind, uint32_t item, uint32_t minutes);
+
+/*
+ * Closes the log: each dirty item is written back, as by a flush, which is no step. A closed cache takes no more calls
+ * but an opening; its figures and marks may still be read. A log of 1,000,000 steps can be closed.
+ *
+ * Answers, the first that holds:
+ *     17  the state is invalid
+ *      9  the cache is closed
+ *      0  taken
+ */
+uint32_t recorder_close(uint8_t *state, size_t state_len);
+
+/*
+ * WHAT THE STATE SAYS. Numbers are little-endian; docs/LAYOUT.md has every field with its allowed values. A run has 256
+ * numbers, one for each item number; those past the catalog are 0. The bytes may be read at any time between calls. They
+ * are to be written by the three calls only: a state that was changed otherwise may be refused (17), and if it is still
+ * valid it is taken at its word.
+ *
+ * At each step and close the whole state is tested first, so a state that was damaged in storage and breaks the rule of
+ * validity is found at the next call, which changes nothing.
+ */
+enum recorder_place {
+    RECORDER_AT_K = 0,                 /* u32 */
+    RECORDER_AT_N = 4,                 /* u32: items in the catalog */
+    RECORDER_AT_STEPS = 8,             /* u32: reads, writes and flushes; the close is none */
+    RECORDER_AT_HITS = 12,             /* u32 */
+    RECORDER_AT_LOADS = 16,            /* u32: misses */
+    RECORDER_AT_EVICTIONS = 20,        /* u32 ('drops') */
+    RECORDER_AT_DIRTY_EVICTIONS = 24,  /* u32 */
+    RECORDER_AT_WRITEBACKS = 28,       /* u32: by dirty evictions, flushes and the close */
+    RECORDER_AT_FLUSHES = 32,          /* u32 ('landings'); the close is none */
+    RECORDER_AT_CLOSED = 36,           /* u32: 0 open, 1 closed */
+    RECORDER_AT_LOAD_COST = 40,        /* u64 */
+    RECORDER_AT_WRITE_COST = 48,       /* u64 */
+    RECORDER_AT_DIRTY = 56,            /* four u64: 256 marks, item i is bit i % 64 of word i / 64 */
+    RECORDER_AT_LOAD_CREDIT = 88,      /* run of u64, in units of 1 / RECORDER_UNIT of a cost */
+    RECORDER_AT_WRITE_CREDIT = 2136,   /* run of u64, likewise */
+    RECORDER_AT_TENTHS = 4184,         /* run of u32: tenths of an hour written */
+    RECORDER_AT_ITEM_LOADS = 5208,     /* run of u32 */
+    RECORDER_AT_ITEM_WRITEBACKS = 6232, /* run of u32 */
+    RECORDER_AT_LOAD = 7256,           /* run of u16: load costs of the catalog */
+    RECORDER_AT_WRITE = 7768,          /* run of u16: write costs of the catalog */
+    RECORDER_AT_BLOCKS = 8280,         /* run of u8: blocks of the catalog */
+    RECORDER_AT_HELD = 8536            /* run of u8: 1 held, 0 not */
+};
+
+/*
+ * Whether an item is held (in working memory), and whether it is dirty (held, and to be written back). False for a
+ * state of the wrong length and for an item number above 255; of a valid state, false past the catalog.
+ *
+ * Which items left, came in or were written back is seen by comparing these marks before and after a call, so keep the
+ * marks (or the whole state) from before it. After a call that was taken:
+ *     held before, not held now        evicted; it was written back first if it was dirty before
+ *     not held before, held now        loaded (at most one, the item of the step)
+ *     dirty before, held and clean now written back by the flush or the close
+ * After a call that was refused no mark has changed.
+ */
+static inline bool recorder_is_held(const uint8_t *state, size_t state_len, uint32_t item)
+{
+    return state_len == RECORDER_STATE_BYTES && item < RECORDER_MAX_ITEMS && state[RECORDER_AT_HELD + item] == 1;
+}
+
+static inline bool recorder_is_dirty(const uint8_t *state, size_t state_len, uint32_t item)
+{
+    /* Low byte first: bit i % 64 of word i / 64 is bit i % 8 of byte i / 8. */
+    return state_len == RECORDER_STATE_BYTES && item < RECORDER_MAX_ITEMS
+        && ((state[RECORDER_AT_DIRTY + item / 8] >> (item % 8)) & 1) == 1;
+}
+
+#ifdef __cplusplus
+}
+#endif
+
+#endif

@@ -1,0 +1,598 @@
+/*
+ * The exported calls from C: the worked example, every refusal, damaged states, the marks of 256 items. It prints short lines
+ * that tests/c/run compares with expected.txt.
+ *
+ * Every call is made twice on copies of the state: at an odd address between guard bytes, and in a heap block of exactly
+ * the state's length, so that valgrind sees a byte read or written outside it. Both must give the same answer and bytes.
+ */
+#include "recorder.h"
+
+#include <stdio.h>
+#include <stdlib.h>
+#include <string.h>
+
+#define BYTES RECORDER_STATE_BYTES
+#define GUARD 67
+
+enum { OPEN, STEP, CLOSE };
+
+struct call {
+    int what;
+    uint32_t k;
+    const uint8_t *catalog;
+    size_t catalog_len;
+    uint32_t kind, item, minutes;
+};
+
+/* A state, with a byte more for the test of a length that is one too long. */
+struct state {
+    uint8_t bytes[BYTES + 1];
+};
+
+static int faults;
+static bool untouched; /* whether the last call left every byte of the state as it was */
+
+static void fault(const char *what)
+{
+    printf("FAULT: %s\n", what);
+    faults++;
+}
+
+static uint32_t make(uint8_t *bytes, size_t len, const struct call *c, const uint8_t *catalog)
+{
+    if (c->what == OPEN)
+        return recorder_open(bytes, len, c->k, catalog, c->catalog_len);
+    if (c->what == STEP)
+        return recorder_step(bytes, len, c->kind, c->item, c->minutes);
+    return recorder_close(bytes, len);
+}
+
+/* A heap block with exactly these bytes; NULL for none. */
+static uint8_t *block(const uint8_t *bytes, size_t len)
+{
+    if (len == 0)
+        return NULL;
+    uint8_t *copy = malloc(len);
+    if (copy == NULL)
+        abort();
+    memcpy(copy, bytes, len);
+    return copy;
+}
+
+static uint32_t lend(struct state *s, size_t len, const struct call *c)
+{
+    static uint8_t arena[GUARD + BYTES + 1 + GUARD];
+    memset(arena, 0xC3, sizeof arena);
+    memcpy(arena + GUARD, s->bytes, len);
+    uint8_t *catalog = block(c->catalog, c->catalog_len);
+    uint32_t answer = make(arena + GUARD, len, c, catalog);
+    for (size_t i = 0; i < sizeof arena; i++)
+        if ((i < GUARD || i >= GUARD + len) && arena[i] != 0xC3) {
+            fault("a byte outside the state was written");
+            break;
+        }
+
+    uint8_t *exact = block(s->bytes, len);
+    if (make(exact, len, c, catalog) != answer)
+        fault("two answers to one call");
+    if (len != 0 && memcmp(exact, arena + GUARD, len) != 0)
+        fault("two states after one call");
+    if (c->catalog_len != 0 && memcmp(catalog, c->catalog, c->catalog_len) != 0)
+        fault("the catalog was written");
+
+    untouched = len == 0 || memcmp(exact, s->bytes, len) == 0;
+    if (len != 0)
+        memcpy(s->bytes, exact, len);
+    if (answer != 0 && !untouched)
+        fault("a refused call changed the state");
+    free(exact);
+    free(catalog);
+    return answer;
+}
+
+static uint32_t open_with(struct state *s, uint32_t k, const uint8_t *catalog, size_t catalog_len)
+{
+    struct call c = { .what = OPEN, .k = k, .catalog = catalog, .catalog_len = catalog_len };
+    return lend(s, BYTES, &c);
+}
+
+static uint32_t step(struct state *s, uint32_t kind, uint32_t item, uint32_t minutes)
+{
+    struct call c = { .what = STEP, .kind = kind, .item = item, .minutes = minutes };
+    return lend(s, BYTES, &c);
+}
+
+static uint32_t close_it(struct state *s)
+{
+    struct call c = { .what = CLOSE };
+    return lend(s, BYTES, &c);
+}
+
+static uint64_t get(const struct state *s, size_t at, size_t width)
+{
+    uint64_t value = 0;
+    for (size_t i = width; i > 0; i--)
+        value = value << 8 | s->bytes[at + i - 1];
+    return value;
+}
+
+static void put(struct state *s, size_t at, size_t width, uint64_t value)
+{
+    for (size_t i = 0; i < width; i++)
+        s->bytes[at + i] = (uint8_t)(value >> 8 * i);
+}
+
+static uint32_t get32(const struct state *s, size_t at) { return (uint32_t)get(s, at, 4); }
+static uint64_t get64(const struct state *s, size_t at) { return get(s, at, 8); }
+
+static bool held(const struct state *s, uint32_t item) { return recorder_is_held(s->bytes, BYTES, item); }
+static bool dirty(const struct state *s, uint32_t item) { return recorder_is_dirty(s->bytes, BYTES, item); }
+
+static void print_figures(const struct state *s)
+{
+    printf("  steps %u hits %u loads %u loadcost %llu evictions %u dirtyevictions %u writebacks %u writecost %llu flushes %u "
+           "closed %u\n",
+           get32(s, RECORDER_AT_STEPS), get32(s, RECORDER_AT_HITS), get32(s, RECORDER_AT_LOADS),
+           (unsigned long long)get64(s, RECORDER_AT_LOAD_COST), get32(s, RECORDER_AT_EVICTIONS),
+           get32(s, RECORDER_AT_DIRTY_EVICTIONS), get32(s, RECORDER_AT_WRITEBACKS),
+           (unsigned long long)get64(s, RECORDER_AT_WRITE_COST), get32(s, RECORDER_AT_FLUSHES),
+           get32(s, RECORDER_AT_CLOSED));
+}
+
+/* The items held now with their credits, and those that were held before and are not now. */
+static void print_marks(const struct state *before, const struct state *s)
+{
+    for (uint32_t i = 0; i < RECORDER_MAX_ITEMS; i++)
+        if (held(s, i))
+            printf("  item %u held %s, load credit %llu, write credit %llu\n", i, dirty(s, i) ? "dirty" : "clean",
+                   (unsigned long long)get64(s, RECORDER_AT_LOAD_CREDIT + 8 * i),
+                   (unsigned long long)get64(s, RECORDER_AT_WRITE_CREDIT + 8 * i));
+        else if (dirty(s, i))
+            fault("an item that is not held is dirty");
+        else if (held(before, i))
+            printf("  item %u left\n", i);
+}
+
+static void say(const char *what, uint32_t answer)
+{
+    printf("%s: %u%s\n", what, answer, answer == 0 ? "" : untouched ? ", untouched" : ", TOUCHED");
+}
+
+/* Paper 01's whole example. */
+static const uint8_t three[] = { 1, 4, 0, 6, 0, 2, 6, 0, 2, 0, 1, 3, 0, 9, 0 };
+
+static void example(void)
+{
+    static const struct { const char *name; uint32_t kind, item, minutes; } log[] = {
+        { "W 0 90", RECORDER_WRITE, 0, 90 },
+        { "R 1", RECORDER_READ, 1, 4000000000u },
+        { "W 2 45", RECORDER_WRITE, 2, 45 },
+        { "R 0", RECORDER_READ, 0, 1441 },
+        { "L", RECORDER_FLUSH, 256, 1441 },
+    };
+    puts("the whole example");
+    struct state s, before;
+    memset(&s, 0xA5, sizeof s);
+    say("open 3", open_with(&s, 3, three, sizeof three));
+    print_figures(&s);
+    for (size_t i = 0; i < sizeof log / sizeof *log; i++) {
+        before = s;
+        say(log[i].name, step(&s, log[i].kind, log[i].item, log[i].minutes));
+        print_figures(&s);
+        print_marks(&before, &s);
+    }
+    before = s;
+    say("close", close_it(&s));
+    print_figures(&s);
+    print_marks(&before, &s);
+    for (uint32_t i = 0; i < 3; i++)
+        printf("  item %u tenths %u loads %u writebacks %u\n", i, get32(&s, RECORDER_AT_TENTHS + 4 * i),
+               get32(&s, RECORDER_AT_ITEM_LOADS + 4 * i), get32(&s, RECORDER_AT_ITEM_WRITEBACKS + 4 * i));
+    say("close again", close_it(&s));
+    say("R 0 when closed", step(&s, RECORDER_READ, 0, 0));
+    say("open again", open_with(&s, 3, three, sizeof three));
+    print_figures(&s);
+}
+
+static void openings(void)
+{
+    puts("openings");
+    static uint8_t many[5 * 257];
+    for (size_t i = 0; i < sizeof many; i += 5)
+        many[i] = 1;
+    struct state s, first;
+    memset(&s, 0xA5, sizeof s);
+    say("k 0", open_with(&s, 0, three, sizeof three));
+    say("k 4097", open_with(&s, 4097, three, sizeof three));
+    say("k 4294967295", open_with(&s, 4294967295u, three, sizeof three));
+    say("catalog of 1 byte", open_with(&s, 3, three, 1));
+    say("catalog of 14 bytes", open_with(&s, 3, three, 14));
+    say("catalog of 1281 bytes", open_with(&s, 3, many, 1281));
+    say("catalog of 257 items", open_with(&s, 3, many, 1285));
+    static const uint8_t wrong[] = { 0, 17, 255 };
+    for (size_t i = 0; i < sizeof wrong; i++) {
+        many[0] = wrong[i];
+        printf("blocks %u of item 0: %u", wrong[i], open_with(&s, 3, many, 1280));
+        many[0] = 1;
+        many[1275] = wrong[i];
+        printf(", of item 255: %u\n", open_with(&s, 3, many, 1280));
+        many[1275] = 1;
+    }
+    static const size_t lengths[] = { 0, BYTES - 1, BYTES + 1 };
+    for (size_t i = 0; i < 3; i++) {
+        struct call c = { .what = OPEN, .k = 3, .catalog = three, .catalog_len = sizeof three };
+        printf("length %zu: %u", lengths[i], lend(&s, lengths[i], &c));
+        c.k = 0;
+        printf(", and k 0: %u\n", lend(&s, lengths[i], &c));
+    }
+    say("no items, k 1", open_with(&s, 1, NULL, 0));
+    say("  L", step(&s, RECORDER_FLUSH, 0, 0));
+    say("  R 0", step(&s, RECORDER_READ, 0, 0));
+    say("256 items, k 4096", open_with(&s, 4096, many, 1280));
+    say("blocks 16, k 1", open_with(&s, 1, (const uint8_t[]) { 16, 255, 255, 255, 255 }, 5));
+
+    /* The opening never looks at the bytes (valgrind would see it), and writes every one of them. */
+    uint8_t *raw = malloc(BYTES);
+    if (raw == NULL)
+        abort();
+    uint32_t answer = recorder_open(raw, BYTES, 3, three, sizeof three);
+    say("three items, k 3", open_with(&s, 3, three, sizeof three));
+    printf("in bytes never written: %u, %s\n", answer, memcmp(raw, s.bytes, BYTES) == 0 ? "the same" : "OTHER BYTES");
+    free(raw);
+    memset(&first, 0, sizeof first);
+    put(&first, RECORDER_AT_K, 4, 3);
+    put(&first, RECORDER_AT_N, 4, 3);
+    for (size_t i = 0; i < 3; i++) {
+        first.bytes[RECORDER_AT_BLOCKS + i] = three[5 * i];
+        memcpy(first.bytes + RECORDER_AT_LOAD + 2 * i, three + 5 * i + 1, 2);
+        memcpy(first.bytes + RECORDER_AT_WRITE + 2 * i, three + 5 * i + 3, 2);
+    }
+    puts(memcmp(first.bytes, s.bytes, BYTES) == 0 ? "as the layout says" : "NOT AS THE LAYOUT SAYS");
+}
+
+/*
+ * A cache of 4 blocks. Held: 0 clean; 2 clean, its credit used up; 3, of two blocks, dirty with full credits. Not held: 1,
+ * which was evicted; 4, which was never asked for; 5, of 5 blocks.
+ * steps 7 hits 2 loads 4 flushes 1 evictions 1 dirtyevictions 0 writebacks 2 loadcost 21 writecost 15.
+ */
+static const uint8_t six[] = { 1, 4, 0, 6, 0, 2, 6, 0, 2, 0, 1, 3, 0, 9, 0, 2, 8, 0, 5, 0, 1, 7, 0, 7, 0, 5, 1, 0, 1, 0 };
+
+static void busy(struct state *s)
+{
+    static const uint32_t log[][3] = {
+        { RECORDER_WRITE, 0, 90 }, { RECORDER_READ, 1, 0 }, { RECORDER_WRITE, 2, 45 }, { RECORDER_FLUSH, 0, 0 },
+        { RECORDER_WRITE, 3, 60 }, { RECORDER_READ, 0, 0 }, { RECORDER_WRITE, 3, 6 },
+    };
+    memset(s, 0xA5, sizeof *s);
+    if (open_with(s, 4, six, sizeof six) != 0)
+        fault("the busy state was not opened");
+    for (size_t i = 0; i < sizeof log / sizeof *log; i++)
+        if (step(s, log[i][0], log[i][1], log[i][2]) != 0)
+            fault("a step to the busy state was refused");
+}
+
+/* The same after a flush: nothing dirty, steps 8, flushes 2, writebacks 3. */
+static void clean(struct state *s)
+{
+    busy(s);
+    if (step(s, RECORDER_FLUSH, 0, 0) != 0)
+        fault("the flush was refused");
+}
+
+/* One block, two items read in turn: steps 3 loads 3 evictions 2, nothing written back. */
+static void reads(struct state *s)
+{
+    memset(s, 0xA5, sizeof *s);
+    if (open_with(s, 1, (const uint8_t[]) { 1, 1, 0, 1, 0, 1, 1, 0, 1, 0 }, 10) != 0)
+        fault("the state of reads was not opened");
+    for (uint32_t i = 0; i < 3; i++)
+        if (step(s, RECORDER_READ, i % 2, 0) != 0)
+            fault("a read was refused");
+}
+
+/* 256 items of one block, nothing held. */
+static void wide(struct state *s)
+{
+    static uint8_t many[1280];
+    for (size_t i = 0; i < sizeof many; i += 5)
+        many[i] = 1;
+    memset(s, 0xA5, sizeof *s);
+    if (open_with(s, 4096, many, sizeof many) != 0)
+        fault("the wide state was not opened");
+}
+
+/* The busy state with a full log. */
+static void full(struct state *s)
+{
+    busy(s);
+    put(s, RECORDER_AT_STEPS, 4, 1000000);
+    put(s, RECORDER_AT_HITS, 4, 1000000 - 5);
+}
+
+static void closed_full(struct state *s)
+{
+    full(s);
+    if (close_it(s) != 0)
+        fault("a full log was not closed");
+}
+
+static void arguments(void)
+{
+    static const struct { const char *name; void (*state)(struct state *); uint32_t kind, item, minutes; } rows[] = {
+        { "kind 0", busy, 0, 0, 0 },
+        { "kind 114 (r)", busy, 114, 0, 0 },
+        { "kind 82 + 256", busy, 338, 0, 0 },
+        { "kind 4294967295", busy, 4294967295u, 0, 0 },
+        { "R 256", busy, RECORDER_READ, 256, 0 },
+        { "R 4294967295", busy, RECORDER_READ, 4294967295u, 0 },
+        { "W 256 0", busy, RECORDER_WRITE, 256, 0 },
+        { "W 0 1441", busy, RECORDER_WRITE, 0, 1441 },
+        { "W 0 4294967295", busy, RECORDER_WRITE, 0, 4294967295u },
+        { "W 6 1441 (3 before 6)", busy, RECORDER_WRITE, 6, 1441 },
+        { "W 5 1441 (3 before 7)", busy, RECORDER_WRITE, 5, 1441 },
+        { "R 256 with 256 items", wide, RECORDER_READ, 256, 0 },
+        { "R 6", busy, RECORDER_READ, 6, 1441 },
+        { "R 255", busy, RECORDER_READ, 255, 0 },
+        { "W 6 1440", busy, RECORDER_WRITE, 6, 1440 },
+        { "R 5 (5 blocks, k 4)", busy, RECORDER_READ, 5, 0 },
+        { "W 5 0", busy, RECORDER_WRITE, 5, 0 },
+        { "full log, R 0", full, RECORDER_READ, 0, 0 },
+        { "full log, W 0 6", full, RECORDER_WRITE, 0, 6 },
+        { "full log, L", full, RECORDER_FLUSH, 0, 0 },
+        { "full log, kind 0 (8 before 3)", full, 0, 0, 0 },
+        { "full log, closed, kind 0 (9 first)", closed_full, 0, 0, 0 },
+        { "closed, L", closed_full, RECORDER_FLUSH, 0, 0 },
+        { "R 0 4294967295", busy, RECORDER_READ, 0, 4294967295u },
+        { "L 4294967295 4294967295", busy, RECORDER_FLUSH, 4294967295u, 4294967295u },
+        { "W 0 1440", busy, RECORDER_WRITE, 0, 1440 },
+        { "W 255 with 256 items", wide, RECORDER_WRITE, 255, 0 },
+    };
+    puts("arguments");
+    struct state s;
+    for (size_t i = 0; i < sizeof rows / sizeof *rows; i++) {
+        rows[i].state(&s);
+        say(rows[i].name, step(&s, rows[i].kind, rows[i].item, rows[i].minutes));
+    }
+    full(&s);
+    say("full log, close", close_it(&s));
+    print_figures(&s);
+    say("full log, close again", close_it(&s));
+
+    static const uint32_t minutes[] = { 5, 6, 11, 12, 1440 };
+    busy(&s);
+    for (size_t i = 0; i < sizeof minutes / sizeof *minutes; i++) {
+        uint32_t before = get32(&s, RECORDER_AT_TENTHS);
+        uint32_t answer = step(&s, RECORDER_WRITE, 0, minutes[i]);
+        printf("W 0 %u: %u, tenths %u more\n", minutes[i], answer, get32(&s, RECORDER_AT_TENTHS) - before);
+    }
+
+    static const size_t lengths[] = { 0, 1, BYTES - 1, BYTES + 1 };
+    for (size_t i = 0; i < sizeof lengths / sizeof *lengths; i++) {
+        struct call c = { .what = STEP, .kind = RECORDER_READ };
+        busy(&s);
+        printf("length %zu: step %u", lengths[i], lend(&s, lengths[i], &c));
+        c.kind = 0;
+        printf(", step out of range %u", lend(&s, lengths[i], &c));
+        c.what = CLOSE;
+        printf(", close %u\n", lend(&s, lengths[i], &c));
+    }
+}
+
+/* Up to three fields put into a good state; a width of 0 is none. */
+struct damage {
+    const char *name;
+    void (*state)(struct state *);
+    struct { size_t at, width; uint64_t value; } put[3];
+};
+
+static void damaged(const struct damage *d, struct state *s)
+{
+    d->state(s);
+    for (size_t j = 0; j < 3; j++)
+        put(s, d->put[j].at, d->put[j].width, d->put[j].value);
+}
+
+/* One byte (a few rows: two or three fields), so that a single clause of validity is broken where that can be. */
+static const struct damage broken[] = {
+    { "closed flag 2", clean, { { 36, 1, 2 } } },
+    { "closed flag 256", clean, { { 37, 1, 1 } } },
+    { "closed flag 2^24 + 1", clean, { { 36, 1, 1 }, { 39, 1, 1 } } },
+    { "held flag 2", busy, { { 8536, 1, 2 } } },
+    { "held flag 255", busy, { { 8538, 1, 255 } } },
+    { "held flag 2 of an item not held", busy, { { 8540, 1, 2 } } },
+    { "held flag 2 of the last place", busy, { { 8791, 1, 2 } } },
+    { "blocks past the catalog", busy, { { 8286, 1, 1 } } },
+    { "blocks in the last place", busy, { { 8535, 1, 1 } } },
+    { "load cost past the catalog", busy, { { 7268, 1, 1 } } },
+    { "load cost in the last place", busy, { { 7767, 1, 1 } } },
+    { "write cost past the catalog", busy, { { 7780, 1, 1 } } },
+    { "write cost in the last place", busy, { { 8279, 1, 1 } } },
+    { "held past the catalog", busy, { { 8542, 1, 1 }, { 20, 1, 0 } } },
+    { "held in the last place", busy, { { 8791, 1, 1 }, { 20, 1, 0 } } },
+    { "dirty past the catalog", busy, { { 56, 1, 0x48 } } },
+    { "dirty in the last place", busy, { { 87, 1, 0x80 } } },
+    { "load credit past the catalog", busy, { { 136, 1, 1 } } },
+    { "load credit in the last place", busy, { { 2135, 1, 1 } } },
+    { "write credit past the catalog", busy, { { 2184, 1, 1 } } },
+    { "write credit in the last place", busy, { { 4183, 1, 1 } } },
+    { "tenths past the catalog", busy, { { 4208, 1, 1 } } },
+    { "tenths in the last place", busy, { { 5204, 1, 1 } } },
+    { "loads past the catalog", busy, { { 5232, 1, 1 }, { 5208, 1, 0 } } },
+    { "loads in the last place", busy, { { 6228, 1, 1 }, { 5208, 1, 0 } } },
+    { "writebacks past the catalog", busy, { { 6256, 1, 1 }, { 6232, 1, 0 } } },
+    { "writebacks in the last place", busy, { { 7252, 1, 1 }, { 6232, 1, 0 } } },
+    { "k 0", wide, { { 1, 1, 0 } } },
+    { "k 4097", wide, { { 0, 1, 1 } } },
+    { "k 2^31 + 4096", wide, { { 3, 1, 0x80 } } },
+    { "257 items", wide, { { 4, 1, 1 } } },
+    { "2^31 + 256 items", wide, { { 7, 1, 0x80 } } },
+    { "an item too few", busy, { { 4, 1, 5 } } },
+    { "an item too many", busy, { { 4, 1, 7 } } },
+    { "blocks 0", busy, { { 8284, 1, 0 } } },
+    { "blocks 17", busy, { { 8284, 1, 17 } } },
+    { "blocks 255", busy, { { 8284, 1, 255 } } },
+    { "blocks 0 of a held item", busy, { { 8280, 1, 0 } } },
+    { "blocks 0 of the last of 256 items", wide, { { 8535, 1, 0 } } },
+    { "held blocks above k", busy, { { 0, 1, 3 } } },
+    { "dirty, not held", busy, { { 56, 1, 0x18 } } },
+    { "load credit, not held", busy, { { 120, 1, 1 } } },
+    { "write credit, not held", busy, { { 2168, 1, 1 } } },
+    { "write credit, clean", busy, { { 2136, 1, 1 } } },
+    { "load credit no multiple of 2", busy, { { 112, 1, 0x7F } } },
+    { "write credit no multiple of 2", busy, { { 2160, 1, 0x8F } } },
+    { "load credit above the cost", busy, { { 112, 1, 0x82 } } },
+    { "load credit above 2^63", busy, { { 119, 1, 0x80 } } },
+    { "write credit above the cost", busy, { { 2160, 1, 0x92 } } },
+    { "write credit above 2^63", busy, { { 2167, 1, 0x80 } } },
+    { "a step too many", busy, { { 8, 1, 8 } } },
+    { "a step too few", busy, { { 8, 1, 6 } } },
+    { "a hit too many", busy, { { 12, 1, 3 } } },
+    { "a flush too many", busy, { { 32, 1, 2 } } },
+    { "hits + flushes beyond 2^32", busy, { { 12, 4, 0xFFFFFFFF }, { 32, 4, 4 } } },
+    { "1,000,001 steps", full, { { 8, 1, 0x41 }, { 12, 1, 0x3C } } },
+    { "2^31 steps", full, { { 11, 1, 0x80 }, { 15, 1, 0x80 } } },
+    { "an eviction too many", busy, { { 20, 1, 2 } } },
+    { "an eviction too few", busy, { { 20, 1, 0 } } },
+    { "dirty evictions above evictions", busy, { { 24, 1, 2 } } },
+    { "dirty evictions above writebacks", reads, { { 24, 1, 1 } } },
+    { "writebacks + dirty above steps", busy, { { 28, 1, 7 }, { 6232, 1, 6 } } },
+    { "writebacks + dirty beyond 2^32", busy, { { 28, 4, 0xFFFFFFFF }, { 6232, 4, 0xFFFFFFFE } } },
+    { "loadcost above 65,535 a load", busy, { { 42, 1, 4 } } },
+    { "loadcost just above", busy, { { 40, 8, 262141 } } },
+    { "loadcost above 2^63", busy, { { 47, 1, 0x80 } } },
+    { "writecost above 65,535 a writeback", busy, { { 50, 1, 2 } } },
+    { "writecost just above", busy, { { 48, 8, 131071 } } },
+    { "writecost above 2^63", busy, { { 55, 1, 0x80 } } },
+    { "an item's loads too many", busy, { { 5208, 1, 2 } } },
+    { "an item's loads too few", busy, { { 5208, 1, 0 } } },
+    { "items' loads beyond 2^32", busy, { { 5211, 1, 0x80 }, { 5215, 1, 0x80 } } },
+    { "an item's writebacks too many", busy, { { 6232, 1, 2 } } },
+    { "an item's writebacks too few", busy, { { 6232, 1, 0 } } },
+    { "items' writebacks beyond 2^32", busy, { { 6235, 1, 0x80 }, { 6239, 1, 0x80 } } },
+    { "tenths above 240 a step", busy, { { 4185, 1, 7 } } },
+    { "tenths just above", busy, { { 4184, 4, 1681 } } },
+    { "tenths just above, last of 256 items", wide, { { 5204, 1, 1 } } },
+    { "closed and dirty", busy, { { 36, 1, 1 } } },
+    { "closed, a hit too many (17 before 9)", closed_full, { { 12, 1, 0x3C } } },
+};
+
+/* The edge of a clause, from the side that is valid: a read of item 0 is taken, and so is the close. */
+static const struct damage sound[] = {
+    { "the busy state", busy, { { 0, 0, 0 } } },
+    { "the clean state", clean, { { 0, 0, 0 } } },
+    { "the state of reads", reads, { { 0, 0, 0 } } },
+    { "the wide state", wide, { { 0, 0, 0 } } },
+    { "k 4096", busy, { { 0, 4, 4096 } } },
+    { "k 1, 256 items", wide, { { 0, 4, 1 } } },
+    { "blocks 16", busy, { { 8284, 1, 16 } } },
+    { "load credit a multiple below the cost", busy, { { 112, 1, 0x7E } } },
+    { "write credit a multiple below the cost", busy, { { 2160, 1, 0x8E } } },
+    { "dirty with write credit 0", busy, { { 2160, 8, 0 } } },
+    { "a dirty item more", busy, { { 56, 1, 0x09 } } },
+    { "999,999 steps", full, { { 8, 1, 0x3F }, { 12, 1, 0x3A } } },
+    { "dirty evictions as evictions", busy, { { 24, 1, 1 } } },
+    { "dirty evictions as writebacks", reads, { { 24, 1, 1 }, { 28, 1, 1 }, { 6232, 1, 1 } } },
+    { "writebacks + dirty as steps", busy, { { 28, 1, 6 }, { 6232, 1, 5 } } },
+    { "loadcost 65,535 a load", busy, { { 40, 8, 262140 } } },
+    { "writecost 65,535 a writeback", busy, { { 48, 8, 131070 } } },
+    { "costs 0", busy, { { 40, 8, 0 }, { 48, 8, 0 } } },
+    { "tenths 240 a step", busy, { { 4184, 4, 1680 } } },
+};
+
+static void states(void)
+{
+    puts("damaged states: a read, a step out of range, a close");
+    struct state s;
+    for (size_t i = 0; i < sizeof broken / sizeof *broken; i++) {
+        damaged(&broken[i], &s);
+        printf("%s: %u", broken[i].name, step(&s, RECORDER_READ, 0, 0));
+        printf(" %u", step(&s, 0, 999, 9999));
+        printf(" %u\n", close_it(&s));
+    }
+    puts("sound states: a read, a close");
+    for (size_t i = 0; i < sizeof sound / sizeof *sound; i++) {
+        damaged(&sound[i], &s);
+        printf("%s: %u", sound[i].name, step(&s, RECORDER_READ, 0, 0));
+        damaged(&sound[i], &s);
+        printf(" %u\n", close_it(&s));
+    }
+}
+
+/* How many of the 256 marks are other than 'those below `count`'. */
+static unsigned astray(const struct state *s, bool (*mark)(const struct state *, uint32_t), uint32_t count)
+{
+    unsigned n = 0;
+    for (uint32_t i = 0; i < RECORDER_MAX_ITEMS; i++)
+        n += mark(s, i) != (i < count);
+    return n;
+}
+
+static void marks(void)
+{
+    puts("256 marks");
+    struct state s;
+    unsigned n = 0;
+    wide(&s);
+    n += astray(&s, held, 0) + astray(&s, dirty, 0);
+    for (uint32_t i = 0; i < 256; i++) {
+        if (step(&s, RECORDER_WRITE, i, 6) != 0)
+            fault("a write was refused");
+        n += astray(&s, held, i + 1) + astray(&s, dirty, i + 1);
+    }
+    print_figures(&s);
+    for (size_t w = 0; w < 4; w++)
+        printf("  word %zu %016llx\n", w, (unsigned long long)get64(&s, RECORDER_AT_DIRTY + 8 * w));
+    say("L", step(&s, RECORDER_FLUSH, 0, 0));
+    n += astray(&s, held, 256) + astray(&s, dirty, 0);
+    print_figures(&s);
+    for (uint32_t i = 0; i < 200; i++)
+        if (step(&s, RECORDER_WRITE, i, 0) != 0)
+            fault("a write was refused");
+    n += astray(&s, held, 256) + astray(&s, dirty, 200);
+    say("close", close_it(&s));
+    n += astray(&s, held, 256) + astray(&s, dirty, 0);
+    print_figures(&s);
+    printf("marks astray: %u\n", n);
+
+    memset(&s, 0xFF, sizeof s);
+    memset(s.bytes + RECORDER_AT_HELD, 1, 256);
+    printf("item 255: %d %d, item 256: %d %d, item 4294967295: %d %d\n", held(&s, 255), dirty(&s, 255), held(&s, 256),
+           dirty(&s, 256), held(&s, 4294967295u), dirty(&s, 4294967295u));
+    printf("length 8791: %d %d, length 8793: %d %d, no state: %d %d\n", recorder_is_held(s.bytes, BYTES - 1, 0),
+           recorder_is_dirty(s.bytes, BYTES - 1, 0), recorder_is_held(s.bytes, BYTES + 1, 0),
+           recorder_is_dirty(s.bytes, BYTES + 1, 0), recorder_is_held(NULL, 0, 0), recorder_is_dirty(NULL, 0, 0));
+}
+
+/* One block for 256 items: each write evicts the one before, which is dirty. */
+static void evictions(void)
+{
+    puts("evictions, each seen by its mark");
+    struct state s, before;
+    unsigned seen = 0;
+    wide(&s);
+    put(&s, RECORDER_AT_K, 4, 1);
+    for (uint32_t i = 0; i < 256; i++) {
+        before = s;
+        if (step(&s, RECORDER_WRITE, 255 - i, 0) != 0)
+            fault("a write was refused");
+        for (uint32_t j = 0; j < 256; j++) {
+            if (held(&s, j) != (j == 255 - i) || dirty(&s, j) != (j == 255 - i))
+                fault("a mark astray");
+            seen += held(&before, j) && !held(&s, j);
+        }
+    }
+    printf("left: %u\n", seen);
+    print_figures(&s);
+}
+
+int main(void)
+{
+    example();
+    openings();
+    arguments();
+    states();
+    marks();
+    evictions();
+    printf("faults: %d\n", faults);
+    return faults != 0;
+}
