@@ -8,16 +8,8 @@ use native.Mathlib.Decide.{ℕ-discrete}
 use native.Mathlib.Omega.{arith}
 use lib.ListN.{length, getD, set, length-set}
 use lib.Seq.{getD-set-same, getD-set-other}
-use Rattle.landlord.specs.Fold.{sumTo, bestTo}
+use Rattle.landlord.specs.Fold.{bestTo}
 use Rattle.cache_room.specs.Stores.{storeTo}
-
-pub sum-start : (f : ℕ → ℕ) → sumTo 0 f ≡ 0
-unfolding sumTo
-sum-start f = refl
-
-pub sum-more : (n : ℕ) (f : ℕ → ℕ) → sumTo (n + 1) f ≡ sumTo n f + f n
-unfolding sumTo
-sum-more n f = rw add-one
 
 pub best-start : (beats : ℕ → ℕ → Bool) (none : ℕ) → bestTo beats none 0 ≡ none
 unfolding bestTo

@@ -19,10 +19,6 @@ use Rattle.cache_state.proofs.Views.{size-is, slot-is, slot-past, blocks-is, he
 use Rattle.cache_room.specs.Room.{mostCredit, Ranked}
 use Rattle.cache_room.proofs.Laws.{best-start, best-more}
 
--- what item i takes up
-abbrev pub takenAt : Cache → ℕ → ℕ
-takenAt c i = cond (getD (c .held) i false) (getD (c .blocks) i 0) 0
-
 -- the slot of an item, read off the fields
 module _ (c : Cache) (ok : Normal c) (i : ℕ) (l : i < c .n) where
   pub load-is : loadCredit (slotAt (stateOf c) i) ≡ getD (c .loadcredit) i 0

@@ -12,28 +12,7 @@ ghost use Rattle.cache_state.specs.Valid.{Valid};
 ghost use Rattle.cache_state.specs.Becomes.{Becomes};
 ghost use Rattle.cache_room.specs.Room.{Ranked, Chargeable, Dropped, Countable, Crowded, Wanted, chargedOf, countedOf};
 use cache_state::Cache;
-
-// The blocks that an item takes up: its own if it is held, else none.
-fn taken(held: bool, blocks: u8) -> u32
-    ensures { λ r. ⌜ (r ≡ cond held blocks 0) × (r < 256) ⌝ }
-{
-    if held { blocks as u32 } else { 0 }
-}
-
-// The blocks held.
-fn used(c: Cache) -> u32
-    requires { ⌜ c .n ≤ 256 ⌝ }
-    ensures { λ r. ⌜ r ≡ used (stateOf c) ⌝ }
-{
-    let n = c.n;
-    let mut sum: u32 = 0;
-    let mut i = 0;
-    while i < n {
-        sum = sum + taken(c.held[i], c.blocks[i]);
-        i = i + 1;
-    }
-    sum
-}
+use cache_state::used;
 
 // The credits of an item a block: what its place in the cache is still worth. Credits are multiples of the blocks, so nothing is
 // rounded.

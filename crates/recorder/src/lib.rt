@@ -29,7 +29,7 @@ fn blocks_in(catalog: &[u8]) -> [u8; 256]
 {
     let n = catalog.len() / 5;
     let mut out = [0u8; 256];
-    let mut at = 0;
+    let mut at: usize = 0;
     let mut i = 0;
     while i < n {
         out[i] = catalog[at];
