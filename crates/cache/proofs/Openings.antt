@@ -10,20 +10,23 @@ use native.Mathlib.Omega.{arith}
 use native.Mathlib.Decide.{ℕ-discrete}
 use lib.ListN.{length, getD, set, replicate}
 use lib.Seq.{getD-set-same, getD-set-other}
-use Rattle.landlord.specs.Fold.{tab, tabFrom}
+use Rattle.landlord.specs.Fold.{tab, tabFrom, fold}
 use Rattle.landlord.specs.Catalog.{Catalog, Item, CapacityOk, CatalogOk, ItemOk, itemAt, noItem}
 use Rattle.landlord.specs.Slot.{absent}
-use Rattle.landlord.specs.Rule.{emptied}
-use Rattle.landlord.specs.Figures.{Standing, opened, nothing, noUse, totalsOf}
+use Rattle.landlord.specs.Rule.{emptied, flush, writeBacks}
+use Rattle.landlord.specs.Valid.{StandingOk}
+use Rattle.landlord.proofs.Valid.{ok-opened, ok-closes}
+use Rattle.landlord.specs.Figures.{Standing, opened, closes, nothing, noUse, totalsOf}
 use Rattle.landlord.specs.Calls.{openingRefusal, allInRange}
 use Rattle.landlord.proofs.Folds.{tab-length, tab-at, tab-eq}
 use Rattle.landlord.proofs.Calls.{opening-taken, opening-accepts}
 use Rattle.marks.specs.Marks.{bit, marked}
 use Rattle.cache_state.specs.declared.Cache.{Cache}
 use Rattle.cache_state.specs.View.{itemOf, slotOf, usageOf, catalogOf, slotsOf, usesOf, view, dirtyAt}
-use Rattle.cache_state.specs.Valid.{Normal, Blank, Emptied}
+use Rattle.cache_state.specs.Valid.{Normal, Valid, Blank, Emptied}
 use Rattle.cache_state.specs.Becomes.{Becomes, Decided}
 use Rattle.cache.specs.declared.Reply.{Reply}
+use Rattle.cache.proofs.Season.{becomes-valid}
 use Rattle.cache.specs.Contract.{EmptyPlace, Opened, catalogFrom, refusedOpening}
 use Rattle.cache.specs.Opening.{FirstOf, BlocksOk, Opens, emptyOf}
 
@@ -222,3 +225,16 @@ module _ (k n : ℕ) (blocks load write : List ℕ) where
           unfold catalogFrom tabFrom in
           new-becomes 1 0 true (replicate 256 0) (replicate 256 0) (replicate 256 0) (replicate 256 0) (replicate 256 0) (replicate 256 0) (omega arith)
           (first-none _ 256) (first-none _ 256) (first-none _ 256)
+
+-- the cache of a refused opening is valid
+pub refused-valid : (r : Cache) → Becomes refusedOpening r → Valid r
+refused-valid r h = becomes-valid refusedOpening r standing h
+  where
+    size : CapacityOk 1
+    size = record { low = omega arith; high = omega arith }
+
+    none : CatalogOk []
+    none = record { few = omega arith; each = λ i l. absurd (let z : i < 0 = l in omega arith) }
+
+    standing : StandingOk refusedOpening
+    standing = unfold closes flush writeBacks tabFrom fold in ok-closes (opened 1 []) (ok-opened 1 [] size none)

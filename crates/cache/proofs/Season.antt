@@ -22,7 +22,8 @@ use Rattle.cache_state.specs.View.{view}
 use Rattle.cache_state.specs.Valid.{Valid}
 use Rattle.cache_state.specs.Becomes.{Becomes}
 use Rattle.cache.specs.declared.Reply.{Reply}
-use Rattle.cache.specs.Contract.{Answers, Called, Opened}
+use Rattle.cache.specs.declared.Answered as Declared
+use Rattle.cache.specs.Contract.{Answers, Called, Opened, CalledBy}
 use Rattle.cache.specs.Chain.{Follows, none, then, Chain, Answered, Closing, Bounded, Season}
 
 -- the cache that stands where the rule stands in order is valid
@@ -110,3 +111,10 @@ season-by-value k cat calls numbers d chain =
       stands = so .stands;
       wear = λ closing. bounded k cat (ranges .1) calls numbers d (so .stands) answers closing;
     }
+
+-- a call as a method is one call of such a list
+pub method-follows :
+    (c d : Cache) (call : Call) (calls : List Call) (numbers : List ℕ) (r : Declared.Answered) (m : CalledBy c call r) →
+    Follows (r .ledger .cache) calls numbers d →
+    Follows c (call ∷ calls) (m .reply .number ∷ numbers) d
+method-follows c d call calls numbers r m f = then (m .called) (subst (λ (z : Cache). Follows z calls numbers d) (m .replied .cache) f)

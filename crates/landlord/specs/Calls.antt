@@ -17,6 +17,7 @@ use Rattle.landlord.specs.Figures.{Standing, took, closes, ran, season}
 abbrev pub itemInRange : Item → Bool
 itemInRange x = leb 1 (x .blocks) && leb (x .blocks) 16 && leb (x .load) 65535 && leb (x .write) 65535
 
+-- every line of a catalogue in range
 unfoldable pub allInRange : Catalog → Bool
 allInRange [] = true
 allInRange (x ∷ items) = itemInRange x && allInRange items
@@ -65,12 +66,15 @@ pub record Log : Type 0 where
   pub steps : List Step
   pub closed : Bool
 
+-- the log at opening
 abbrev pub noLog : Log
 noLog = record { steps = []; closed = false }
 
+-- what the table says to a call after a log
 abbrev pub refusalIn : ℕ → Catalog → Log → Call → ℕ
 refusalIn k cat l call = refusalAt k cat (length (l .steps)) (l .closed) call
 
+-- a log that a call joins: a step at its end, or the closing
 abbrev pub logged : Log → Call → Log
 logged l (take kind item minutes) = record { steps = l .steps ++ (stepOf kind item minutes ∷ []); closed = l .closed }
 logged l close = record { steps = l .steps; closed = true }

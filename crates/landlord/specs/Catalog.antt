@@ -18,6 +18,7 @@ Catalog = List Item
 abbrev pub noItem : Item
 noItem = record { blocks = 0; load = 0; write = 0 }
 
+-- the sail of a number
 abbrev pub itemAt : Catalog → ℕ → Item
 itemAt cat i = getD cat i noItem
 

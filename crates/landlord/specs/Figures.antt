@@ -29,10 +29,12 @@ pub record Use : Type 0 where
   pub loads : ℕ
   pub writebacks : ℕ
 
+-- all that paper 01's report prints, and the steps and landings
 pub record Figures : Type 0 where
   pub totals : Totals
   pub uses : List Use
 
+-- the totals from nine numbers, in the order of the fields
 abbrev pub totalsOf : ℕ → ℕ → ℕ → ℕ → ℕ → ℕ → ℕ → ℕ → ℕ → Totals
 totalsOf s h l lc e de w wc f =
     record {
@@ -62,6 +64,7 @@ adds cat landed = totalsOf 1 0 0 0 0 0 0 0 1
 abbrev pub tenthsOf : ℕ → ℕ
 tenthsOf minutes = minutes / 6
 
+-- an item's line from its three numbers
 abbrev pub useOf : ℕ → ℕ → ℕ → Use
 useOf t l w = record { tenths = t; loads = l; writebacks = w }
 
@@ -84,18 +87,22 @@ isAbout i (wroteBack j) = eqb i j
 isAbout i (wrote j minutes) = eqb i j
 isAbout i landed = false
 
+-- totals added up, each by itself
 abbrev pub plusTotals : Totals → Totals → Totals
 plusTotals a b =
     totalsOf (a .steps + b .steps) (a .hits + b .hits) (a .loads + b .loads) (a .loadCost + b .loadCost)
     (a .evictions + b .evictions) (a .dirtyEvictions + b .dirtyEvictions) (a .writebacks + b .writebacks)
     (a .writeCost + b .writeCost) (a .flushes + b .flushes)
 
+-- the line of a sail that nothing has happened to
 abbrev pub noUse : Use
 noUse = useOf 0 0 0
 
+-- the line of a sail number
 abbrev pub useAt : Figures → ℕ → Use
 useAt f i = getD (f .uses) i noUse
 
+-- lines added up, each number by itself
 abbrev pub plusUse : Use → Use → Use
 plusUse a b = useOf (a .tenths + b .tenths) (a .loads + b .loads) (a .writebacks + b .writebacks)
 
@@ -107,6 +114,7 @@ tally cat f e =
       uses = tab (length cat) (λ i. plusUse (useAt f i) (cond (isAbout i e) (usage e) noUse));
     }
 
+-- at opening nothing is counted
 abbrev pub nothing : Catalog → Figures
 nothing cat = record { totals = totalsOf 0 0 0 0 0 0 0 0 0; uses = tab (length cat) (λ i. noUse) }
 

@@ -21,21 +21,25 @@ pub data Copy : Type 0 where
   cleanCopy : Copy
   dirtyCopy : Copy
 
+-- paper 01: the plan holds it
 abbrev pub has : Copy → Bool
 has noCopy = false
 has cleanCopy = true
 has dirtyCopy = true
 
+-- and it is dirty there
 abbrev pub isChanged : Copy → Bool
 isChanged noCopy = false
 isChanged cleanCopy = false
 isChanged dirtyCopy = true
 
+-- a landing cleans it
 abbrev pub cleaned : Copy → Copy
 cleaned noCopy = noCopy
 cleaned cleanCopy = cleanCopy
 cleaned dirtyCopy = cleanCopy
 
+-- the plan's copy of a sail number
 abbrev pub copyAt : List Copy → ℕ → Copy
 copyAt q i = getD q i noCopy
 
@@ -97,6 +101,7 @@ abbrev pub andPaid : ℕ → Done → Done
 andPaid c (done q d) = done q (c + d)
 andPaid c (faulty f) = faulty f
 
+-- one part of a plan after another; the first fault decides
 abbrev pub andThen : Done → (List Copy → Done) → Done
 andThen (done q c) next = andPaid c (next q)
 andThen (faulty f) next = faulty f
@@ -120,10 +125,12 @@ planServes cat h s (Read i) q = ifHeld s i q (withinCapacity cat h s q (done q 0
 planServes cat h s (Write i minutes) q = ifHeld s i q (withinCapacity cat h s q (done (set q i dirtyCopy) 0))
 planServes cat h s Flush q = withinCapacity cat h s q (done (tab (length cat) (λ i. cleaned (copyAt q i))) (owed cat q))
 
+-- the price of what follows, with what has been paid already
 abbrev pub pricedWith : ℕ → Priced → Priced
 pricedWith c (costs d) = costs (c + d)
 pricedWith c (fault f) = fault f
 
+-- the rest of the plan priced, after a part of it
 abbrev pub priceThen : Done → (List Copy → Priced) → Priced
 priceThen (done q c) next = pricedWith c (next q)
 priceThen (faulty f) next = fault f

@@ -4,17 +4,18 @@
 use mathlib.Core.Path.{_≡_, refl}
 use mathlib.Core.Bool.{Bool, true, false}
 use mathlib.Core.List.{List, [], _∷_, _++_, map}
-use Prim.Native.Nat.{ℕ}
+use Prim.Native.Nat.{ℕ, _+_, _*_, _-_}
 use lib.ListN.{getD}
 use Rattle.landlord.specs.declared.Step.{Step}
 use Rattle.landlord.specs.declared.Act.{Act}
 use Rattle.landlord.specs.declared.Act.the-variants.{Evict, Fetch}
 use Rattle.landlord.specs.Fold.{sumTo, tabFrom, bestTo, fold}
-use Rattle.landlord.specs.Catalog.{Catalog, Item}
+use Rattle.landlord.specs.Catalog.{Catalog, Item, unit}
 use Rattle.landlord.specs.Slot.{Slot, absent, clean, dirty, writeFirst}
 use Rattle.landlord.specs.Rule.{State, Event, hit, loaded, evicted, wroteBack, wrote, landed, emptied, used, heldCount, victim, evictItem, evictFor, makeRoom, writeBacks, flush, step}
-use Rattle.landlord.specs.Figures.{Totals, Use, totalsOf, useOf, took, closes}
+use Rattle.landlord.specs.Figures.{Totals, Use, Standing, totalsOf, useOf, took, closes, season, totalCost}
 use Rattle.landlord.specs.Plan.{Priced, costs, fault, unknownItem, notHeld, alreadyHeld, requestNotHeld, overCapacity, planUsed, owed, planActs, allActs, planServes, priceFrom, price}
+use Rattle.landlord.specs.Claims.{loadCredits}
 use Rattle.landlord.specs.Calls.{Call, take, close, Log, noLog, stepOf, refusalAt, refusalIn, joins, logOf, ruleOver}
 
 -- a rival of a row: its blocks, and its acts before step 0, 1, 2 and on; no acts after the last list
@@ -205,6 +206,20 @@ rows =
 pub rows-right : map outcome rows ≡ map (λ (r : Row). r .expected) rows
 unfolding outcome answers trace evictedItems sumTo tabFrom bestTo fold used heldCount victim evictItem evictFor makeRoom writeBacks flush step took closes stepOf refusalAt joins ruleOver planUsed owed planActs allActs planServes priceFrom
 rows-right = refl
+
+-- the season of the whole example
+abbrev exampleEnd : Standing
+exampleEnd = season writeFirst 3 three (logOf 3 three (fourSteps ++ (landing ∷ [])) .steps)
+
+-- its report's last figures: total 28; left, (k - h + 1) × total, is 56; right, k × rival, is 96. The load credits held at the
+-- close are worth 7, which makes the sharper line 63 against 96.
+pub example-right :
+    (totalCost (exampleEnd .figures) ≡ 28)
+    × (totalCost (exampleEnd .figures) * (3 - 2 + 1) ≡ 56)
+    × (_≡_ {A = ℕ} (3 * 32) 96)
+    × ((2 - 1) * loadCredits (exampleEnd .state) ≡ 7 * unit)
+unfolding sumTo tabFrom bestTo fold used heldCount victim evictItem evictFor makeRoom writeBacks flush step took closes stepOf refusalAt joins
+example-right = (refl, refl, refl, refl)
 
 -- a question to the table of refusals: the capacity, the catalog, the steps taken, whether the log is closed, the call; and
 -- the number that answers it

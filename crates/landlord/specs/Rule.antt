@@ -17,12 +17,15 @@ pub record State : Type 0 where
   pub catalog : Catalog
   pub slots : List Slot
 
+-- how many sails the catalogue has
 abbrev pub size : State → ℕ
 size x = length (x .catalog)
 
+-- the place of a sail number
 abbrev pub slotAt : State → ℕ → Slot
 slotAt x i = getD (x .slots) i absent
 
+-- a sail's blocks
 abbrev pub blocksAt : State → ℕ → ℕ
 blocksAt x i = itemAt (x .catalog) i .blocks
 
@@ -39,10 +42,12 @@ pub data Event : Type 0 where
   wrote : (item minutes : ℕ) → Event
   landed : Event
 
+-- what a part of a step gives: the next state, and what happened, in order
 pub record Moved : Type 0 where
   pub state : State
   pub events : List Event
 
+-- nothing happens
 abbrev pub stay : State → Moved
 stay x = record { state = x; events = [] }
 
@@ -79,6 +84,7 @@ evictItem split v x =
           tab (size x) (λ i. cond (eqb i v) absent (lose split (blocksAt x i) (blocksAt x i * rank x v) (slotAt x i)));
     }
 
+-- "That sail is dropped; if dirty, its write cost is paid": the mark goes into the event, which says what is paid
 abbrev pub evict : Split → State → Moved
 evict split x =
     record {
@@ -113,9 +119,11 @@ found x i = cond (held (slotAt x i)) (hit i) (loaded i)
 abbrev pub readSlot : State → ℕ → Slot
 readSlot x i = refilled (full (itemAt (x .catalog) i .load)) (brought (slotAt x i))
 
+-- a read, once there is room: a hit, or a load
 abbrev pub serveRead : ℕ → State → Moved
 serveRead i x = record { state = put x i (readSlot x i); events = found x i ∷ [] }
 
+-- a write, once there is room: as a read, and then the write with its minutes
 abbrev pub serveWrite : ℕ → ℕ → State → Moved
 serveWrite i minutes x =
     record {

@@ -10,21 +10,25 @@ pub data Slot : Type 0 where
   clean : (load : ℕ) → Slot
   dirty : (load write : ℕ) → Slot
 
+-- paper 01: a held sail
 abbrev pub held : Slot → Bool
 held absent = false
 held (clean a) = true
 held (dirty a b) = true
 
+-- paper 01: a dirty one; a held sail is clean or dirty
 abbrev pub isDirty : Slot → Bool
 isDirty absent = false
 isDirty (clean a) = false
 isDirty (dirty a b) = true
 
+-- paper 01: its load credit, in shares; an empty place has none
 abbrev pub loadCredit : Slot → ℕ
 loadCredit absent = 0
 loadCredit (clean a) = a
 loadCredit (dirty a b) = a
 
+-- paper 01: its write credit, in shares; an empty place and a clean sail have none
 abbrev pub writeCredit : Slot → ℕ
 writeCredit absent = 0
 writeCredit (clean a) = 0

@@ -15,6 +15,7 @@ use Rattle.landlord.specs.Claims.{Kept}
 unfoldable pub dirtyCount : State → ℕ
 dirtyCount x = sumTo (size x) (λ i. cond (isDirty (slotAt x i)) 1 0)
 
+-- what is not foul, wherever the rule stands
 pub record StandingOk (v : Standing) : Type 0 where
   -- "k and catalogue are in range; held blocks are at most k; credits are multiples of its blocks and at most cost × 720,720"
   pub capacity : CapacityOk (v .k)
