@@ -124,3 +124,30 @@ impl Refusal {
         }
     }
 }
+
+impl Refusal {
+    // The line of the text, counted from 1; 0 where no text was read.
+    pub fn line(self) -> u32
+        ensures { λ r. ⌜ r ≡ refusalLine self ⌝ }
+    {
+        match self {
+            Refusal::Malformed { line } => line,
+            Refusal::Heading { line } => line,
+            Refusal::OutOfRange { line } => line,
+            Refusal::OutOfSequence { line } => line,
+            Refusal::PlanTooLarge { line } => line,
+            Refusal::UnknownItem { line } => line,
+            Refusal::ItemTooLarge { line } => line,
+            Refusal::LogFull { line } => line,
+            Refusal::Closed { line } => line,
+            Refusal::ActOutOfOrder { line } => line,
+            Refusal::NotHeld { line } => line,
+            Refusal::AlreadyHeld { line } => line,
+            Refusal::OverCapacity { line } => line,
+            Refusal::RequestNotHeld { line } => line,
+            Refusal::ShortBuffer { line } => line,
+            Refusal::InputTooLong { line } => line,
+            Refusal::InvalidState { line } => line,
+        }
+    }
+}

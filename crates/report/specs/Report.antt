@@ -1,0 +1,96 @@
+-- The report's text, and what writing it on a lent page gives. Paper 01, 'The text input' and 'When the library says no'.
+-- Assumes nothing.
+use mathlib.Core.Path.{_≡_}
+use mathlib.Core.Bool.{cond}
+use mathlib.Core.List.{List, [], _∷_, _++_}
+use Prim.Native.Nat.{ℕ, suc, _^_, _<_}
+use lib.ListN.{length}
+use Rattle.decimal.specs.Decimal.{digitsOf, fits, pageOf}
+use Rattle.landlord.specs.declared.Refusal.{Refusal}
+use Rattle.landlord.specs.declared.Refusal.the-variants.{ShortBuffer, InvalidState}
+use Rattle.landlord.specs.Types.{refusalNumber, refusalLine}
+use Rattle.landlord.specs.Figures.{Use, Standing, totalCost}
+use Rattle.cache_state.specs.declared.Cache.{Cache}
+use Rattle.cache_state.specs.View.{view}
+use Rattle.cache_state.specs.Valid.{Valid}
+use Rattle.report.specs.declared.Rival.{Rival}
+use Rattle.report.specs.declared.Rival.the-variants.{Absent, Priced}
+use Rattle.report.specs.declared.Written.{Written}
+use Rattle.report.specs.declared.Written.the-variants.{Text, Refused}
+use Rattle.report.specs.Words.{sailWord, tenthsWord, loadsWord, writebacksWord, hitsWord, loadcostWord, dropsWord, dirtydropsWord, writecostWord, totalWord, rivalWord, leftWord, rightWord, refusalWord, lineWord, namesOf}
+
+-- the byte behind a number: a space before the next one, a line feed behind the last
+abbrev pub separator : List ℕ → ℕ
+separator [] = 10
+separator (x ∷ rest) = 32
+
+-- a line of numbers
+unfoldable pub lineOf : List ℕ → List ℕ
+lineOf [] = []
+lineOf (x ∷ rest) = digitsOf x ++ (separator rest ∷ lineOf rest)
+
+-- an item's line: its number, and what was counted for it
+abbrev pub itemNumbers : ℕ → Use → List ℕ
+itemNumbers i u = i ∷ u .tenths ∷ u .loads ∷ u .writebacks ∷ []
+
+-- one line an item, from number i on
+unfoldable pub itemLines : ℕ → List Use → List ℕ
+itemLines i [] = []
+itemLines i (u ∷ uses) = lineOf (itemNumbers i u) ++ itemLines (suc i) uses
+
+-- "A report called on a state alone ends its last two lines at `total`"; with a rival's figures they go on.
+abbrev pub rivalNames : Rival → List (List ℕ)
+rivalNames Absent = []
+rivalNames (Priced cost left right) = rivalWord ∷ leftWord ∷ rightWord ∷ []
+
+abbrev pub rivalNumbers : Rival → List ℕ
+rivalNumbers Absent = []
+rivalNumbers (Priced cost left right) = cost ∷ left ∷ right ∷ []
+
+abbrev pub itemNames : List ℕ
+itemNames = namesOf (sailWord ∷ tenthsWord ∷ loadsWord ∷ writebacksWord ∷ [])
+
+abbrev pub totalNames : Rival → List ℕ
+totalNames rival =
+    namesOf (hitsWord ∷ loadsWord ∷ loadcostWord ∷ dropsWord ∷ dirtydropsWord ∷ writebacksWord ∷ writecostWord ∷ totalWord ∷ rivalNames rival)
+
+abbrev pub totalNumbers : Standing → Rival → List ℕ
+totalNumbers v rival =
+    let t = v .figures .totals in
+    t .hits ∷ t .loads ∷ t .loadCost ∷ t .evictions ∷ t .dirtyEvictions ∷ t .writebacks ∷ t .writeCost ∷ totalCost (v .figures) ∷ rivalNumbers rival
+
+-- the totals: a line of names and a line of numbers
+unfoldable pub totalLines : Standing → Rival → List ℕ
+totalLines v rival = totalNames rival ++ lineOf (totalNumbers v rival)
+
+-- the whole report: the items, a blank line, the totals
+unfoldable pub reportOf : Standing → Rival → List ℕ
+reportOf v rival = itemNames ++ (itemLines 0 (v .figures .uses) ++ (10 ∷ totalLines v rival))
+
+-- "A refused input prints the names `refusal line` and one line with both numbers, and nothing else."
+unfoldable pub refusalText : Refusal → List ℕ
+refusalText r = namesOf (refusalWord ∷ lineWord ∷ []) ++ lineOf (refusalNumber r ∷ refusalLine r ∷ [])
+
+-- what writing a text on a page answers: its length, or 15
+unfoldable pub wrote : List ℕ → List ℕ → Written
+wrote t page = cond (fits t page) (Text (length t)) (Refused (ShortBuffer 0))
+
+-- A text put on a page: "Bytes past the text keep their contents"; a page too short for all of it is as before.
+pub record Put (t before : List ℕ) (r : Written) (after : List ℕ) : Type 0 where
+  pub answer : r ≡ wrote t before
+  pub page : after ≡ pageOf t before
+
+-- "a report 17, 15"
+pub record Reported (c : Cache) (rival : Rival) (before : List ℕ) (r : Written) (after : List ℕ) : Type 0 where
+  pub fine : Valid c → Put (reportOf (view c) rival) before r after
+  pub foul : (Valid c → ⊥) → (r ≡ Refused (InvalidState 0)) × (after ≡ before)
+
+-- The bytes of the longest report there can be: 29 and 1 of item names and blank line, 256 item lines of at most 30, 81 of names,
+-- 8 totals of at most 69 digits together, 3 figures of a rival of at most 20 each, and 11 bytes behind these numbers.
+abbrev pub longest : ℕ
+longest = 7931
+
+-- figures of a rival that the code's words hold
+abbrev pub RivalFits : Rival → Type 0
+RivalFits Absent = ⊤
+RivalFits (Priced cost left right) = (cost < 2 ^ 64) × (left < 2 ^ 64) × (right < 2 ^ 64)

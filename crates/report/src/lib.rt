@@ -1,0 +1,237 @@
+// The report of a cache on a lent page, and the two numbers of a refused input. The whole length is known before the first byte is
+// written, so a page that is too short is left as it was; then each line is written into what remains of the page.
+ghost use mathlib.Core.Path.{_≡_};
+ghost use Prim.Native.Nat.{_≤_};
+ghost use lib.ListN.{length, take};
+ghost use Rattle.cache_state.specs.View.{view, usesOf};
+ghost use Rattle.cache_state.specs.Valid.{Valid};
+ghost use Rattle.report.specs.Report.{lineOf, itemLines, totalNumbers, totalNames, refusalText, Put, Reported};
+ghost use Rattle.report.specs.Lines.{over, LineFits, ItemsFit, figureCount};
+use cache_state::Cache;
+use landlord::Refusal;
+
+// The bytes of the longest report there can be, with or without a rival's figures.
+pub const LONGEST: usize = 7931;
+
+// What the last two lines say of a rival plan: nothing, or its cost and the two sides of the bound.
+pub enum Rival {
+    Absent,
+    Priced { cost: u64, left: u64, right: u64 },
+}
+
+// What writing on a page answers: the length of the text, or why nothing was written.
+pub enum Written {
+    Text(usize),
+    Refused(Refusal),
+}
+
+// How many bytes a line of numbers has: its digits, and one byte behind each number.
+fn line_length(numbers: &[u64]) -> usize
+    requires { ⌜ length (now numbers) ≤ 11 ⌝ }
+    ensures { λ r. ⌜ r ≡ length (lineOf (now (numbers .entry))) ⌝ }
+{
+    let mut n = 0;
+    let mut i = 0;
+    while i < numbers.len() {
+        n += decimal::width(numbers[i]) + 1;
+        i += 1;
+    }
+    n
+}
+
+// Writes a line of numbers at the start of the page, which has room for it.
+fn put_line(page: &mut [u8], numbers: &[u64]) -> usize
+    requires { ⌜ LineFits (now numbers) (now page) ⌝ }
+    ensures { λ r. ⌜ r ≡ length (lineOf (now (numbers .entry))) ⌝ }
+    ensures { λ r. ⌜ now (page .exit) ≡ over (lineOf (now (numbers .entry))) (now (page .entry)) ⌝ }
+{
+    let mut at = 0;
+    let mut i = 0;
+    while i < numbers.len() {
+        at += decimal::write(numbers[i], &mut page[at..]);
+        i += 1;
+        // A space before the next number, a line feed behind the last.
+        page[at] = if i < numbers.len() { 32 } else { 10 };
+        at += 1;
+    }
+    at
+}
+
+// Writes a text at the start of the page, which has room for it.
+fn put_text(page: &mut [u8], text: &[u8]) -> usize
+    requires { ⌜ length (now text) ≤ length (now page) ⌝ }
+    ensures { λ r. ⌜ r ≡ length (now (text .entry)) ⌝ }
+    ensures { λ r. ⌜ now (page .exit) ≡ over (now (text .entry)) (now (page .entry)) ⌝ }
+{
+    let mut i = 0;
+    while i < text.len() {
+        page[i] = text[i];
+        i += 1;
+    }
+    i
+}
+
+fn wide(x: u32) -> u64
+    ensures { λ r. ⌜ r ≡ x ⌝ }
+{
+    x as u64
+}
+
+// How many bytes the items' lines have.
+fn items_length(c: Cache) -> usize
+    requires { ⌜ Valid c ⌝ }
+    ensures { λ r. ⌜ r ≡ length (itemLines 0 (usesOf c)) ⌝ }
+{
+    let n = c.n;
+    let mut sum = 0;
+    let mut i = 0;
+    while i < n {
+        let line = [
+            i as u64,
+            wide(c.tenths[i]),
+            wide(c.itemloads[i]),
+            wide(c.itemwritebacks[i]),
+        ];
+        sum += line_length(&line);
+        i += 1;
+    }
+    sum
+}
+
+// Writes the items' lines at the start of the page, which has room for them.
+fn put_items(page: &mut [u8], c: Cache) -> usize
+    requires { ⌜ ItemsFit c (now page) ⌝ }
+    ensures { λ r. ⌜ r ≡ length (itemLines 0 (usesOf c)) ⌝ }
+    ensures { λ r. ⌜ now (page .exit) ≡ over (itemLines 0 (usesOf c)) (now (page .entry)) ⌝ }
+{
+    let n = c.n;
+    let mut at = 0;
+    let mut i = 0;
+    while i < n {
+        let line = [
+            i as u64,
+            wide(c.tenths[i]),
+            wide(c.itemloads[i]),
+            wide(c.itemwritebacks[i]),
+        ];
+        at += put_line(&mut page[at..], &line);
+        i += 1;
+    }
+    at
+}
+
+// The numbers of the last line, eight and three; without a rival the last three are not printed.
+fn figures(c: Cache, rival: Rival) -> [u64; 11]
+    requires { ⌜ Valid c ⌝ }
+    ensures { λ r. ⌜ take (figureCount rival) r ≡ totalNumbers (view c) rival ⌝ }
+{
+    let mut cost: u64 = 0;
+    let mut left: u64 = 0;
+    let mut right: u64 = 0;
+    if let Rival::Priced {
+        cost: a,
+        left: b,
+        right: d,
+    } = rival {
+        cost = a;
+        left = b;
+        right = d;
+    }
+    [
+        wide(c.hits),
+        wide(c.loads),
+        c.loadcost,
+        wide(c.evictions),
+        wide(c.dirtyevictions),
+        wide(c.writebacks),
+        c.writecost,
+        c.loadcost + c.writecost,
+        cost,
+        left,
+        right,
+    ]
+}
+
+// How many of these a report prints.
+fn figure_count(rival: Rival) -> usize
+    ensures { λ r. ⌜ r ≡ figureCount rival ⌝ }
+{
+    match rival {
+        Rival::Absent => 8,
+        Rival::Priced {
+            cost: _,
+            left: _,
+            right: _,
+        } => 11,
+    }
+}
+
+// How many bytes the names of the last line have.
+fn names_length(rival: Rival) -> usize
+    ensures { λ r. ⌜ r ≡ length (totalNames rival) ⌝ }
+{
+    match rival {
+        Rival::Absent => 64,
+        Rival::Priced {
+            cost: _,
+            left: _,
+            right: _,
+        } => 81,
+    }
+}
+
+// Writes the names of the last line at the start of the page, which has room for them.
+fn put_names(page: &mut [u8], rival: Rival) -> usize
+    requires { ⌜ length (totalNames rival) ≤ length (now page) ⌝ }
+    ensures { λ r. ⌜ r ≡ length (totalNames rival) ⌝ }
+    ensures { λ r. ⌜ now (page .exit) ≡ over (totalNames rival) (now (page .entry)) ⌝ }
+{
+    match rival {
+        Rival::Absent => put_text(
+            page,
+            b"hits loads loadcost drops dirtydrops writebacks writecost total\n",
+        ),
+        Rival::Priced {
+            cost: _,
+            left: _,
+            right: _,
+        } => put_text(
+            page,
+            b"hits loads loadcost drops dirtydrops writebacks writecost total rival left right\n",
+        ),
+    }
+}
+
+// The report of a cache, open or closed: 17 if it is invalid, 15 if the page is too short, else the text at the start of the page.
+pub fn report(c: Cache, rival: Rival, page: &mut [u8]) -> Written
+    ensures { λ r. ⌜ Reported c rival (now (page .entry)) r (now (page .exit)) ⌝ }
+{
+    if !cache_state::valid(c) {
+        return Written::Refused(Refusal::InvalidState { line: 0 });
+    }
+    let numbers = figures(c, rival);
+    let count = figure_count(rival);
+    let needed = 30 + items_length(c) + names_length(rival) + line_length(&numbers[..count]);
+    if page.len() < needed {
+        return Written::Refused(Refusal::ShortBuffer { line: 0 });
+    }
+    let mut at = put_text(page, b"sail tenths loads writebacks\n");
+    at += put_items(&mut page[at..], c);
+    at += put_text(&mut page[at..], b"\n");
+    at += put_names(&mut page[at..], rival);
+    at += put_line(&mut page[at..], &numbers[..count]);
+    Written::Text(at)
+}
+
+// The output of a refused input: the refusal's number and its line; 15 if the page is too short.
+pub fn refused(r: Refusal, page: &mut [u8]) -> Written
+    ensures { λ w. ⌜ Put (refusalText r) (now (page .entry)) w (now (page .exit)) ⌝ }
+{
+    let line = [wide(r.number()), wide(r.line())];
+    if page.len() < 13 + line_length(&line) {
+        return Written::Refused(Refusal::ShortBuffer { line: 0 });
+    }
+    let mut at = put_text(page, b"refusal line\n");
+    at += put_line(&mut page[at..], &line);
+    Written::Text(at)
+}
