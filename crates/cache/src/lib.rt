@@ -38,7 +38,7 @@ pub struct Answered {
 }
 
 // Whether a step's kind is one of R, W and L, and the values that such a step has are in their ranges.
-fn in_range(kind: u32, item: u32, minutes: u32) -> bool
+pub fn in_range(kind: u32, item: u32, minutes: u32) -> bool
     ensures { λ r. ⌜ r ≡ inRange kind item minutes ⌝ }
 {
     if kind == 82 {

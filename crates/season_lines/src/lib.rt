@@ -1,0 +1,327 @@
+// A line of the text input: its fields, and what a value line of each table says. Nothing here knows a catalogue or a place among
+// the tables.
+ghost use mathlib.Core.Path.{_≡_};
+ghost use mathlib.Core.Bool.{cond};
+ghost use Prim.Native.Nat.{_≤_};
+ghost use lib.ListN.{length, take};
+ghost use Rattle.landlord.specs.Calls.{stepOf, itemInRange};
+ghost use Rattle.season_lines.specs.Fields.{before, fieldOf, markOf, isNumber, isDash, isLetter, isOther, valueIn};
+ghost use Rattle.season_lines.specs.Lines.{sizeInRange, itemFrom, isEither, stepShape, isActKind, actOf, sizesLine, itemLine, stepLine, actLine, lineIn};
+use landlord::Act;
+use landlord::Refusal;
+use landlord::Step;
+
+// What a field is. A number above 4,294,967,295 counts as that one, which is outside every range too.
+pub enum Field {
+    Number(u32),
+    Letter(u8),
+    Dash,
+    Other,
+}
+
+// What a value line says: a line of one of the four tables, or why it is none.
+pub enum Line {
+    Sizes {
+        k: u32,
+        h: u32,
+    },
+    Item {
+        number: u32,
+        blocks: u8,
+        load: u16,
+        write: u16,
+    },
+    Step(Step),
+    Act {
+        place: u32,
+        act: Act,
+    },
+    Refused(Refusal),
+}
+
+// How many bytes stand before the first `b`; all of them if there is none.
+pub fn find(s: &[u8], b: u8) -> usize
+    ensures { λ r. ⌜ r ≡ length (before b (now (s .entry))) ⌝ }
+{
+    let mut i = 0;
+    while i < s.len() {
+        if s[i] == b {
+            return i;
+        }
+        i += 1;
+    }
+    i
+}
+
+// What a field of one byte is that is no number.
+fn mark_of(b: u8) -> Field
+    ensures { λ r. ⌜ r ≡ markOf b ⌝ }
+{
+    if b == b'-' {
+        return Field::Dash;
+    }
+    if 65 <= b {
+        if b <= 90 {
+            return Field::Letter(b);
+        }
+    }
+    Field::Other
+}
+
+pub fn field_of(s: &[u8]) -> Field
+    ensures { λ r. ⌜ r ≡ fieldOf (now (s .entry)) ⌝ }
+{
+    match decimal::read(s, 4294967295) {
+        decimal::Number::Value(v) => Field::Number(v as u32),
+        decimal::Number::OutOfRange => Field::Number(4294967295),
+        decimal::Number::Malformed => {
+            if s.len() == 1 {
+                return mark_of(s[0]);
+            }
+            Field::Other
+        }
+    }
+}
+
+pub fn is_number(f: Field) -> bool
+    ensures { λ r. ⌜ r ≡ isNumber f ⌝ }
+{
+    match f {
+        Field::Number(_) => true,
+        Field::Letter(_) => false,
+        Field::Dash => false,
+        Field::Other => false,
+    }
+}
+
+pub fn is_letter(f: Field) -> bool
+    ensures { λ r. ⌜ r ≡ isLetter f ⌝ }
+{
+    match f {
+        Field::Number(_) => false,
+        Field::Letter(_) => true,
+        Field::Dash => false,
+        Field::Other => false,
+    }
+}
+
+pub fn is_dash(f: Field) -> bool
+    ensures { λ r. ⌜ r ≡ isDash f ⌝ }
+{
+    match f {
+        Field::Number(_) => false,
+        Field::Letter(_) => false,
+        Field::Dash => true,
+        Field::Other => false,
+    }
+}
+
+// Whether a field is none that any line may have.
+pub fn is_other(f: Field) -> bool
+    ensures { λ r. ⌜ r ≡ isOther f ⌝ }
+{
+    match f {
+        Field::Number(_) => false,
+        Field::Letter(_) => false,
+        Field::Dash => false,
+        Field::Other => true,
+    }
+}
+
+// The number that a field is, or the code of its letter; 0 if it is neither.
+pub fn value_in(f: Field) -> u32
+    ensures { λ r. ⌜ r ≡ valueIn f ⌝ }
+{
+    match f {
+        Field::Number(v) => v,
+        Field::Letter(b) => b as u32,
+        Field::Dash => 0,
+        Field::Other => 0,
+    }
+}
+
+fn is_size(x: u32) -> bool
+    ensures { λ r. ⌜ r ≡ sizeInRange x ⌝ }
+{
+    1 <= x && x <= 4096
+}
+
+// A line of `locker rival`.
+fn sizes_line(fields: [Field; 4], count: usize, line: u32) -> Line
+    requires { ⌜ count ≤ 4 ⌝ }
+    ensures { λ r. ⌜ r ≡ sizesLine (take count fields) line ⌝ }
+{
+    let k = fields[0];
+    let h = fields[1];
+    if count != 2 || !is_number(k) || !is_number(h) {
+        return Line::Refused(Refusal::Malformed { line: line });
+    }
+    let a = value_in(k);
+    let b = value_in(h);
+    if !is_size(a) || !is_size(b) {
+        return Line::Refused(Refusal::OutOfRange { line: line });
+    }
+    Line::Sizes { k: a, h: b }
+}
+
+// Whether an item's blocks and costs are in their ranges.
+fn is_item(blocks: u32, load: u32, write: u32) -> bool
+    ensures { λ r. ⌜ r ≡ itemInRange (itemFrom blocks load write) ⌝ }
+{
+    1 <= blocks && blocks <= 16 && load <= 65535 && write <= 65535
+}
+
+// A line of `sail blocks load write`.
+fn item_line(fields: [Field; 4], count: usize, line: u32) -> Line
+    requires { ⌜ count ≤ 4 ⌝ }
+    ensures { λ r. ⌜ r ≡ itemLine (take count fields) line ⌝ }
+{
+    let number = fields[0];
+    let blocks = fields[1];
+    let load = fields[2];
+    let write = fields[3];
+    if count != 4
+        || !is_number(number)
+        || !is_number(blocks)
+        || !is_number(load)
+        || !is_number(write)
+    {
+        return Line::Refused(Refusal::Malformed { line: line });
+    }
+    let i = value_in(number);
+    let b = value_in(blocks);
+    let l = value_in(load);
+    let w = value_in(write);
+    if 255 < i || !is_item(b, l, w) {
+        return Line::Refused(Refusal::OutOfRange { line: line });
+    }
+    Line::Item {
+        number: i,
+        blocks: b as u8,
+        load: l as u16,
+        write: w as u16,
+    }
+}
+
+fn is_either(f: Field) -> bool
+    ensures { λ r. ⌜ r ≡ isEither f ⌝ }
+{
+    is_number(f) || is_dash(f)
+}
+
+// Whether the fields behind a step's kind are numbers and `-` where they are due.
+fn step_shaped(kind: u32, item: Field, minutes: Field) -> bool
+    ensures { λ r. ⌜ r ≡ stepShape kind item minutes ⌝ }
+{
+    if kind == 82 {
+        return is_number(item) && is_dash(minutes);
+    }
+    if kind == 87 {
+        return is_number(item) && is_number(minutes);
+    }
+    if kind == 76 {
+        return is_dash(item) && is_dash(minutes);
+    }
+    is_either(item) && is_either(minutes)
+}
+
+// The step of a kind that is in range; values that it lacks are not looked at.
+fn step_of(kind: u32, item: u32, minutes: u32) -> Step
+    ensures { λ r. ⌜ r ≡ stepOf kind item minutes ⌝ }
+{
+    if kind == 82 {
+        return Step::Read { item: item };
+    }
+    if kind == 87 {
+        return Step::Write {
+            item: item,
+            minutes: minutes,
+        };
+    }
+    Step::Flush
+}
+
+// A line of `step sail minutes`.
+fn step_line(fields: [Field; 4], count: usize, line: u32) -> Line
+    requires { ⌜ count ≤ 4 ⌝ }
+    ensures { λ r. ⌜ r ≡ stepLine (take count fields) line ⌝ }
+{
+    let kind = fields[0];
+    let item = fields[1];
+    let minutes = fields[2];
+    let letter = value_in(kind);
+    if count != 3 || !is_letter(kind) || !step_shaped(letter, item, minutes) {
+        return Line::Refused(Refusal::Malformed { line: line });
+    }
+    let i = value_in(item);
+    let m = value_in(minutes);
+    if !cache::in_range(letter, i, m) {
+        return Line::Refused(Refusal::OutOfRange { line: line });
+    }
+    Line::Step(step_of(letter, i, m))
+}
+
+fn is_act(kind: u32) -> bool
+    ensures { λ r. ⌜ r ≡ isActKind kind ⌝ }
+{
+    kind == 68 || kind == 70
+}
+
+fn act_of(kind: u32, item: u32) -> Act
+    ensures { λ r. ⌜ r ≡ actOf kind item ⌝ }
+{
+    if kind == 68 {
+        return Act::Evict { item: item };
+    }
+    Act::Fetch { item: item }
+}
+
+// Whether the field behind an act's kind is a number; behind an unknown kind it may be `-`.
+fn act_shaped(kind: u32, item: Field) -> bool
+    ensures { λ r. ⌜ r ≡ cond (isActKind kind) (isNumber item) (isEither item) ⌝ }
+{
+    if is_act(kind) {
+        return is_number(item);
+    }
+    is_either(item)
+}
+
+// A line of `at act sail`.
+fn act_line(fields: [Field; 4], count: usize, line: u32) -> Line
+    requires { ⌜ count ≤ 4 ⌝ }
+    ensures { λ r. ⌜ r ≡ actLine (take count fields) line ⌝ }
+{
+    let place = fields[0];
+    let kind = fields[1];
+    let item = fields[2];
+    let letter = value_in(kind);
+    if count != 3 || !is_number(place) || !is_letter(kind) || !act_shaped(letter, item) {
+        return Line::Refused(Refusal::Malformed { line: line });
+    }
+    let before = value_in(place);
+    let i = value_in(item);
+    if 999999 < before || !is_act(letter) || 255 < i {
+        return Line::Refused(Refusal::OutOfRange { line: line });
+    }
+    Line::Act {
+        place: before,
+        act: act_of(letter, i),
+    }
+}
+
+// A value line of a table, the tables counted from 0: its shape, then its ranges.
+pub fn line_in(table: u32, fields: [Field; 4], count: usize, line: u32) -> Line
+    requires { ⌜ count ≤ 4 ⌝ }
+    ensures { λ r. ⌜ r ≡ lineIn table (take count fields) line ⌝ }
+{
+    if table == 0 {
+        return sizes_line(fields, count, line);
+    }
+    if table == 1 {
+        return item_line(fields, count, line);
+    }
+    if table == 2 {
+        return step_line(fields, count, line);
+    }
+    act_line(fields, count, line)
+}
