@@ -98,6 +98,29 @@ impl Step {
     }
 }
 
+impl Act {
+    // The letter that stands for the act in the text, as its code: D or F.
+    pub fn kind(self) -> u32
+        ensures { λ r. ⌜ r ≡ actKind self ⌝ }
+    {
+        match self {
+            Act::Evict { item: _ } => 68,
+            Act::Fetch { item: _ } => 70,
+        }
+    }
+}
+
+impl Act {
+    pub fn item(self) -> u32
+        ensures { λ r. ⌜ r ≡ actItem self ⌝ }
+    {
+        match self {
+            Act::Evict { item } => item,
+            Act::Fetch { item } => item,
+        }
+    }
+}
+
 impl Refusal {
     // The number in paper 01's table.
     pub fn number(self) -> u32

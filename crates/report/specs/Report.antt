@@ -92,5 +92,5 @@ longest = 7931
 
 -- figures of a rival that the code's words hold
 abbrev pub RivalFits : Rival → Type 0
-RivalFits Absent = ⊤
+RivalFits Absent = Unit {0}
 RivalFits (Priced cost left right) = (cost < 2 ^ 64) × (left < 2 ^ 64) × (right < 2 ^ 64)

@@ -1,0 +1,53 @@
+// The text input's four tables: the search for the first faulty line.
+ghost use mathlib.Core.Path.{_≡_};
+ghost use Rattle.season_tables.specs.Tables.{readingOf};
+ghost use Rattle.season_tables.specs.Holds.{Leads, Roomy, Scannable};
+use landlord::Refusal;
+use season_lines::Field;
+use season_tables::Scanned;
+use season_tables::Verdict;
+
+// Reads the tables up to the first faulty line. The steps are noted in `calls`, four numbers each, and the acts in `acts`, three.
+pub fn scan(s: &[u8], calls: &mut [u32], acts: &mut [u32]) -> Scanned
+    requires { ⌜ Scannable (now s) (now calls) (now acts) ⌝ }
+    ensures { λ r. ⌜ Leads (readingOf (now (s .entry))) r (now (calls .exit)) (now (acts .exit)) ⌝ }
+    ensures { λ _. ⌜ Roomy (now (calls .exit)) (now (acts .exit)) ⌝ }
+{
+    let mut seen = season_tables::at_start();
+    let mut at = 0;
+    let mut line: u32 = 1;
+    'lines: loop {
+        if s.len() <= at {
+            break 'lines season_tables::ended(seen, line);
+        }
+        let end = at + season_lines::find(&s[at..], b'\n');
+        if s.len() <= end {
+            break 'lines season_tables::stopped(seen, Refusal::Malformed { line: line });
+        }
+        let mut fields = [Field::Other; 4];
+        let mut count: usize = 0;
+        let mut i = at;
+        let mut more = season_tables::wants_values(seen.named, seen.table, seen.k, end - at);
+        while more {
+            let j = i + season_lines::find(&s[i..end], b' ');
+            let field = season_lines::field_of(&s[i..j]);
+            // No line has such a field, and none has a fifth.
+            if season_lines::is_other(field) || 4 <= count {
+                break 'lines season_tables::stopped(seen, Refusal::Malformed { line: line });
+            }
+            fields[count] = field;
+            count += 1;
+            more = j < end;
+            i = j + 1;
+        }
+        let next = season_tables::lead(seen, &s[at..end], fields, count, line, calls, acts);
+        let verdict = next.verdict;
+        if let Verdict::Refused(_) = verdict {
+            break 'lines next;
+        }
+        let read = next.seen;
+        seen = read;
+        at = end + 1;
+        line += 1;
+    }
+}

@@ -1,0 +1,3 @@
+-- The definitions that the contracts of `season_tables` cite. Assumes nothing.
+pub mod Tables
+pub mod Holds

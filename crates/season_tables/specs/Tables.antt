@@ -1,0 +1,150 @@
+-- The four tables of the text input, read line by line: the first faulty line decides. Paper 01, 'The text input' and 'When the
+-- library says no'. Assumes nothing.
+use mathlib.Core.Bool.{Bool, true, false, cond, _&&_}
+use mathlib.Core.List.{List, [], _∷_, _++_}
+use Prim.Native.Nat.{ℕ, suc}
+use lib.ListN.{length}
+use lib.Dec.{leb, ltb, eqb}
+use Rattle.landlord.specs.declared.Step.{Step}
+use Rattle.landlord.specs.declared.Act.{Act}
+use Rattle.landlord.specs.declared.Refusal.{Refusal}
+use Rattle.landlord.specs.declared.Refusal.the-variants.{Malformed, Heading, OutOfSequence, PlanTooLarge, UnknownItem, ItemTooLarge, ActOutOfOrder}
+use Rattle.landlord.specs.Types.{actItem}
+use Rattle.landlord.specs.Fold.{fold}
+use Rattle.landlord.specs.Catalog.{Catalog}
+use Rattle.landlord.specs.Calls.{itemRefusal}
+use Rattle.report.specs.Words.{lockerWord, rivalWord, sailWord, blocksWord, loadWord, writeWord, stepWord, minutesWord, atWord, actWord, wordsOf}
+use Rattle.season_lines.specs.declared.Line.{Line}
+use Rattle.season_lines.specs.declared.Line.the-variants.{Sizes, Item as ItemLine, Step as StepLine, Act as ActLine, Refused}
+use Rattle.season_lines.specs.Fields.{split, fieldsOf}
+use Rattle.season_lines.specs.Lines.{itemFrom, lineIn}
+
+-- an act of the text: the 0-based step before which it stands, and what it does
+pub record Placed : Type 0 where
+  pub place : ℕ
+  pub act : Act
+
+-- What has been read: in which table, the tables counted from 0, and whether behind its line of names; and what the value lines
+-- said. Before the line of sizes k is 0.
+pub record Sofar : Type 0 where
+  pub table : ℕ
+  pub named : Bool
+  pub k : ℕ
+  pub h : ℕ
+  pub catalog : Catalog
+  pub steps : List Step
+  pub acts : List Placed
+
+-- before the first line
+abbrev pub atStart : Sofar
+atStart = record { table = 0; named = false; k = 0; h = 0; catalog = []; steps = []; acts = [] }
+
+-- the names of each table
+unfoldable pub heading : ℕ → List ℕ
+heading table =
+    cond (eqb table 0) (wordsOf (lockerWord ∷ rivalWord ∷ []))
+    (cond (eqb table 1) (wordsOf (sailWord ∷ blocksWord ∷ loadWord ∷ writeWord ∷ []))
+    (cond (eqb table 2) (wordsOf (stepWord ∷ sailWord ∷ minutesWord ∷ []))
+    (wordsOf (atWord ∷ actWord ∷ sailWord ∷ []))))
+
+-- a line leads on, with what has been read then, or stops the reading
+pub data Led : Type 0 where
+  on : Sofar → Led
+  stop : Refusal → Led
+
+-- the line of names is read
+abbrev pub nowNamed : Sofar → Sofar
+nowNamed v =
+    record { table = v .table; named = true; k = v .k; h = v .h; catalog = v .catalog; steps = v .steps; acts = v .acts }
+
+-- the blank line is read: the next table's names are due
+abbrev pub nextTable : Sofar → Sofar
+nextTable v =
+    record { table = suc (v .table); named = false; k = v .k; h = v .h; catalog = v .catalog; steps = v .steps; acts = v .acts }
+
+abbrev pub withSizes : Sofar → ℕ → ℕ → Sofar
+withSizes v k h =
+    record { table = v .table; named = v .named; k = k; h = h; catalog = v .catalog; steps = v .steps; acts = v .acts }
+
+abbrev pub withItem : Sofar → ℕ → ℕ → ℕ → Sofar
+withItem v b l w =
+    record { table = v .table; named = v .named; k = v .k; h = v .h; catalog = v .catalog ++ (itemFrom b l w ∷ []); steps = v .steps; acts = v .acts }
+
+abbrev pub withStep : Sofar → Step → Sofar
+withStep v s =
+    record { table = v .table; named = v .named; k = v .k; h = v .h; catalog = v .catalog; steps = v .steps ++ (s ∷ []); acts = v .acts }
+
+abbrev pub withAct : Sofar → ℕ → Act → Sofar
+withAct v place act =
+    record { table = v .table; named = v .named; k = v .k; h = v .h; catalog = v .catalog; steps = v .steps; acts = v .acts ++ (record { place = place; act = act } ∷ []) }
+
+-- the place of the last act, 0 if there is none
+abbrev pub lastPlace : List Placed → ℕ
+lastPlace acts = fold (λ (p : ℕ) (a : Placed). a .place) 0 acts
+
+-- "10 out of turn: `at` falls, or is not below the number of steps"
+abbrev pub inTurn : Sofar → ℕ → Bool
+inTurn v place = leb (lastPlace (v .acts)) place && ltb place (length (v .steps))
+
+-- 6 or 7, told on line n; 0 is neither
+abbrev pub unlessRefused : ℕ → ℕ → Sofar → Led
+unlessRefused number n w = cond (eqb number 0) (on w) (stop (cond (eqb number 6) (UnknownItem n) (ItemTooLarge n)))
+
+-- A value line that is shaped and in range, on line n: "then for `locker rival` 5, for sails 4, for steps 6, 7, for acts 10, 6".
+unfoldable pub takes : Sofar → Line → ℕ → Led
+takes v (Sizes k h) n = cond (leb h k) (on (withSizes v k h)) (stop (PlanTooLarge n))
+takes v (ItemLine i b l w) n = cond (eqb i (length (v .catalog))) (on (withItem v b l w)) (stop (OutOfSequence n))
+takes v (StepLine s) n = unlessRefused (itemRefusal (v .k) (v .catalog) s) n (withStep v s)
+takes v (ActLine place act) n =
+    cond (inTurn v place)
+    (cond (ltb (actItem act) (length (v .catalog))) (on (withAct v place act)) (stop (UnknownItem n)))
+    (stop (ActOutOfOrder n))
+takes v (Refused r) n = stop r
+
+-- whether the one value line of `locker rival` is read
+abbrev pub isSized : ℕ → Bool
+isSized k = leb 1 k
+
+-- whether a blank line may stand here: behind the one line of `locker rival`, and in the two tables after it
+abbrev pub mayEnd : ℕ → ℕ → Bool
+mayEnd table k = cond (eqb table 0) (isSized k) (ltb table 3)
+
+-- whether nothing else may: "A blank line due but not there is torn"
+abbrev pub mustEnd : ℕ → ℕ → Bool
+mustEnd table k = cond (eqb table 0) (isSized k) false
+
+abbrev pub isBlank : List ℕ → Bool
+isBlank l = eqb (length l) 0
+
+unfoldable pub sameBytes : List ℕ → List ℕ → Bool
+sameBytes [] [] = true
+sameBytes [] (y ∷ t) = false
+sameBytes (x ∷ s) [] = false
+sameBytes (x ∷ s) (y ∷ t) = eqb x y && sameBytes s t
+
+-- a line l, ended by its line feed, on line n
+unfoldable pub leads : Sofar → List ℕ → ℕ → Led
+leads v l n =
+    cond (v .named)
+    (cond (cond (isBlank l) (mayEnd (v .table) (v .k)) false) (on (nextTable v))
+    (cond (mustEnd (v .table) (v .k)) (stop (Malformed n))
+    (takes v (lineIn (v .table) (fieldsOf l) n) n)))
+    (cond (sameBytes l (heading (v .table))) (on (nowNamed v)) (stop (Heading n)))
+
+-- The input's end, on line n: all is read behind the names of the last table, else "the input ends where a line is due".
+abbrev pub atEnd : Sofar → ℕ → Led
+atEnd v n = cond (v .named && eqb (v .table) 3) (on v) (stop (Heading n))
+
+abbrev pub goesOn : Led → (Sofar → Led) → Led
+goesOn (on v) next = next v
+goesOn (stop r) next = stop r
+
+-- The lines from line n on. The last piece is what stands behind the last line feed: bytes there are a line without one.
+unfoldable pub readFrom : ℕ → List (List ℕ) → Sofar → Led
+readFrom n [] v = atEnd v n
+readFrom n (l ∷ []) v = cond (isBlank l) (atEnd v n) (stop (Malformed n))
+readFrom n (l ∷ m ∷ rest) v = goesOn (leads v l n) (readFrom (suc n) (m ∷ rest))
+
+-- what the text says, or the refusal of its first faulty line
+abbrev pub readingOf : List ℕ → Led
+readingOf s = readFrom 1 (split 10 s) atStart

@@ -1,0 +1,349 @@
+// The text input's four tables, read line by line up to the first faulty line.
+ghost use mathlib.Core.Path.{_≡_};
+ghost use mathlib.Core.Bool.{cond};
+ghost use mathlib.Core.List.{[], _∷_};
+ghost use Prim.Native.Nat.{_+_, _*_, _≤_};
+ghost use lib.ListN.{length, take};
+ghost use lib.Dec.{eqb};
+ghost use Rattle.landlord.specs.declared.Step.the-variants.{Read};
+ghost use Rattle.landlord.specs.declared.Refusal.the-variants.{Malformed, Heading};
+ghost use Rattle.landlord.specs.Calls.{itemRefusal};
+ghost use Rattle.cache.specs.Contract.{catalogFrom};
+ghost use Rattle.season_lines.specs.declared.Line.the-variants.{Sizes, Item as ItemLine, Step as StepLine, Act as ActLine};
+ghost use Rattle.season_tables.specs.declared.Verdict.the-variants.{Taken, Refused};
+ghost use Rattle.season_tables.specs.Tables.{on, stop, heading, sameBytes, mayEnd, mustEnd, nowNamed, nextTable, takes, atEnd};
+ghost use Rattle.season_tables.specs.Holds.{Begins, LeadsFrom, LeadsBy, NotesStep, NotesAct, LineLeads, Roomy, Takeable, Leadable, wantsValues, callNumbers, actNumbers, putAt};
+use landlord::Act;
+use landlord::Refusal;
+use landlord::Step;
+use season_lines::Field;
+use season_lines::Line;
+
+// What has been read: in which table, and whether behind its line of names; the sizes, k 0 before they are read; the catalog;
+// how many steps and acts, and the place of the last act.
+pub struct Seen {
+    pub table: u32,
+    pub named: bool,
+    pub k: u32,
+    pub h: u32,
+    pub n: usize,
+    pub blocks: [u8; 256],
+    pub load: [u16; 256],
+    pub write: [u16; 256],
+    pub steps: usize,
+    pub acts: usize,
+    pub last: u32,
+}
+
+pub enum Verdict {
+    Taken,
+    Refused(Refusal),
+}
+
+// The answer to a line, or to all of them, with what has been read then.
+pub struct Scanned {
+    pub verdict: Verdict,
+    pub seen: Seen,
+}
+
+fn same(s: &[u8], t: &[u8]) -> bool
+    ensures { λ r. ⌜ r ≡ sameBytes (now (s .entry)) (now (t .entry)) ⌝ }
+{
+    if s.len() != t.len() {
+        return false;
+    }
+    let mut i = 0;
+    while i < s.len() {
+        if s[i] != t[i] {
+            return false;
+        }
+        i += 1;
+    }
+    true
+}
+
+// Whether a line is the names of a table.
+fn is_heading(table: u32, line: &[u8]) -> bool
+    ensures { λ r. ⌜ r ≡ sameBytes (now (line .entry)) (heading table) ⌝ }
+{
+    if table == 0 {
+        return same(line, b"locker rival");
+    }
+    if table == 1 {
+        return same(line, b"sail blocks load write");
+    }
+    if table == 2 {
+        return same(line, b"step sail minutes");
+    }
+    same(line, b"at act sail")
+}
+
+// Whether a blank line may stand here: behind the one line of `locker rival`, and in the two tables after it.
+fn may_end(table: u32, k: u32) -> bool
+    ensures { λ r. ⌜ r ≡ mayEnd table k ⌝ }
+{
+    if table == 0 {
+        return 1 <= k;
+    }
+    table < 3
+}
+
+// Whether nothing else may.
+fn must_end(table: u32, k: u32) -> bool
+    ensures { λ r. ⌜ r ≡ mustEnd table k ⌝ }
+{
+    if table == 0 {
+        return 1 <= k;
+    }
+    false
+}
+
+// Whether the fields of a line of so many bytes are looked at: a value line is due, and this is not the blank line.
+pub fn wants_values(named: bool, table: u32, k: u32, bytes: usize) -> bool
+    ensures { λ r. ⌜ r ≡ wantsValues named table k bytes ⌝ }
+{
+    if !named {
+        return false;
+    }
+    if bytes == 0 {
+        if may_end(table, k) {
+            return false;
+        }
+    }
+    !must_end(table, k)
+}
+
+// Nothing is read.
+pub fn at_start() -> Seen
+    ensures { λ r. ⌜ Begins r ⌝ }
+{
+    Seen {
+        table: 0,
+        named: false,
+        k: 0,
+        h: 0,
+        n: 0,
+        blocks: [0; 256],
+        load: [0; 256],
+        write: [0; 256],
+        steps: 0,
+        acts: 0,
+        last: 0,
+    }
+}
+
+fn taken(seen: Seen) -> Scanned
+    ensures { λ r. ⌜ (r .verdict ≡ Taken) × (r .seen ≡ seen) ⌝ }
+{
+    Scanned {
+        verdict: Verdict::Taken,
+        seen: seen,
+    }
+}
+
+pub fn stopped(seen: Seen, r: Refusal) -> Scanned
+    ensures { λ a. ⌜ a .verdict ≡ Refused r ⌝ }
+{
+    Scanned {
+        verdict: Verdict::Refused(r),
+        seen: seen,
+    }
+}
+
+// The line of names, right or not.
+fn take_names(seen: Seen, right: bool, at: u32) -> Scanned
+    ensures { λ r. ⌜ LeadsBy seen (λ v. cond right (on (nowNamed v)) (stop (Heading at))) r ⌝ }
+{
+    if !right {
+        return stopped(seen, Refusal::Heading { line: at });
+    }
+    let mut q = seen;
+    q.named = true;
+    taken(q)
+}
+
+// The blank line between two tables, or what stands in its place.
+fn take_blank(seen: Seen, bytes: usize, at: u32) -> Scanned
+    requires { ⌜ seen .table ≤ 3 ⌝ }
+    ensures { λ r. ⌜ LeadsBy seen (λ v. cond (eqb bytes 0) (on (nextTable v)) (stop (Malformed at))) r ⌝ }
+{
+    if bytes != 0 {
+        return stopped(seen, Refusal::Malformed { line: at });
+    }
+    let mut q = seen;
+    q.table = seen.table + 1;
+    q.named = false;
+    taken(q)
+}
+
+fn take_sizes(seen: Seen, k: u32, h: u32, at: u32) -> Scanned
+    ensures { λ r. ⌜ LeadsBy seen (λ v. takes v (Sizes k h) at) r ⌝ }
+{
+    if k < h {
+        return stopped(seen, Refusal::PlanTooLarge { line: at });
+    }
+    let mut q = seen;
+    q.k = k;
+    q.h = h;
+    taken(q)
+}
+
+fn take_item(seen: Seen, number: u32, blocks: u8, load: u16, write: u16, at: u32) -> Scanned
+    requires { ⌜ number ≤ 255 ⌝ }
+    ensures { λ r. ⌜ LeadsBy seen (λ v. takes v (ItemLine number blocks load write) at) r ⌝ }
+{
+    let i = number as usize;
+    if i != seen.n {
+        return stopped(seen, Refusal::OutOfSequence { line: at });
+    }
+    let mut q = seen;
+    q.blocks[i] = blocks;
+    q.load[i] = load;
+    q.write[i] = write;
+    q.n = i + 1;
+    taken(q)
+}
+
+// The number that the table of refusals gives the item of a step: 6, 7, or 0.
+fn item_refused(seen: Seen, item: u32) -> u32
+    requires { ⌜ seen .n ≤ 256 ⌝ }
+    ensures { λ r. ⌜ r ≡ itemRefusal (seen .k) (catalogFrom (seen .n) (seen .blocks) (seen .load) (seen .write)) (Read item) ⌝ }
+{
+    let i = item as usize;
+    if seen.n <= i {
+        return 6;
+    }
+    if seen.k < (seen.blocks[i] as u32) {
+        return 7;
+    }
+    0
+}
+
+// And a step: a flush has no item.
+fn step_refused(seen: Seen, step: Step) -> u32
+    requires { ⌜ seen .n ≤ 256 ⌝ }
+    ensures { λ r. ⌜ r ≡ itemRefusal (seen .k) (catalogFrom (seen .n) (seen .blocks) (seen .load) (seen .write)) step ⌝ }
+{
+    match step {
+        Step::Read { item } => item_refused(seen, item),
+        Step::Write { item, minutes: _ } => item_refused(seen, item),
+        Step::Flush => 0,
+    }
+}
+
+// Notes a step as a call's four numbers, from place `i` on.
+fn put_step(calls: &mut [u32], i: usize, step: Step)
+    requires { ⌜ (i + 4 ≤ length (now calls)) × (i ≤ 43688) ⌝ }
+    ensures { λ _. ⌜ now (calls .exit) ≡ putAt (now (calls .entry)) i (callNumbers (step ∷ [])) ⌝ }
+{
+    calls[i] = 0;
+    calls[i + 1] = step.kind();
+    calls[i + 2] = step.item();
+    calls[i + 3] = step.minutes();
+}
+
+fn take_step(seen: Seen, step: Step, at: u32, calls: &mut [u32]) -> Scanned
+    requires { ⌜ (seen .n ≤ 256) × (4 * seen .steps ≤ 43688) × (length (now calls) ≡ 43692) ⌝ }
+    ensures { λ r. ⌜ NotesStep seen (now (calls .entry)) (λ v. takes v (StepLine step) at) r (now (calls .exit)) ⌝ }
+    ensures { λ _. ⌜ length (now (calls .exit)) ≡ length (now (calls .entry)) ⌝ }
+{
+    let number = step_refused(seen, step);
+    if number == 6 {
+        return stopped(seen, Refusal::UnknownItem { line: at });
+    }
+    if number != 0 {
+        return stopped(seen, Refusal::ItemTooLarge { line: at });
+    }
+    let steps = seen.steps;
+    put_step(calls, 4 * steps, step);
+    let mut q = seen;
+    q.steps = steps + 1;
+    taken(q)
+}
+
+// Notes an act's three numbers, from place `i` on.
+fn put_act(acts: &mut [u32], i: usize, place: u32, act: Act)
+    requires { ⌜ (i + 3 ≤ length (now acts)) × (i ≤ 32766) ⌝ }
+    ensures { λ _. ⌜ now (acts .exit) ≡ putAt (now (acts .entry)) i (actNumbers (record { place = place; act = act } ∷ [])) ⌝ }
+{
+    acts[i] = place;
+    acts[i + 1] = act.kind();
+    acts[i + 2] = act.item();
+}
+
+fn take_act(seen: Seen, place: u32, act: Act, at: u32, acts: &mut [u32]) -> Scanned
+    requires { ⌜ (3 * seen .acts ≤ 32766) × (length (now acts) ≡ 32769) ⌝ }
+    ensures { λ r. ⌜ NotesAct seen (now (acts .entry)) (λ v. takes v (ActLine place act) at) r (now (acts .exit)) ⌝ }
+    ensures { λ _. ⌜ length (now (acts .exit)) ≡ length (now (acts .entry)) ⌝ }
+{
+    // It may not fall, and there is such a step.
+    if place < seen.last || seen.steps <= place as usize {
+        return stopped(seen, Refusal::ActOutOfOrder { line: at });
+    }
+    if seen.n <= act.item() as usize {
+        return stopped(seen, Refusal::UnknownItem { line: at });
+    }
+    let count = seen.acts;
+    put_act(acts, 3 * count, place, act);
+    let mut q = seen;
+    q.acts = count + 1;
+    q.last = place;
+    taken(q)
+}
+
+// A value line that is shaped and in range.
+fn take_line(seen: Seen, line: Line, at: u32, calls: &mut [u32], acts: &mut [u32]) -> Scanned
+    requires { ⌜ Takeable seen line (now calls) (now acts) ⌝ }
+    ensures { λ r. ⌜ LeadsFrom seen (now (calls .entry)) (now (acts .entry)) (λ v. takes v line at) r (now (calls .exit)) (now (acts .exit)) ⌝ }
+    ensures { λ _. ⌜ Roomy (now (calls .exit)) (now (acts .exit)) ⌝ }
+{
+    match line {
+        Line::Sizes { k, h } => take_sizes(seen, k, h, at),
+        Line::Item {
+            number,
+            blocks,
+            load,
+            write,
+        } => take_item(seen, number, blocks, load, write, at),
+        Line::Step(step) => take_step(seen, step, at, calls),
+        Line::Act { place, act } => take_act(seen, place, act, at, acts),
+        Line::Refused(r) => stopped(seen, r),
+    }
+}
+
+// A line that is ended by its line feed; its fields stand in `fields` if it is one with values.
+pub fn lead(
+    seen: Seen,
+    text: &[u8],
+    fields: [Field; 4],
+    count: usize,
+    at: u32,
+    calls: &mut [u32],
+    acts: &mut [u32],
+) -> Scanned
+    requires { ⌜ Leadable seen count (now calls) (now acts) ⌝ }
+    ensures { λ r. ⌜ LineLeads seen (now (calls .entry)) (now (acts .entry)) (now (text .entry)) (take count fields) at r (now (calls .exit)) (now (acts .exit)) ⌝ }
+    ensures { λ _. ⌜ Roomy (now (calls .exit)) (now (acts .exit)) ⌝ }
+{
+    let table = seen.table;
+    if !seen.named {
+        return take_names(seen, is_heading(table, text), at);
+    }
+    if wants_values(true, table, seen.k, text.len()) {
+        let line = season_lines::line_in(table, fields, count, at);
+        return take_line(seen, line, at, calls, acts);
+    }
+    take_blank(seen, text.len(), at)
+}
+
+// The input's end: all is read behind the names of the last table.
+pub fn ended(seen: Seen, at: u32) -> Scanned
+    ensures { λ r. ⌜ LeadsBy seen (λ v. atEnd v at) r ⌝ }
+{
+    if seen.named {
+        if seen.table == 3 {
+            return taken(seen);
+        }
+    }
+    stopped(seen, Refusal::Heading { line: at })
+}
