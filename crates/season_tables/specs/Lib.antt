@@ -1,3 +1,4 @@
 -- The definitions that the contracts of `season_tables` cite. Assumes nothing.
 pub mod Tables
 pub mod Holds
+pub mod Sound

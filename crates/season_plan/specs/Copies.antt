@@ -1,0 +1,154 @@
+-- How the program holds what a plan has, and what its functions give. Assumes nothing.
+use mathlib.Core.Path.{_≡_}
+use mathlib.Core.Logic.{_≢_}
+use mathlib.Core.Bool.{true, cond}
+use mathlib.Core.List.{List}
+use Prim.Native.Nat.{ℕ, suc, _+_, _*_, _≤_, _<_}
+use lib.ListN.{length, getD}
+use lib.Dec.{eqb}
+use Rattle.landlord.specs.declared.Refusal.{Refusal}
+use Rattle.landlord.specs.declared.Refusal.the-variants.{UnknownItem, NotHeld, AlreadyHeld, OverCapacity, RequestNotHeld}
+use Rattle.landlord.specs.Fold.{tab}
+use Rattle.landlord.specs.Catalog.{Catalog, CatalogOk}
+use Rattle.landlord.specs.Plan.{Copy, noCopy, cleanCopy, dirtyCopy, copyAt, cleaned, owed, Done, done, faulty, Fault, unknownItem, notHeld, alreadyHeld, requestNotHeld, overCapacity, faultNumber, planUsed, planEvicts, planFetches, planActs, allActs, planServes}
+use Rattle.landlord.specs.Calls.{inRange, stepOf}
+use Rattle.season_lines.specs.Lines.{actOf}
+use Rattle.cache.specs.Contract.{catalogFrom}
+use Rattle.season_tables.specs.declared.Seen.{Seen}
+use Rattle.season_tables.specs.Tables.{Sofar}
+use Rattle.season_tables.specs.Holds.{Holds}
+use Rattle.season_tables.specs.Sound.{Sound}
+use Rattle.season_plan.specs.declared.Copies.{Copies}
+use Rattle.season_plan.specs.declared.Did.{Did}
+use Rattle.season_plan.specs.declared.Acted.{Acted}
+use Rattle.season_plan.specs.declared.Price.{Price}
+use Rattle.season_plan.specs.declared.Price.the-variants.{Cost, Refused}
+use Rattle.season_plan.specs.Plans.{actsBefore, planOf, priceOf, answerTo}
+
+-- 0 no copy, 1 a clean one, else a dirty one
+abbrev pub copyFrom : ℕ → Copy
+copyFrom m = cond (eqb m 0) noCopy (cond (eqb m 1) cleanCopy dirtyCopy)
+
+unfoldable pub copiesOf : ℕ → List ℕ → List Copy
+copiesOf n marks = tab n (λ i. copyFrom (getD marks i 0))
+
+abbrev pub catalogIn : Seen → Catalog
+catalogIn x = catalogFrom (x .n) (x .blocks) (x .load) (x .write)
+
+-- the program holds these copies, and has paid so much
+pub record Stands (cat : Catalog) (p : Copies) (q : List Copy) (paid : ℕ) : Type 0 where
+  pub copies : copiesOf (length cat) (p .marks) ≡ q
+  pub used : p .used ≡ planUsed cat q
+  pub sum : p .paid ≡ paid
+
+-- a part of the plan was done at a cost, or ended in the fault's number
+abbrev pub Does : Catalog → Done → ℕ → Did → Type 0
+Does cat (done q c) before r = (r .number ≡ 0) × Stands cat (r .copies) q (before + c)
+Does cat (faulty f) before r = r .number ≡ faultNumber f
+
+-- what a part of the plan asks: a catalog in range, and sums far from the end of their words
+pub record Ready (x : Seen) (p : Copies) : Type 0 where
+  pub few : x .n ≤ 256
+  pub catalog : CatalogOk (catalogIn x)
+  pub low : p .paid ≤ 1000000000000
+
+-- and that the item is known
+pub record Known (x : Seen) (p : Copies) (item : ℕ) : Type 0 where
+  pub ready : Ready x p
+  pub known : item < x .n
+
+-- D of an item; s and j are the places of the step and of the act, which a fault names
+abbrev pub Evicts : Seen → Copies → ℕ → Did → Type 0
+Evicts x p i r =
+    (s j paid : ℕ) (q : List Copy) → Stands (catalogIn x) p q paid → Does (catalogIn x) (planEvicts (catalogIn x) s j i q) paid r
+
+-- F of an item
+abbrev pub Fetches : Seen → Copies → ℕ → Did → Type 0
+Fetches x p i r =
+    (s j paid : ℕ) (q : List Copy) → Stands (catalogIn x) p q paid → Does (catalogIn x) (planFetches (catalogIn x) s j i q) paid r
+
+-- an act, by the code of its letter
+abbrev pub Acts : Seen → Copies → ℕ → ℕ → Did → Type 0
+Acts x p kind i r =
+    (s j paid : ℕ) (q : List Copy) → Stands (catalogIn x) p q paid → Does (catalogIn x) (planActs (catalogIn x) s j (actOf kind i) q) paid r
+
+-- the write costs that a flush makes it pay
+abbrev pub Owes : Seen → Copies → ℕ → Type 0
+Owes x p r = (r ≡ owed (catalogIn x) (copiesOf (x .n) (p .marks))) × (r ≤ 16776960)
+
+-- every copy is clean then, and nothing else changes
+pub record Cleans (n : ℕ) (p r : Copies) : Type 0 where
+  pub copies : copiesOf n (r .marks) ≡ tab n (λ i. cleaned (copyAt (copiesOf n (p .marks)) i))
+  pub used : r .used ≡ p .used
+  pub sum : r .paid ≡ p .paid
+
+-- a step that is in the log: a flush, or of a known item
+pub record Servable (x : Seen) (p : Copies) (kind item : ℕ) : Type 0 where
+  pub ready : Ready x p
+  pub known : kind ≢ 76 → item < x .n
+  pub kinds : inRange kind 0 0 ≡ true
+
+-- a step served, by the code of its letter
+abbrev pub Serves : Seen → Copies → ℕ → ℕ → Did → Type 0
+Serves x p kind i r =
+    (s minutes paid : ℕ) (q : List Copy) →
+    Stands (catalogIn x) p q paid →
+    Does (catalogIn x) (planServes (catalogIn x) (x .h) s (stepOf kind i minutes) q) paid r
+
+-- the act's place in its step's list, where a fault is an act's
+abbrev pub faultAct : Fault → ℕ
+faultAct (unknownItem s a i) = a
+faultAct (notHeld s a i) = a
+faultAct (alreadyHeld s a i) = a
+faultAct (requestNotHeld s i) = 0
+faultAct (overCapacity s) = 0
+
+-- the acts before step s were done, and `next` is the first behind them; or act `next` is at fault
+abbrev pub ActsDone : Sofar → ℕ → Done → ℕ → Acted → Type 0
+ActsDone v s (done q c) before r =
+    (r .number ≡ 0) × Stands (v .catalog) (r .copies) q (before + c) × (r .next ≡ actsBefore (suc s) (v .acts))
+ActsDone v s (faulty f) before r = (r .number ≡ faultNumber f) × (r .next ≡ actsBefore s (v .acts) + faultAct f)
+
+-- the refusal of a number and a line
+unfoldable pub refusalFor : ℕ → ℕ → Refusal
+refusalFor number n =
+    cond (eqb number 11) (NotHeld n)
+    (cond (eqb number 12) (AlreadyHeld n)
+    (cond (eqb number 13) (OverCapacity n)
+    (cond (eqb number 14) (RequestNotHeld n)
+    (UnknownItem n))))
+
+-- what pricing asks: the slices hold an accepted text
+pub record Priceable (x : Seen) (calls acts : List ℕ) : Type 0 where
+  pub text : Sofar
+  pub holds : Holds x calls acts text
+  pub sound : Sound text
+  pub fewSteps : x .steps ≤ 10922
+  pub fewActs : x .acts ≤ 10922
+  pub forSteps : length calls ≡ 43692
+  pub forActs : length acts ≡ 32769
+
+-- what the acts before step s ask: they begin at act `first`, and the sum is far from the end of its word
+pub record Actable (x : Seen) (p : Copies) (calls acts : List ℕ) (first s : ℕ) : Type 0 where
+  pub priceable : Priceable x calls acts
+  pub ready : Ready x p
+  pub begins : first ≡ actsBefore s (priceable .text .acts)
+
+-- whatever text the slices hold, its acts before step s are done, or the first fault among them is told
+abbrev pub RunsActs : Seen → Copies → List ℕ → List ℕ → ℕ → ℕ → Acted → Type 0
+RunsActs x p calls acts first s r =
+    (v : Sofar) (paid : ℕ) (q : List Copy) →
+    Holds x calls acts v →
+    Sound v →
+    first ≡ actsBefore s (v .acts) →
+    Stands (v .catalog) p q paid →
+    ActsDone v s (allActs (v .catalog) s 0 (planOf (v .acts) s) q) paid r
+
+-- whatever text the slices hold, this is the price of its plan
+abbrev pub PricedAs : Seen → List ℕ → List ℕ → Price → Type 0
+PricedAs x calls acts r = (v : Sofar) → Holds x calls acts v → Sound v → r ≡ answerTo v (priceOf v)
+
+-- and it is far from the end of its word
+abbrev pub PriceSmall : Price → Type 0
+PriceSmall (Cost c) = c ≤ 1000000000000
+PriceSmall (Refused r) = Unit {0}

@@ -1,0 +1,236 @@
+// The plan of a text, run over its steps and priced.
+ghost use mathlib.Core.Path.{_≡_};
+ghost use Prim.Native.Nat.{_≤_};
+ghost use Rattle.season_plan.specs.Copies.{Ready, Known, Evicts, Fetches, Acts, Owes, Cleans, Servable, Serves, Actable, RunsActs, refusalFor, Priceable, PricedAs, PriceSmall};
+use landlord::Refusal;
+use season_tables::Seen;
+
+// What the plan has of each item: 0 no copy, 1 a clean one, 2 a dirty one; the blocks that it holds; and what it has paid.
+pub struct Copies {
+    pub marks: [u8; 256],
+    pub used: u32,
+    pub paid: u64,
+}
+
+// A part of the plan: 0 if it was done, else the number of its fault; and what the plan has then.
+pub struct Did {
+    pub number: u32,
+    pub copies: Copies,
+}
+
+// The acts before one step; `next` is the first act behind them, or the one at fault.
+pub struct Acted {
+    pub number: u32,
+    pub next: usize,
+    pub copies: Copies,
+}
+
+// The answer to a plan: its cost, or the refusal of its first fault.
+pub enum Price {
+    Cost(u64),
+    Refused(Refusal),
+}
+
+fn done(copies: Copies) -> Did
+    ensures { λ r. ⌜ (r .number ≡ 0) × (r .copies ≡ copies) ⌝ }
+{
+    Did {
+        number: 0,
+        copies: copies,
+    }
+}
+
+fn failed(number: u32, copies: Copies) -> Did
+    ensures { λ r. ⌜ r .number ≡ number ⌝ }
+{
+    Did {
+        number: number,
+        copies: copies,
+    }
+}
+
+// D: drops a held item, and pays its write cost if it is dirty.
+fn evict(seen: Seen, p: Copies, item: usize) -> Did
+    requires { ⌜ Known seen p item ⌝ }
+    ensures { λ r. ⌜ Evicts seen p item r ⌝ }
+{
+    let mark = p.marks[item];
+    if mark == 0 {
+        return failed(11, p);
+    }
+    let mut q = p;
+    q.marks[item] = 0;
+    q.used = p.used - (seen.blocks[item] as u32);
+    if mark != 1 {
+        q.paid = p.paid + (seen.write[item] as u64);
+    }
+    done(q)
+}
+
+// F: fetches an item not held, clean, and pays its load cost.
+fn fetch(seen: Seen, p: Copies, item: usize) -> Did
+    requires { ⌜ Known seen p item ⌝ }
+    ensures { λ r. ⌜ Fetches seen p item r ⌝ }
+{
+    if p.marks[item] != 0 {
+        return failed(12, p);
+    }
+    let mut q = p;
+    q.marks[item] = 1;
+    q.used = p.used + (seen.blocks[item] as u32);
+    q.paid = p.paid + (seen.load[item] as u64);
+    done(q)
+}
+
+// One act, by the code of its letter.
+fn act(seen: Seen, p: Copies, kind: u32, item: usize) -> Did
+    requires { ⌜ Known seen p item ⌝ }
+    ensures { λ r. ⌜ Acts seen p kind item r ⌝ }
+{
+    if kind == 68 {
+        return evict(seen, p, item);
+    }
+    fetch(seen, p, item)
+}
+
+// The acts that stand before step `step`, from act `first` on.
+fn acts_before(seen: Seen, p: Copies, calls: &[u32], acts: &[u32], first: usize, step: u32) -> Acted
+    requires { ⌜ Actable seen p (now calls) (now acts) first step ⌝ }
+    ensures { λ r. ⌜ RunsActs seen p (now (calls .entry)) (now (acts .entry)) first step r ⌝ }
+{
+    let count = seen.acts;
+    let mut q = p;
+    let mut a = first;
+    while a < count {
+        if acts[3 * a] != step {
+            break;
+        }
+        let r = act(seen, q, acts[3 * a + 1], acts[3 * a + 2] as usize);
+        let number = r.number;
+        let next = r.copies;
+        q = next;
+        if number != 0 {
+            return Acted {
+                number: number,
+                next: a,
+                copies: q,
+            };
+        }
+        a += 1;
+    }
+    Acted {
+        number: 0,
+        next: a,
+        copies: q,
+    }
+}
+
+// The write costs that a flush makes the plan pay.
+fn owed(seen: Seen, p: Copies) -> u64
+    requires { ⌜ Ready seen p ⌝ }
+    ensures { λ r. ⌜ Owes seen p r ⌝ }
+{
+    let n = seen.n;
+    let mut sum: u64 = 0;
+    let mut i = 0;
+    while i < n {
+        if 1 < p.marks[i] {
+            sum += seen.write[i] as u64;
+        }
+        i += 1;
+    }
+    sum
+}
+
+// Every dirty copy becomes clean.
+fn clean(p: Copies, n: usize) -> Copies
+    requires { ⌜ n ≤ 256 ⌝ }
+    ensures { λ r. ⌜ Cleans n p r ⌝ }
+{
+    let mut q = p;
+    let mut i = 0;
+    while i < n {
+        if 1 < p.marks[i] {
+            q.marks[i] = 1;
+        }
+        i += 1;
+    }
+    q
+}
+
+// The step is served: its item is held (14), the plan is within its capacity (13); a write makes the item dirty, a flush cleans.
+fn serve(seen: Seen, p: Copies, kind: u32, item: usize) -> Did
+    requires { ⌜ Servable seen p kind item ⌝ }
+    ensures { λ r. ⌜ Serves seen p kind item r ⌝ }
+{
+    if kind != 76 {
+        if p.marks[item] == 0 {
+            return failed(14, p);
+        }
+    }
+    if seen.h < p.used {
+        return failed(13, p);
+    }
+    let mut q = p;
+    if kind == 76 {
+        q.paid = p.paid + owed(seen, p);
+        return done(clean(q, seen.n));
+    }
+    if kind == 87 {
+        q.marks[item] = 2;
+    }
+    done(q)
+}
+
+// The refusal of a fault's number, told on a line.
+fn refusal_for(number: u32, line: u32) -> Refusal
+    ensures { λ r. ⌜ r ≡ refusalFor number line ⌝ }
+{
+    if number == 11 {
+        return Refusal::NotHeld { line: line };
+    }
+    if number == 12 {
+        return Refusal::AlreadyHeld { line: line };
+    }
+    if number == 13 {
+        return Refusal::OverCapacity { line: line };
+    }
+    if number == 14 {
+        return Refusal::RequestNotHeld { line: line };
+    }
+    Refusal::UnknownItem { line: line }
+}
+
+// Runs the plan of an accepted text, the acts before each step and then the step, and the closing flush; its first fault decides.
+pub fn price_plan(seen: Seen, calls: &[u32], acts: &[u32]) -> Price
+    requires { ⌜ Priceable seen (now calls) (now acts) ⌝ }
+    ensures { λ r. ⌜ PricedAs seen (now (calls .entry)) (now (acts .entry)) r ⌝ }
+    ensures { λ r. ⌜ PriceSmall r ⌝ }
+{
+    let steps = seen.steps;
+    let mut p = Copies {
+        marks: [0; 256],
+        used: 0,
+        paid: 0,
+    };
+    let mut a = 0;
+    let mut s = 0;
+    while s < steps {
+        let before = acts_before(seen, p, calls, acts, a, s as u32);
+        a = before.next;
+        let number = before.number;
+        if number != 0 {
+            return Price::Refused(refusal_for(number, (9 + seen.n + steps + a) as u32));
+        }
+        let ready = before.copies;
+        let served = serve(seen, ready, calls[4 * s + 1], calls[4 * s + 2] as usize);
+        let fault = served.number;
+        if fault != 0 {
+            return Price::Refused(refusal_for(fault, (7 + seen.n + s) as u32));
+        }
+        let next = served.copies;
+        p = next;
+        s += 1;
+    }
+    Price::Cost(p.paid + owed(seen, p))
+}
