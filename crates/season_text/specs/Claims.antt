@@ -1,0 +1,27 @@
+-- What is claimed of every accepted text (proved in proofs/Season.antt). Paper 01: "The steps of an accepted text, with its closing,
+-- are such a list." Assumes nothing.
+use mathlib.Core.Path.{_≡_}
+use mathlib.Core.List.{List, [], _∷_, _++_}
+use Prim.Native.Nat.{ℕ, _≤_, _<_}
+use lib.ListN.{length, getD, take, map}
+use Rattle.landlord.specs.Calls.{Call, close, callOf, openingRefusal, refusal}
+use Rattle.cache_state.specs.declared.Cache.{Cache}
+use Rattle.cache_state.specs.View.{view}
+use Rattle.cache.specs.Chain.{Chain}
+use Rattle.season_tables.specs.Tables.{Sofar}
+use Rattle.season_text.specs.Answer.{closedSeason, leftOf, rightOf}
+
+-- the calls made of its steps, and one closing
+abbrev pub callsIn : Sofar → List Call
+callsIn v = map callOf (v .steps) ++ (close ∷ [])
+
+-- the opening and each of these calls is accepted
+pub record AllAccepted (v : Sofar) : Type 0 where
+  pub opening : openingRefusal (v .k) (v .catalog) ≡ 0
+  pub each : (i : ℕ) → i < length (callsIn v) → refusal (v .k) (v .catalog) (take i (callsIn v)) (getD (callsIn v) i close) ≡ 0
+
+-- The figures reported are those of the cache that any chain of these calls ends in, of which the season theorem speaks; and left
+-- is at most right.
+pub record Compared (v : Sofar) (cost : ℕ) : Type 0 where
+  pub figures : (numbers : List ℕ) (d : Cache) → Chain (v .k) (v .catalog) (callsIn v) numbers d → view d ≡ closedSeason v
+  pub bound : leftOf v ≤ rightOf v cost

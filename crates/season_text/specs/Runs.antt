@@ -1,0 +1,53 @@
+-- What the inner functions ask and give. Assumes nothing.
+use mathlib.Core.Path.{_≡_}
+use mathlib.Core.List.{List}
+use Prim.Native.Nat.{ℕ, _+_, _*_, _-_, _≤_}
+use lib.ListN.{length}
+use Rattle.landlord.specs.Figures.{totalCost}
+use Rattle.cache_state.specs.declared.Cache.{Cache}
+use Rattle.cache_state.specs.View.{view}
+use Rattle.cache_state.specs.Valid.{Valid}
+use Rattle.cache_state.specs.Becomes.{Becomes}
+use Rattle.report.specs.declared.Rival.{Rival}
+use Rattle.report.specs.declared.Rival.the-variants.{Priced as Against}
+use Rattle.report.specs.declared.Written.{Written}
+use Rattle.report.specs.Report.{Put}
+use Rattle.season_tables.specs.declared.Seen.{Seen}
+use Rattle.season_tables.specs.Tables.{Sofar}
+use Rattle.season_tables.specs.Holds.{Holds}
+use Rattle.season_tables.specs.Sound.{Sound}
+use Rattle.season_text.specs.Answer.{closedSeason, reportAgainst}
+
+-- the slice has a place for the closing behind the steps
+pub record Closable (x : Seen) (calls : List ℕ) : Type 0 where
+  pub few : x .steps ≤ 10922
+  pub places : length calls ≡ 43692
+
+-- whatever accepted text the slices hold, this is the cache of its closed season
+abbrev pub Closes : Seen → List ℕ → Cache → Type 0
+Closes x calls r = (acts : List ℕ) (v : Sofar) → Holds x calls acts v → Sound v → Becomes (closedSeason v) r
+
+-- the figures of a rival fit their words
+pub record Comparable (k h cost : ℕ) (c : Cache) : Type 0 where
+  pub valid : Valid c
+  pub capacity : k ≤ 4096
+  pub low : 1 ≤ h
+  pub high : h ≤ k
+  pub small : cost ≤ 1000000000000
+
+-- both sides of the bound, from the cache's own figures
+abbrev pub against : ℕ → ℕ → ℕ → Cache → Rival
+against k h cost c = Against cost ((k - h + 1) * (c .loadcost + c .writecost)) (k * cost)
+
+-- what the report asks: an accepted text in the slices, and a plan's cost that fits
+pub record Reportable (x : Seen) (calls acts : List ℕ) (cost : ℕ) : Type 0 where
+  pub text : Sofar
+  pub holds : Holds x calls acts text
+  pub sound : Sound text
+  pub closable : Closable x calls
+  pub small : cost ≤ 1000000000000
+
+-- and this is its report, on the page
+abbrev pub Reports : Seen → List ℕ → ℕ → List ℕ → Written → List ℕ → Type 0
+Reports x calls cost before r after =
+    (acts : List ℕ) (v : Sofar) → Holds x calls acts v → Sound v → Put (reportAgainst v cost) before r after

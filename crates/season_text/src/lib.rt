@@ -1,0 +1,97 @@
+// A season's text to its report: the tables are read, the plan is priced, the season is run and closed, and the report is written.
+ghost use mathlib.Core.Path.{_≡_};
+ghost use Prim.Native.Nat.{_≤_};
+ghost use lib.ListN.{length};
+ghost use Rattle.season_text.specs.Answer.{Answered, Printed};
+ghost use Rattle.season_text.specs.Runs.{Closable, Closes, Comparable, against, Reportable, Reports};
+use cache_state::Cache;
+use landlord::Refusal;
+use report::Rival;
+use report::Written;
+use season_plan::Price;
+use season_tables::Seen;
+use season_tables::Verdict;
+
+// Runs the steps of an accepted text and the closing, as calls on a new cache.
+fn close_season(seen: Seen, calls: &mut [u32]) -> Cache
+    requires { ⌜ Closable seen (now calls) ⌝ }
+    ensures { λ r. ⌜ Closes seen (now (calls .entry)) r ⌝ }
+{
+    let steps = seen.steps;
+    let end = 4 * steps;
+    // The closing stands behind the steps, as a call's four numbers of which the first is not 0.
+    calls[end] = 1;
+    let blocks = seen.blocks;
+    let load = seen.load;
+    let write = seen.write;
+    // Every call is accepted, so no answer is kept.
+    let mut answers = [0u32; 1];
+    let reply = cache::run(
+        seen.k,
+        seen.n,
+        blocks,
+        load,
+        write,
+        &calls[..end + 4],
+        &mut answers,
+    );
+    reply.cache
+}
+
+// Both sides of the bound, for a plan of `h` blocks that costs so much.
+fn compared(k: u32, h: u32, cost: u64, c: Cache) -> Rival
+    requires { ⌜ Comparable k h cost c ⌝ }
+    ensures { λ r. ⌜ r ≡ against k h cost c ⌝ }
+{
+    let total = c.loadcost + c.writecost;
+    let factor = (k - h + 1) as u64;
+    Rival::Priced {
+        cost: cost,
+        left: factor * total,
+        right: (k as u64) * cost,
+    }
+}
+
+// The report of an accepted text whose plan costs so much.
+fn report_season(seen: Seen, cost: u64, calls: &mut [u32], acts: &[u32], page: &mut [u8]) -> Written
+    requires { ⌜ Reportable seen (now calls) (now acts) cost ⌝ }
+    ensures { λ r. ⌜ Reports seen (now (calls .entry)) cost (now (page .entry)) r (now (page .exit)) ⌝ }
+{
+    let c = close_season(seen, calls);
+    report::report(c, compared(seen.k, seen.h, cost, c), page)
+}
+
+// The answer to a text: refused, with every byte of the page as before; or accepted, with its report at the start of the page.
+pub fn answer(text: &[u8], page: &mut [u8]) -> Written
+    ensures { λ r. ⌜ Answered (now (text .entry)) (now (page .entry)) r (now (page .exit)) ⌝ }
+{
+    if 65536 < text.len() {
+        return Written::Refused(Refusal::InputTooLong { line: 0 });
+    }
+    let mut calls = [0u32; 43692];
+    let mut acts = [0u32; 32769];
+    let scanned = season_scan::scan(text, &mut calls, &mut acts);
+    let verdict = scanned.verdict;
+    let seen = scanned.seen;
+    match verdict {
+        Verdict::Refused(r) => Written::Refused(r),
+        Verdict::Taken => match season_plan::price_plan(seen, &calls, &acts) {
+            Price::Refused(r) => Written::Refused(r),
+            Price::Cost(cost) => report_season(seen, cost, &mut calls, &acts, page),
+        },
+    }
+}
+
+// What is printed for a text, at the start of the page: its report, or the refusal's number and line. Answers how many bytes.
+pub fn output(text: &[u8], page: &mut [u8]) -> usize
+    ensures { λ r. ⌜ Printed (now (text .entry)) (now (page .entry)) r (now (page .exit)) ⌝ }
+    ensures { λ r. ⌜ r ≤ length (now (page .exit)) ⌝ }
+{
+    match answer(text, page) {
+        Written::Text(n) => n,
+        Written::Refused(r) => match report::refused(r, page) {
+            Written::Text(n) => n,
+            Written::Refused(_) => 0,
+        },
+    }
+}
