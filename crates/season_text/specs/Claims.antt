@@ -1,9 +1,9 @@
 -- What is claimed of every accepted text (proved in proofs/Season.antt). Paper 01: "The steps of an accepted text, with its closing,
 -- are such a list." Assumes nothing.
 use mathlib.Core.Path.{_≡_}
-use mathlib.Core.List.{List, [], _∷_, _++_}
+use mathlib.Core.List.{List, [], _∷_, _++_, map}
 use Prim.Native.Nat.{ℕ, _≤_, _<_}
-use lib.ListN.{length, getD, take, map}
+use lib.ListN.{length, getD, take}
 use Rattle.landlord.specs.Calls.{Call, close, callOf, openingRefusal, refusal}
 use Rattle.cache_state.specs.declared.Cache.{Cache}
 use Rattle.cache_state.specs.View.{view}

@@ -40,8 +40,9 @@ abbrev pub against : ℕ → ℕ → ℕ → Cache → Rival
 against k h cost c = Against cost ((k - h + 1) * (c .loadcost + c .writecost)) (k * cost)
 
 -- what the report asks: an accepted text in the slices, and a plan's cost that fits
-pub record Reportable (x : Seen) (calls acts : List ℕ) (cost : ℕ) : Type 0 where
+pub record Reportable (x : Seen) (calls : List ℕ) (cost : ℕ) : Type 0 where
   pub text : Sofar
+  pub acts : List ℕ
   pub holds : Holds x calls acts text
   pub sound : Sound text
   pub closable : Closable x calls

@@ -54,7 +54,7 @@ fn compared(k: u32, h: u32, cost: u64, c: Cache) -> Rival
 
 // The report of an accepted text whose plan costs so much.
 fn report_season(seen: Seen, cost: u64, calls: &mut [u32], acts: &[u32], page: &mut [u8]) -> Written
-    requires { ⌜ Reportable seen (now calls) (now acts) cost ⌝ }
+    requires { ⌜ Reportable seen (now calls) cost ⌝ }
     ensures { λ r. ⌜ Reports seen (now (calls .entry)) cost (now (page .entry)) r (now (page .exit)) ⌝ }
 {
     let c = close_season(seen, calls);
@@ -77,7 +77,7 @@ pub fn answer(text: &[u8], page: &mut [u8]) -> Written
         Verdict::Refused(r) => Written::Refused(r),
         Verdict::Taken => match season_plan::price_plan(seen, &calls, &acts) {
             Price::Refused(r) => Written::Refused(r),
-            Price::Cost(cost) => report_season(seen, cost, &mut calls, &acts, page),
+            Price::Cost(cost) => report_season(seen, cost, &mut calls, page),
         },
     }
 }
