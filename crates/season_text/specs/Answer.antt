@@ -12,7 +12,6 @@ use Rattle.landlord.specs.Slot.{writeFirst}
 use Rattle.landlord.specs.Figures.{Standing, season, totalCost}
 use Rattle.landlord.specs.Plan.{Priced, costs, fault}
 use Rattle.decimal.specs.Decimal.{fits, wroteOf, pageOf}
-use Rattle.report.specs.declared.Rival.{Rival}
 use Rattle.report.specs.declared.Rival.the-variants.{Priced as Against}
 use Rattle.report.specs.declared.Written.{Written}
 use Rattle.report.specs.declared.Written.the-variants.{Refused}

@@ -53,7 +53,7 @@ fn compared(k: u32, h: u32, cost: u64, c: Cache) -> Rival
 }
 
 // The report of an accepted text whose plan costs so much.
-fn report_season(seen: Seen, cost: u64, calls: &mut [u32], acts: &[u32], page: &mut [u8]) -> Written
+fn report_season(seen: Seen, cost: u64, calls: &mut [u32], page: &mut [u8]) -> Written
     requires { ⌜ Reportable seen (now calls) cost ⌝ }
     ensures { λ r. ⌜ Reports seen (now (calls .entry)) cost (now (page .entry)) r (now (page .exit)) ⌝ }
 {

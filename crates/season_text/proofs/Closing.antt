@@ -1,0 +1,77 @@
+-- Laws of a text's steps as the numbers of calls, with the closing stored behind them: they stand for the text's calls, so the cache
+-- that runs them is that of the closed season. Assumes nothing.
+use mathlib.Core.Path.{_≡_, refl, sym, ap, _∙_}
+use mathlib.Core.List.{List, [], _∷_, _++_, map}
+use Prim.Native.Nat.{ℕ, zero, suc, _+_, _*_, _/_, _≤_, _<_}
+use native.Mathlib.Omega.{arith}
+use lib.ListN.{length, getD, take, drop, set, length-drop}
+use lib.Seq.{length-take-le, take-append-add, set-split}
+use Rattle.landlord.specs.declared.Step.{Step}
+use Rattle.landlord.specs.Types.{stepKind, stepItem, stepMinutes}
+use Rattle.landlord.specs.Fold.{tabFrom}
+use Rattle.landlord.specs.Calls.{Call, close, callOf}
+use Rattle.landlord.proofs.Folds.{tab-of}
+use Rattle.landlord.proofs.Calls.{opening-accepts}
+use Rattle.cache.specs.declared.Reply.{Reply}
+use Rattle.cache.specs.Contract.{catalogFrom}
+use Rattle.cache.specs.Run.{callFrom, callAt, callsOf, Ran}
+use Rattle.cache.proofs.Runs.{count-is, call-is}
+use Rattle.season_tables.specs.declared.Seen.{Seen}
+use Rattle.season_tables.specs.Holds.{callNumbers}
+use Rattle.season_text.specs.Claims.{callsIn}
+use Rattle.season_text.specs.Runs.{Closable, Closes}
+use Rattle.season_text.proofs.Season.{text-stands}
+
+-- four numbers are one call more
+calls-more : (a b c d : ℕ) (xs : List ℕ) → callsOf (a ∷ b ∷ c ∷ d ∷ xs) ≡ callFrom a b c d ∷ callsOf xs
+unfolding callsOf
+calls-more a b c d xs =
+    sym (tab-of (callFrom a b c d ∷ callsOf xs) (length all / 4) (callAt all) close (ap suc (count-is xs) ∙ (omega arith)) each)
+  where
+    all : List ℕ
+    all = a ∷ b ∷ c ∷ d ∷ xs
+
+    behind : (m n : ℕ) → m + 4 ≡ n → getD xs m 0 ≡ getD all n 0
+    behind m n e = ap (λ (j : ℕ). getD all j 0) (let z : suc (suc (suc (suc m))) ≡ n = omega arith in z)
+
+    each : (i : ℕ) → i < length all / 4 → getD (callFrom a b c d ∷ callsOf xs) i close ≡ callAt all i
+    each zero l = refl
+    each (suc i) l =
+        let at = 4 * i in
+        let at' = 4 * suc i in
+        call-is xs i (omega arith)
+        ∙ (λ z. callFrom (behind at at' (omega arith) z) (behind (at + 1) (at' + 1) (omega arith) z) (behind (at + 2) (at' + 2) (omega arith) z) (behind (at + 3) (at' + 3) (omega arith) z))
+
+-- the numbers of the steps, and behind them a 1 with three numbers more, are the steps as calls and one closing
+pub numbers-close : (steps : List Step) (more : List ℕ) → length more ≡ 3 → callsOf (callNumbers steps ++ (1 ∷ more)) ≡ map callOf steps ++ (close ∷ [])
+unfolding callsOf callNumbers tabFrom
+numbers-close [] more e = rw e
+numbers-close (s ∷ steps) more e =
+    calls-more 0 (stepKind s) (stepItem s) (stepMinutes s) (callNumbers steps ++ (1 ∷ more))
+    ∙ ap (λ (z : List Call). callOf s ∷ z) (numbers-close steps more e)
+
+-- what stands at the start of a list after a store: what stood before its place, the number stored, and three numbers more
+store-closes : (l : List ℕ) (n : ℕ) → n + 4 ≤ length l → take (n + 4) (set l n 1) ≡ take n l ++ (1 ∷ take 3 (drop (suc n) l))
+store-closes l n b =
+    let rest : List ℕ = 1 ∷ drop (suc n) l in
+    ap (take (n + 4)) (set-split l n 1 (omega arith))
+    ∙ ap (λ (m : ℕ). take (m + 4) (take n l ++ rest)) (sym (length-take-le n l (omega arith)))
+    ∙ take-append-add (take n l) rest 4
+
+-- whatever accepted text the slice holds, the run of it and of the closing behind it is that of the text's calls
+pub season-closes :
+    (x : Seen) (calls before after : List ℕ) (r : Reply) →
+    Closable x calls →
+    Ran (x .k) (catalogFrom (x .n) (x .blocks) (x .load) (x .write)) (callsOf (take (4 * x .steps + 4) (set calls (4 * x .steps) 1))) before after r →
+    Closes x calls (r .cache)
+season-closes x calls before after r c ran acts v h ok =
+    let end : ℕ = 4 * x .steps in
+    let room : end + 4 ≤ length calls = omega (arith, c .few, c .places) in
+    let more : List ℕ = take 3 (drop (suc end) calls) in
+    let three : length more ≡ 3 = length-take-le 3 (drop (suc end) calls) (omega (arith, length-drop (suc end) calls)) in
+    let same : callsOf (take (end + 4) (set calls end 1)) ≡ callsIn v =
+    ap callsOf (store-closes calls end room ∙ ap (λ (z : List ℕ). z ++ (1 ∷ more)) (h .stepsNoted)) ∙ numbers-close (v .steps) more three
+    in
+    let run : Ran (v .k) (v .catalog) (callsIn v) before after r = rw (h .k, h .catalog, same) at ran in
+    let so = run .season (run .number ∙ opening-accepts (v .k) (v .catalog) (ok .capacity) (ok .catalog)) .0 in
+    record { stands = text-stands v ok (run .numbers) (r .cache) so; fields = so .valid .fields }

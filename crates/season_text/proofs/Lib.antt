@@ -1,0 +1,3 @@
+-- The laws of `season_text`. Assumes nothing.
+pub mod Season
+pub mod Closing

@@ -1,0 +1,99 @@
+-- An accepted text as a list of calls: each is accepted, the log is the text's steps and the closing, and so every cache that such
+-- calls lead to stands where the rule stands over the closed season, within the wear bound of the text's plan. Assumes nothing.
+use mathlib.Core.Path.{_≡_, refl, ap, subst, _∙_}
+use mathlib.Core.Bool.{true, false}
+use mathlib.Core.List.{List, [], _∷_, _++_, map}
+use Prim.Native.Nat.{ℕ, zero, suc, _+_, _-_, _≤_, _<_}
+use native.Mathlib.Omega.{arith}
+use native.Mathlib.Nat.{mul-comm}
+use native.Mathlib.Decide.{ℕ-discrete}
+use lib.ListN.{length, getD, take, length-append, length-map}
+use lib.Seq.{length-take-le, getD-take, getD-at}
+use Rattle.landlord.specs.declared.Step.{Step}
+use Rattle.landlord.specs.declared.Step.the-variants.{Flush}
+use Rattle.landlord.specs.Fold.{fold}
+use Rattle.landlord.specs.Catalog.{Catalog}
+use Rattle.landlord.specs.Slot.{writeFirst}
+use Rattle.landlord.specs.Figures.{totalCost}
+use Rattle.landlord.specs.Plan.{costs}
+use Rattle.landlord.specs.Calls.{Call, close, callOf, Log, noLog, refusalAt, refusalIn, refusal, joins, logOf, ruleOver}
+use Rattle.landlord.specs.Claims.{Allowed}
+use Rattle.landlord.proofs.Folds.{fold-append}
+use Rattle.landlord.proofs.Slots.{write-first-ok}
+use Rattle.landlord.proofs.Calls.{allowed-logged, opening-accepts}
+use Rattle.landlord.proofs.Wear.{wear-bound}
+use Rattle.cache_state.specs.declared.Cache.{Cache}
+use Rattle.cache_state.specs.View.{view}
+use Rattle.cache.specs.Chain.{Season}
+use Rattle.cache.proofs.Season.{season-by-value}
+use Rattle.season_tables.specs.Tables.{Sofar}
+use Rattle.season_tables.specs.Sound.{Sound}
+use Rattle.season_plan.specs.Plans.{planOf, priceOf}
+use Rattle.season_text.specs.Answer.{closedSeason, rightOf}
+use Rattle.season_text.specs.Claims.{callsIn, AllAccepted, Compared}
+
+-- call i is step i
+call-at-step : (steps : List Step) (i : ℕ) → i < length steps → getD (map callOf steps ++ (close ∷ [])) i close ≡ callOf (getD steps i Flush)
+call-at-step [] i l = absurd (let z : i < 0 = l in omega arith)
+call-at-step (s ∷ steps) zero l = refl
+call-at-step (s ∷ steps) (suc i) l = call-at-step steps i (omega arith)
+
+-- the calls before call i are the steps before step i
+calls-before : (steps : List Step) (i : ℕ) → i ≤ length steps → take i (map callOf steps ++ (close ∷ [])) ≡ map callOf (take i steps)
+calls-before steps zero l = refl
+calls-before [] (suc i) l = absurd (let z : suc i ≤ 0 = l in omega arith)
+calls-before (s ∷ steps) (suc i) l = ap (λ (z : List Call). callOf s ∷ z) (calls-before steps i (omega arith))
+
+-- the first of the steps that the table lets through
+allowed-first : (k : ℕ) (cat : Catalog) (steps : List Step) (i : ℕ) → i ≤ length steps → Allowed k cat steps → Allowed k cat (take i steps)
+allowed-first k cat steps i l a = record { each = λ j b. at j (omega (arith, length-take-le i steps l)) }
+  where
+    at : (j : ℕ) → j < i → refusalAt k cat j false (callOf (getD (take i steps) j Flush)) ≡ 0
+    at j b = rw (getD-take i steps j Flush b) (a .each j (omega arith))
+
+module _ (v : Sofar) (ok : Sound v) where
+  -- the log before call i: the steps before it, not closed
+  log-before : (i : ℕ) → i ≤ length (v .steps) → logOf (v .k) (v .catalog) (take i (callsIn v)) ≡ record { steps = take i (v .steps); closed = false }
+  log-before i l =
+      ap (λ (z : List Call). logOf (v .k) (v .catalog) z) (calls-before (v .steps) i l)
+      ∙ allowed-logged (v .k) (v .catalog) (take i (v .steps)) (allowed-first (v .k) (v .catalog) (v .steps) i l (ok .allowed))
+
+  -- the log of all the calls: the steps, closed
+  pub text-log : logOf (v .k) (v .catalog) (callsIn v) ≡ record { steps = v .steps; closed = true }
+  unfolding fold joins refusalAt
+  text-log =
+      fold-append (joins (v .k) (v .catalog)) noLog (map callOf (v .steps)) (close ∷ [])
+      ∙ ap (λ (l : Log). joins (v .k) (v .catalog) l close) (allowed-logged (v .k) (v .catalog) (v .steps) (ok .allowed))
+
+  -- where the season theorem says that a cache stands after these calls
+  pub text-stands : (numbers : List ℕ) (d : Cache) → Season (v .k) (v .catalog) (callsIn v) numbers d → view d ≡ closedSeason v
+  unfolding ruleOver
+  text-stands numbers d so = so .stands ∙ ap (ruleOver writeFirst (v .k) (v .catalog)) text-log
+
+  -- "The steps of an accepted text, with its closing, are such a list."
+  pub calls-accepted : AllAccepted v
+  calls-accepted =
+      record {
+        opening = opening-accepts (v .k) (v .catalog) (ok .capacity) (ok .catalog);
+        each = λ i l. at i (ℕ-discrete i (length (v .steps))) (omega (arith, length-append (map callOf (v .steps)) (close ∷ []), length-map (v .steps) callOf));
+      }
+    where
+      asked : (i : ℕ) (call : Call) → i ≤ length (v .steps) → refusal (v .k) (v .catalog) (take i (callsIn v)) call ≡ refusalAt (v .k) (v .catalog) i false call
+      asked i call l =
+          ap (λ (z : Log). refusalIn (v .k) (v .catalog) z call) (log-before i l)
+          ∙ ap (λ (t : ℕ). refusalAt (v .k) (v .catalog) t false call) (length-take-le i (v .steps) l)
+
+      at : (i : ℕ) → Dec (i ≡ length (v .steps)) → i ≤ length (v .steps) → refusal (v .k) (v .catalog) (take i (callsIn v)) (getD (callsIn v) i close) ≡ 0
+      at i (yes e) l = unfold refusalAt in rw (asked i, getD-at (map callOf (v .steps)) close [] close i (length-map (v .steps) callOf ∙ (omega arith)))
+      at i (no e) l =
+          let b : i < length (v .steps) = omega arith in
+          rw (asked i, call-at-step (v .steps) i b) (ok .allowed .each i b)
+
+-- the figures reported are those of every such cache, and left is at most right
+pub text-compared : (v : Sofar) (cost : ℕ) → Sound v → priceOf v ≡ costs cost → Compared v cost
+text-compared v cost ok e =
+    record {
+      figures = λ numbers d chain. text-stands v ok numbers d (season-by-value (v .k) (v .catalog) (callsIn v) numbers d chain);
+      bound = subst (λ (n : ℕ). n ≤ rightOf v cost) (mul-comm (totalCost (closedSeason v .figures)) (v .k - v .h + 1))
+          (wear-bound writeFirst write-first-ok (v .k) (v .catalog) (ok .catalog) (v .steps) (ok .allowed) (v .h) (ok .rivalLow) (ok .rivalHigh) (planOf (v .acts)) cost e);
+    }

@@ -1,0 +1,63 @@
+-- `season_text::close_season` meets its contract: the numbers run are those of the text's calls. Assumes nothing.
+use mathlib.Core.Path.{sym}
+use Prim.Native.Nat.{_+_, _*_}
+use native.Mathlib.Omega.{arith}
+use lib.ListN.{set, length-set}
+use lib.Seq.{length-take-le}
+use borrow.Author.Needs.{needs}
+use Rattle.season_text.proofs.Closing.{season-closes}
+use Rattle.season_text.proofs.close_season.Statement.{statement}
+use Rattle.season_text.proofs.close_season.Tie as tie
+use Rattle.season_text.proofs.close_season.Reads as reads
+use Rattle.season_text.proofs.close_season.Lts as lts
+use Rattle.cache.proofs.run.Reads as run-reads
+
+mul-end : tie.Need-mul-end
+mul-end c = search needs
+
+mul-calls : tie.Need-mul-calls
+mul-calls c = search needs
+
+slice-write-calls : tie.Need-slice-write-calls
+slice-write-calls c = search needs
+
+add-run : tie.Need-add-run
+add-run c = search needs
+
+slice-reshare-prefix-run : tie.Need-slice-reshare-prefix-run
+slice-reshare-prefix-run c = simp length-set (omega arith)
+
+slice-aggregate-run : tie.Need-slice-aggregate-run
+slice-aggregate-run c =
+    let a = c .before .before .before .before .before .args in
+    let end = 4 * a .seen .steps in
+    sym (length-take-le (end + 4) (set (a .calls .now) end 1) (simp length-set (omega arith)))
+
+slice-aggregate-run-2 : tie.Need-slice-aggregate-run-2
+slice-aggregate-run-2 c = search needs
+
+run-requires : tie.Need-run-requires
+run-requires c κs = search needs
+
+same-length : tie.Need-same-length
+same-length c = search needs
+
+returns : tie.Need-returns
+returns c =
+    let s = c .before .before .before .before .before .before .before .before .before in
+    season-closes (s .args .seen) (s .args .calls .now) _ _ (c .before .before .run .result) (s .pre) (c .before .before .run .ensures)
+
+pub close-season-spec : {M : Type 1} → statement M
+close-season-spec =
+    tie.close
+    (tie.spec
+    mul-end
+    mul-calls
+    slice-write-calls
+    add-run
+    slice-reshare-prefix-run
+    slice-aggregate-run
+    slice-aggregate-run-2
+    run-requires
+    same-length
+    returns)
