@@ -2,3 +2,4 @@ pub mod Lent
 pub mod Chain
 pub mod Catalogs
 pub mod Run
+pub mod Reports

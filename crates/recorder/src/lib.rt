@@ -9,9 +9,12 @@ ghost use Rattle.recorder.specs.Lent.{ValidBytes, CalledLent, OpenedLent
 ghost use Rattle.recorder.specs.Run.{RanLentCalls, RanLent};
 ghost use Rattle.recorder.specs.Catalogs.{BlocksIn, CostsIn, LengthsAsked};
 ghost use Rattle.recorder.specs.Lent.{Readable, Settled};
+ghost use Rattle.recorder.specs.Reports.{ReportedLent};
 ghost use Rattle.validity.specs.Decided.{Decided};
 ghost use Rattle.layout.specs.Layout.{stateBytes};
 use cache::Reply;
+use report::Rival;
+use report::Written;
 
 // The bytes of a state.
 const STATE_BYTES: usize = 8792;
@@ -138,6 +141,23 @@ pub extern "C" fn recorder_close(state: &mut [u8]) -> u32
         return 17;
     }
     settle(state, cache::shut(layout::decode(state)))
+}
+
+// Writes the report of the state on the page, and how long it is in the length's place.
+#[no_mangle]
+pub extern "C" fn recorder_report(state: &[u8], page: &mut [u8], length: &mut usize) -> u32
+    ensures { λ r. ⌜ ReportedLent (now (state .entry)) (now (page .entry)) (now (length .entry)) r (now (page .exit)) (now (length .exit)) ⌝ }
+{
+    if !readable(state) {
+        return 17;
+    }
+    match report::report(layout::decode(state), Rival::Absent, page) {
+        Written::Text(n) => {
+            *length = n;
+            0
+        }
+        Written::Refused(r) => r.number(),
+    }
 }
 
 // A call from four numbers: 0 and then a step's kind, item and minutes; or another number, and it is the closing.

@@ -2,6 +2,7 @@
 ghost use mathlib.Core.Path.{_≡_};
 ghost use Rattle.season_tables.specs.Tables.{readingOf};
 ghost use Rattle.season_tables.specs.Holds.{Leads, Roomy, Scannable};
+ghost use Rattle.season_scan.specs.Few.{Few};
 use landlord::Refusal;
 use season_lines::Field;
 use season_tables::Scanned;
@@ -11,6 +12,7 @@ use season_tables::Verdict;
 pub fn scan(s: &[u8], calls: &mut [u32], acts: &mut [u32]) -> Scanned
     requires { ⌜ Scannable (now s) (now calls) (now acts) ⌝ }
     ensures { λ r. ⌜ Leads (readingOf (now (s .entry))) r (now (calls .exit)) (now (acts .exit)) ⌝ }
+    ensures { λ r. ⌜ Few (readingOf (now (s .entry))) r ⌝ }
     ensures { λ _. ⌜ Roomy (now (calls .exit)) (now (acts .exit)) ⌝ }
 {
     let mut seen = season_tables::at_start();
