@@ -1,0 +1,3 @@
+-- The laws of fields and lines, and the proofs of the functions. Assumes nothing.
+pub mod Laws
+pub mod Pieces
