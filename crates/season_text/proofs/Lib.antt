@@ -1,3 +1,5 @@
 -- The laws of `season_text`. Assumes nothing.
 pub mod Season
 pub mod Closing
+pub mod Answers
+pub mod Prints

@@ -22,10 +22,14 @@ use Rattle.landlord.proofs.Folds.{fold-append}
 use Rattle.landlord.proofs.Slots.{write-first-ok}
 use Rattle.landlord.proofs.Calls.{allowed-logged, opening-accepts}
 use Rattle.landlord.proofs.Wear.{wear-bound}
+use Rattle.landlord.specs.Valid.{StandingOk}
+use Rattle.landlord.proofs.Valid.{ok-over}
 use Rattle.cache_state.specs.declared.Cache.{Cache}
 use Rattle.cache_state.specs.View.{view}
+use Rattle.cache_state.specs.Valid.{Valid}
+use Rattle.cache_state.specs.Becomes.{Becomes}
 use Rattle.cache.specs.Chain.{Season}
-use Rattle.cache.proofs.Season.{season-by-value}
+use Rattle.cache.proofs.Season.{season-by-value, becomes-valid}
 use Rattle.season_tables.specs.Tables.{Sofar}
 use Rattle.season_tables.specs.Sound.{Sound}
 use Rattle.season_plan.specs.Plans.{planOf, priceOf}
@@ -97,3 +101,11 @@ text-compared v cost ok e =
       bound = subst (λ (n : ℕ). n ≤ rightOf v cost) (mul-comm (totalCost (closedSeason v .figures)) (v .k - v .h + 1))
           (wear-bound writeFirst write-first-ok (v .k) (v .catalog) (ok .catalog) (v .steps) (ok .allowed) (v .h) (ok .rivalLow) (ok .rivalHigh) (planOf (v .acts)) cost e);
     }
+
+-- the cache of a closed season is valid
+pub text-valid : (v : Sofar) (r : Cache) → Sound v → Becomes (closedSeason v) r → Valid r
+unfolding ruleOver
+text-valid v r ok h =
+    becomes-valid (closedSeason v) r
+    (subst (λ (l : Log). StandingOk (ruleOver writeFirst (v .k) (v .catalog) l)) (text-log v ok) (ok-over writeFirst (v .k) (v .catalog) (callsIn v) write-first-ok (ok .capacity) (ok .catalog)))
+    h

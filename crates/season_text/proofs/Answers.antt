@@ -1,0 +1,215 @@
+-- Laws of `answer` and `output`: what each way through them says of the text. Assumes nothing.
+use mathlib.Core.Path.{_≡_, refl, sym, ap, subst, _∙_}
+use mathlib.Core.Bool.{Bool, true, false, cond}
+use mathlib.Core.List.{List}
+use Prim.Native.Nat.{ℕ, _+_, _*_, _-_, _≤_, _<_}
+use lib.ListN.{length}
+use lib.Dec.{leb}
+use native.Mathlib.Omega.{arith}
+use borrow.Author.Tests.{le-leb, lt-leb}
+use Rattle.landlord.specs.declared.Refusal.{Refusal}
+use Rattle.landlord.specs.declared.Refusal.the-variants.{InputTooLong, ShortBuffer}
+use Rattle.landlord.specs.Figures.{Standing, totalCost}
+use Rattle.landlord.specs.Plan.{Priced, costs, fault}
+use Rattle.cache_state.specs.declared.Cache.{Cache}
+use Rattle.cache_state.specs.View.{view}
+use Rattle.cache_state.specs.Becomes.{Becomes}
+use Rattle.decimal.specs.Decimal.{fits, wroteOf, pageOf}
+use Rattle.report.specs.declared.Rival.{Rival}
+use Rattle.report.specs.declared.Rival.the-variants.{Priced as Against}
+use Rattle.report.specs.declared.Written.{Written}
+use Rattle.report.specs.declared.Written.the-variants.{Text, Refused}
+use Rattle.report.specs.Report.{reportOf, refusalText, wrote, Put, Reported}
+use Rattle.season_tables.specs.declared.Seen.{Seen}
+use Rattle.season_tables.specs.declared.Scanned.{Scanned}
+use Rattle.season_tables.specs.declared.Verdict.{Verdict}
+use Rattle.season_tables.specs.declared.Verdict.the-variants.{Taken, Refused as Stopped}
+use Rattle.season_tables.specs.Tables.{Sofar, Led, on, stop, readingOf}
+use Rattle.season_tables.specs.Holds.{Holds, Leads, Roomy}
+use Rattle.season_tables.specs.Sound.{Sound}
+use Rattle.season_scan.specs.Few.{Few}
+use Rattle.season_plan.specs.declared.Price.{Price}
+use Rattle.season_plan.specs.declared.Price.the-variants.{Cost, Refused as Faulty}
+use Rattle.season_plan.specs.Plans.{priceOf, answerTo}
+use Rattle.season_plan.specs.Copies.{Priceable, PricedAs, PriceSmall}
+use Rattle.season_text.specs.Answer.{Outcome, refused, reported, closedSeason, leftOf, rightOf, reportAgainst, priced, judged, outcomeOf, answerOn, pageWith, Answered, printedOn, Printed}
+use Rattle.season_text.specs.Runs.{Closable, Closes, Comparable, Reportable, Reports, against}
+use Rattle.season_text.proofs.Season.{text-valid}
+use Rattle.season_tables.proofs.Sound.{accepted-sound}
+
+-- an accepted text in the slices
+pub record Reads (s : List ℕ) (x : Seen) (calls acts : List ℕ) : Type 0 where
+  pub text : Sofar
+  pub reads : readingOf s ≡ on text
+  pub holds : Holds x calls acts text
+  pub sound : Sound text
+  pub fewSteps : x .steps ≤ 10922
+  pub fewActs : x .acts ≤ 10922
+  pub roomy : Roomy calls acts
+
+-- what a verdict or a price holds, told apart by its case
+abbrev stopOf : Verdict → Refusal
+stopOf Taken = InputTooLong 0
+stopOf (Stopped x) = x
+
+abbrev isStopped : Verdict → Type 0
+isStopped Taken = ⊥
+isStopped (Stopped x) = Unit {0}
+
+abbrev faultOf : Price → Refusal
+faultOf (Cost c) = InputTooLong 0
+faultOf (Faulty x) = x
+
+abbrev costOf : Price → ℕ
+costOf (Cost c) = c
+costOf (Faulty x) = 0
+
+abbrev isFaulty : Price → Type 0
+isFaulty (Cost c) = ⊥
+isFaulty (Faulty x) = Unit {0}
+
+not-taken : (x : Refusal) → Stopped x ≡ Taken → ⊥
+not-taken x e = subst isStopped e tt
+
+not-cost : (x : Refusal) (c : ℕ) → Faulty x ≡ Cost c → ⊥
+not-cost x c e = subst isFaulty e tt
+
+-- the scan took every line
+pub taken-reads :
+    (s : List ℕ) (r : Scanned) (calls acts : List ℕ) →
+    length s ≤ 65536 →
+    Leads (readingOf s) r calls acts →
+    Few (readingOf s) r →
+    Roomy calls acts →
+    r .verdict ≡ Taken →
+    Reads s (r .seen) calls acts
+taken-reads s r calls acts short leads few roomy e = go (readingOf s) refl leads few
+  where
+    go : (led : Led) → readingOf s ≡ led → Leads led r calls acts → Few led r → Reads s (r .seen) calls acts
+    go (on v) is l f =
+        record {
+          text = v;
+          reads = is;
+          holds = l .1;
+          sound = accepted-sound s v short is;
+          fewSteps = f .0;
+          fewActs = f .1;
+          roomy = roomy;
+        }
+    go (stop x) is l f = absurd (not-taken x (sym l ∙ e))
+
+pub priceable : (s : List ℕ) (x : Seen) (calls acts : List ℕ) → Reads s x calls acts → Priceable x calls acts
+priceable s x calls acts r =
+    record {
+      text = r .text;
+      holds = r .holds;
+      sound = r .sound;
+      fewSteps = r .fewSteps;
+      fewActs = r .fewActs;
+      forSteps = r .roomy .forSteps;
+      forActs = r .roomy .forActs;
+    }
+
+pub reportable : (s : List ℕ) (x : Seen) (calls acts : List ℕ) (cost : ℕ) → Reads s x calls acts → cost ≤ 1000000000000 → Reportable x calls cost
+reportable s x calls acts cost r small =
+    record {
+      text = r .text;
+      acts = acts;
+      holds = r .holds;
+      sound = r .sound;
+      closable = record { few = r .fewSteps; places = r .roomy .forSteps };
+      small = small;
+    }
+
+-- the answer follows from the outcome
+answers : (s page after : List ℕ) (r : Written) (o : Outcome) → outcomeOf s ≡ o → r ≡ answerOn o page → after ≡ pageWith o page → Answered s page r after
+answers s page after r o is e p =
+    record { answer = e ∙ ap (λ (z : Outcome). answerOn z page) (sym is); page = p ∙ ap (λ (z : Outcome). pageWith z page) (sym is) }
+
+-- "16 first"
+pub too-long : (s page : List ℕ) → 65536 < length s → Answered s page (Refused (InputTooLong 0)) page
+too-long s page l = answers s page page (Refused (InputTooLong 0)) (refused (InputTooLong 0)) (unfold outcomeOf in rw (lt-leb (length s) 65536 l)) refl refl
+
+short-outcome : (s : List ℕ) (led : Led) → length s ≤ 65536 → readingOf s ≡ led → outcomeOf s ≡ judged led
+unfolding outcomeOf
+short-outcome s led l e = rw (le-leb (length s) 65536 l) (ap judged e)
+
+-- the first faulty line decides
+pub line-refused :
+    (s page : List ℕ) (r : Scanned) (calls acts : List ℕ) (x : Refusal) →
+    length s ≤ 65536 →
+    Leads (readingOf s) r calls acts →
+    r .verdict ≡ Stopped x →
+    Answered s page (Refused x) page
+line-refused s page r calls acts x short leads e = go (readingOf s) refl leads
+  where
+    go : (led : Led) → readingOf s ≡ led → Leads led r calls acts → Answered s page (Refused x) page
+    go (on v) is l = absurd (not-taken x (sym e ∙ l .0))
+    go (stop y) is l =
+        answers s page page (Refused x) (refused y) (short-outcome s (stop y) short is) (ap (λ (z : Verdict). Refused (stopOf z)) (sym e ∙ l)) refl
+
+-- then the plan's first fault
+pub plan-refused :
+    (s page : List ℕ) (x : Seen) (calls acts : List ℕ) (y : Refusal) →
+    length s ≤ 65536 →
+    Reads s x calls acts →
+    PricedAs x calls acts (Faulty y) →
+    Answered s page (Refused y) page
+plan-refused s page x calls acts y short r h = go (priceOf (r .text)) refl (h (r .text) (r .holds) (r .sound))
+  where
+    go : (p : Priced) → priceOf (r .text) ≡ p → Faulty y ≡ answerTo (r .text) p → Answered s page (Refused y) page
+    go (costs c) is e = absurd (not-cost y c e)
+    go (fault f) is e =
+        answers s page page (Refused y) (priced (r .text) (fault f)) (short-outcome s (on (r .text)) short (r .reads) ∙ ap (priced (r .text)) is) (ap (λ (z : Price). Refused (faultOf z)) e) refl
+
+-- else the report
+pub season-reported :
+    (s before : List ℕ) (x : Seen) (calls acts : List ℕ) (cost : ℕ) (w : Written) (after : List ℕ) →
+    length s ≤ 65536 →
+    Reads s x calls acts →
+    PricedAs x calls acts (Cost cost) →
+    Reports x calls cost before w after →
+    Answered s before w after
+season-reported s before x calls acts cost w after short r h put = go (priceOf (r .text)) refl (h (r .text) (r .holds) (r .sound))
+  where
+    go : (p : Priced) → priceOf (r .text) ≡ p → Cost cost ≡ answerTo (r .text) p → Answered s before w after
+    go (costs c) is e =
+        let q : Put (reportAgainst (r .text) c) before w after = subst (λ (z : ℕ). Put (reportAgainst (r .text) z) before w after) (ap costOf e) (put acts (r .text) (r .holds) (r .sound)) in
+        answers s before after w (reported (reportAgainst (r .text) c)) (short-outcome s (on (r .text)) short (r .reads) ∙ ap (priced (r .text)) is) (q .answer) (q .page)
+    go (fault f) is e = absurd (not-cost _ cost (sym e))
+
+-- the report of the season's cache, with both sides of the bound, is the text's
+pub reports-season :
+    (x : Seen) (calls acts : List ℕ) (v : Sofar) (cost : ℕ) (c : Cache) (before : List ℕ) (w : Written) (after : List ℕ) →
+    Holds x calls acts v →
+    Becomes (closedSeason v) c →
+    Put (reportOf (view c) (against (x .k) (x .h) cost c)) before w after →
+    Put (reportAgainst v cost) before w after
+reports-season x calls acts v cost c before w after holds b put =
+    subst (λ (t : List ℕ). Put t before w after) (ap (λ (z : Standing). reportOf z (against (x .k) (x .h) cost c)) (b .stands) ∙ ap (reportOf (closedSeason v)) figures) put
+  where
+    total : c .loadcost + c .writecost ≡ totalCost (closedSeason v .figures)
+    total = ap (λ (z : Standing). totalCost (z .figures)) (b .stands)
+
+    figures : against (x .k) (x .h) cost c ≡ Against cost (leftOf v) (rightOf v cost)
+    figures =
+        ap (λ (k : ℕ). against k (x .h) cost c) (holds .k)
+        ∙ ap (λ (h : ℕ). against (v .k) h cost c) (holds .h)
+        ∙ ap (λ (z : ℕ). Against cost ((v .k - v .h + 1) * z) (v .k * cost)) total
+
+-- the cache of a closed season and a plan's cost can be compared
+pub comparable :
+    (x : Seen) (calls : List ℕ) (cost : ℕ) (c : Cache) →
+    Reportable x calls cost →
+    Closes x calls c →
+    Comparable (x .k) (x .h) cost c
+comparable x calls cost c r closes =
+    let h = r .holds in
+    let ok = r .sound in
+    record {
+      valid = text-valid (r .text) c ok (closes (r .acts) (r .text) h ok);
+      capacity = subst (λ (k : ℕ). k ≤ 4096) (sym (h .k)) (ok .capacity .high);
+      low = subst (λ (z : ℕ). 1 ≤ z) (sym (h .h)) (ok .rivalLow);
+      high = subst (λ (z : ℕ). z ≤ x .k) (sym (h .h)) (subst (λ (z : ℕ). r .text .h ≤ z) (sym (h .k)) (ok .rivalHigh));
+      small = r .small;
+    }
