@@ -1,8 +1,8 @@
 /*
  * recorder.h: the cache recorder, as the firmware calls it.
  *
- * Three functions over bytes that the caller lends: open a cache, take one step of the log, close the log. They are
- * compiled from proved code into a static library; link it with nothing else:
+ * Four functions over bytes that the caller lends: open a cache, take one step of the log, close the log, and write the
+ * report. They are compiled from proved code into a static library; link it with nothing else:
  *
  *     cc -Iinclude main.c librecorder.a
  *
@@ -11,7 +11,7 @@
  * state may be copied, moved, stored and read back byte for byte between calls. Calls on different states may run at the
  * same time; calls on one state may not, and nothing else may write it during a call.
  *
- * OVERLAP. The bytes of `state` must not overlap those of `catalog`.
+ * OVERLAP. The bytes of `state` must not overlap those of `catalog`, `page` or `length`, nor these each other.
  *
  * ANSWERS. Each call answers 0 (taken) or the number of a refusal. Refused, every lent byte is as it was before the call.
  * Any bytes, any numbers and any length may be handed in; a call never traps and always returns. A pointer must be good
@@ -35,6 +35,9 @@ extern "C" {
 /* The bytes of a state; a state of any other length is RECORDER_INVALID_STATE. */
 #define RECORDER_STATE_BYTES 8792
 
+/* The bytes of the longest report there can be, here or in the office: a page of this size is never too short. */
+#define RECORDER_REPORT_BYTES 7931
+
 /* The limits of the arguments. */
 #define RECORDER_MAX_K 4096         /* capacity, in blocks: 1 to 4,096 */
 #define RECORDER_MAX_ITEMS 256      /* items of a catalog: 0 to 256, numbered from 0 */
@@ -54,6 +57,7 @@ enum recorder_answer {
     RECORDER_ITEM_TOO_LARGE = 7, /* 'too bulky': the item has more than k blocks */
     RECORDER_LOG_FULL = 8,       /* 'log full': 1,000,000 steps are already taken */
     RECORDER_CLOSED = 9,         /* 'closed': a step or a close on a closed cache */
+    RECORDER_SHORT_PAGE = 15,    /* 'short page': the page is shorter than the report */
     RECORDER_INVALID_STATE = 17  /* 'foul locker': a state of the wrong length, or damaged */
 };
 
@@ -113,12 +117,34 @@ uint32_t recorder_step(uint8_t *state, size_t state_len, uint32_t kind, uint32_t
 uint32_t recorder_close(uint8_t *state, size_t state_len);
 
 /*
+ * Writes the report of a state, open or closed, at the start of the page, as text without a zero byte behind it, and its
+ * length in bytes to *length. Bytes of the page past the text keep their contents. The state is only read.
+ *
+ * The report has a line of names and a line for each item of the catalog (its number, tenths of an hour, loads,
+ * writebacks), a blank line, and a line of names and one of numbers for the totals. Numbers are decimal, split by single
+ * spaces; each line ends with a line feed:
+ *
+ *     sail tenths loads writebacks
+ *     0 15 1 1
+ *
+ *     hits loads loadcost drops dirtydrops writebacks writecost total
+ *     1 3 13 1 0 2 15 28
+ *
+ * Answers, the first that holds:
+ *     17  the state is invalid
+ *     15  the page is shorter than the report
+ *      0  written
+ * Refused, every byte of the page and *length are as before. `length` must point to a size_t, always.
+ */
+uint32_t recorder_report(const uint8_t *state, size_t state_len, uint8_t *page, size_t page_len, size_t *length);
+
+/*
  * WHAT THE STATE SAYS. Numbers are little-endian; docs/LAYOUT.md has every field with its allowed values. A run has 256
  * numbers, one for each item number; those past the catalog are 0. The bytes may be read at any time between calls. They
- * are to be written by the three calls only: a state that was changed otherwise may be refused (17), and if it is still
+ * are to be written by open, step and close only: a state that was changed otherwise may be refused (17), and if it is still
  * valid it is taken at its word.
  *
- * At each step and close the whole state is tested first, so a state that was damaged in storage and breaks the rule of
+ * At each step, close and report the whole state is tested first, so a state that was damaged in storage and breaks the rule of
  * validity is found at the next call, which changes nothing.
  */
 enum recorder_place {

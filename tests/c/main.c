@@ -1,5 +1,5 @@
 /*
- * The exported calls from C: the worked example, every refusal, damaged states, the marks of 256 items. It prints short lines
+ * The exported calls from C: the worked example, every refusal, damaged states, the marks of 256 items, reports. It prints short lines
  * that tests/c/run compares with expected.txt.
  *
  * Every call is made twice on copies of the state: at an odd address between guard bytes, and in a heap block of exactly
@@ -585,6 +585,65 @@ static void evictions(void)
     print_figures(&s);
 }
 
+/*
+ * A report into a heap block of exactly `page_len` bytes, so that valgrind sees a byte outside it. Prints the answer and, if it
+ * was written, the text; else page and length have to be as before. The bytes past the text have to be as before always.
+ */
+static void report(const char *what, const struct state *s, size_t state_len, size_t page_len)
+{
+    uint8_t *page = malloc(page_len != 0 ? page_len : 1);
+    uint8_t *state = block(s->bytes, state_len);
+    if (page == NULL)
+        abort();
+    memset(page, 0x7E, page_len);
+    size_t length = 12345;
+    uint32_t answer = recorder_report(state, state_len, page_len != 0 ? page : NULL, page_len, &length);
+    printf("%s: %u, length %zu\n", what, answer, length);
+    size_t written = answer == 0 ? length : 0;
+    if (answer != 0 && length != 12345)
+        fault("a refused report changed the length");
+    if (written > page_len)
+        fault("a report longer than its page");
+    else
+        fwrite(page, 1, written, stdout);
+    for (size_t i = written; i < page_len; i++)
+        if (page[i] != 0x7E) {
+            fault("a byte past the report was written");
+            break;
+        }
+    if (state_len != 0 && memcmp(state, s->bytes, state_len) != 0)
+        fault("a report changed the state");
+    free(state);
+    free(page);
+}
+
+static void reports(void)
+{
+    puts("reports");
+    struct state s, foul;
+    memset(&s, 0, sizeof s);
+    open_with(&s, 3, NULL, 0);
+    report("no items", &s, BYTES, RECORDER_REPORT_BYTES);
+    open_with(&s, 3, three, sizeof three);
+    step(&s, RECORDER_WRITE, 0, 90);
+    step(&s, RECORDER_READ, 1, 0);
+    step(&s, RECORDER_WRITE, 2, 45);
+    step(&s, RECORDER_READ, 0, 0);
+    report("open", &s, BYTES, RECORDER_REPORT_BYTES);
+    step(&s, RECORDER_FLUSH, 0, 0);
+    close_it(&s);
+    report("closed", &s, BYTES, RECORDER_REPORT_BYTES);
+    report("a page that just fits", &s, BYTES, 138);
+    report("a byte too short", &s, BYTES, 137);
+    report("no page", &s, BYTES, 0);
+    foul = s;
+    foul.bytes[RECORDER_AT_HITS]++;
+    report("a foul state", &foul, BYTES, RECORDER_REPORT_BYTES);
+    report("a foul state and no page", &foul, BYTES, 0);
+    report("a state too short", &s, BYTES - 1, RECORDER_REPORT_BYTES);
+    report("a state too long", &s, BYTES + 1, RECORDER_REPORT_BYTES);
+}
+
 int main(void)
 {
     example();
@@ -593,6 +652,7 @@ int main(void)
     states();
     marks();
     evictions();
+    reports();
     printf("faults: %d\n", faults);
     return faults != 0;
 }
