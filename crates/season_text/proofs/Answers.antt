@@ -6,6 +6,7 @@ use Prim.Native.Nat.{ℕ, _+_, _*_, _-_, _≤_, _<_}
 use lib.ListN.{length}
 use lib.Dec.{leb}
 use native.Mathlib.Omega.{arith}
+use native.Mathlib.Nat.{mul-le-mul}
 use borrow.Author.Tests.{le-leb, lt-leb}
 use Rattle.landlord.specs.declared.Refusal.{Refusal}
 use Rattle.landlord.specs.declared.Refusal.the-variants.{InputTooLong, ShortBuffer}
@@ -19,7 +20,7 @@ use Rattle.report.specs.declared.Rival.{Rival}
 use Rattle.report.specs.declared.Rival.the-variants.{Priced as Against}
 use Rattle.report.specs.declared.Written.{Written}
 use Rattle.report.specs.declared.Written.the-variants.{Text, Refused}
-use Rattle.report.specs.Report.{reportOf, refusalText, wrote, Put, Reported}
+use Rattle.report.specs.Report.{reportOf, Put, RivalFits, longest}
 use Rattle.season_tables.specs.declared.Seen.{Seen}
 use Rattle.season_tables.specs.declared.Scanned.{Scanned}
 use Rattle.season_tables.specs.declared.Verdict.{Verdict}
@@ -32,10 +33,11 @@ use Rattle.season_plan.specs.declared.Price.{Price}
 use Rattle.season_plan.specs.declared.Price.the-variants.{Cost, Refused as Faulty}
 use Rattle.season_plan.specs.Plans.{priceOf, answerTo}
 use Rattle.season_plan.specs.Copies.{Priceable, PricedAs, PriceSmall}
-use Rattle.season_text.specs.Answer.{Outcome, refused, reported, closedSeason, leftOf, rightOf, reportAgainst, priced, judged, outcomeOf, answerOn, pageWith, Answered, printedOn, Printed}
+use Rattle.season_text.specs.Answer.{Outcome, refused, reported, closedSeason, leftOf, rightOf, reportAgainst, priced, judged, outcomeOf, answerOn, pageWith, Answered, ReportFits}
 use Rattle.season_text.specs.Runs.{Closable, Closes, Comparable, Reportable, Reports, against}
 use Rattle.season_text.proofs.Season.{text-valid}
 use Rattle.season_tables.proofs.Sound.{accepted-sound}
+use Rattle.report.proofs.Longest.{no-longer}
 
 -- an accepted text in the slices
 pub record Reads (s : List ℕ) (x : Seen) (calls acts : List ℕ) : Type 0 where
@@ -121,14 +123,26 @@ reportable s x calls acts cost r small =
       small = small;
     }
 
--- the answer follows from the outcome
-answers : (s page after : List ℕ) (r : Written) (o : Outcome) → outcomeOf s ≡ o → r ≡ answerOn o page → after ≡ pageWith o page → Answered s page r after
-answers s page after r o is e p =
-    record { answer = e ∙ ap (λ (z : Outcome). answerOn z page) (sym is); page = p ∙ ap (λ (z : Outcome). pageWith z page) (sym is) }
+-- what `answer` ensures
+abbrev Tells : List ℕ → List ℕ → Written → List ℕ → Type 0
+Tells s page r after = Answered s page r after × ReportFits (outcomeOf s)
+
+-- it follows from the outcome
+answers :
+    (s page after : List ℕ) (r : Written) (o : Outcome) →
+    outcomeOf s ≡ o →
+    r ≡ answerOn o page →
+    after ≡ pageWith o page →
+    ReportFits o →
+    Tells s page r after
+answers s page after r o is e p f = (
+  record { answer = e ∙ ap (λ (z : Outcome). answerOn z page) (sym is); page = p ∙ ap (λ (z : Outcome). pageWith z page) (sym is) },
+  subst ReportFits (sym is) f,
+)
 
 -- "16 first"
-pub too-long : (s page : List ℕ) → 65536 < length s → Answered s page (Refused (InputTooLong 0)) page
-too-long s page l = answers s page page (Refused (InputTooLong 0)) (refused (InputTooLong 0)) (unfold outcomeOf in rw (lt-leb (length s) 65536 l)) refl refl
+pub too-long : (s page : List ℕ) → 65536 < length s → Tells s page (Refused (InputTooLong 0)) page
+too-long s page l = answers s page page (Refused (InputTooLong 0)) (refused (InputTooLong 0)) (unfold outcomeOf in rw (lt-leb (length s) 65536 l)) refl refl tt
 
 short-outcome : (s : List ℕ) (led : Led) → length s ≤ 65536 → readingOf s ≡ led → outcomeOf s ≡ judged led
 unfolding outcomeOf
@@ -140,13 +154,13 @@ pub line-refused :
     length s ≤ 65536 →
     Leads (readingOf s) r calls acts →
     r .verdict ≡ Stopped x →
-    Answered s page (Refused x) page
+    Tells s page (Refused x) page
 line-refused s page r calls acts x short leads e = go (readingOf s) refl leads
   where
-    go : (led : Led) → readingOf s ≡ led → Leads led r calls acts → Answered s page (Refused x) page
+    go : (led : Led) → readingOf s ≡ led → Leads led r calls acts → Tells s page (Refused x) page
     go (on v) is l = absurd (not-taken x (sym e ∙ l .0))
     go (stop y) is l =
-        answers s page page (Refused x) (refused y) (short-outcome s (stop y) short is) (ap (λ (z : Verdict). Refused (stopOf z)) (sym e ∙ l)) refl
+        answers s page page (Refused x) (refused y) (short-outcome s (stop y) short is) (ap (λ (z : Verdict). Refused (stopOf z)) (sym e ∙ l)) refl tt
 
 -- then the plan's first fault
 pub plan-refused :
@@ -154,13 +168,13 @@ pub plan-refused :
     length s ≤ 65536 →
     Reads s x calls acts →
     PricedAs x calls acts (Faulty y) →
-    Answered s page (Refused y) page
+    Tells s page (Refused y) page
 plan-refused s page x calls acts y short r h = go (priceOf (r .text)) refl (h (r .text) (r .holds) (r .sound))
   where
-    go : (p : Priced) → priceOf (r .text) ≡ p → Faulty y ≡ answerTo (r .text) p → Answered s page (Refused y) page
+    go : (p : Priced) → priceOf (r .text) ≡ p → Faulty y ≡ answerTo (r .text) p → Tells s page (Refused y) page
     go (costs c) is e = absurd (not-cost y c e)
     go (fault f) is e =
-        answers s page page (Refused y) (priced (r .text) (fault f)) (short-outcome s (on (r .text)) short (r .reads) ∙ ap (priced (r .text)) is) (ap (λ (z : Price). Refused (faultOf z)) e) refl
+        answers s page page (Refused y) (priced (r .text) (fault f)) (short-outcome s (on (r .text)) short (r .reads) ∙ ap (priced (r .text)) is) (ap (λ (z : Price). Refused (faultOf z)) e) refl tt
 
 -- else the report
 pub season-reported :
@@ -169,24 +183,24 @@ pub season-reported :
     Reads s x calls acts →
     PricedAs x calls acts (Cost cost) →
     Reports x calls cost before w after →
-    Answered s before w after
+    Tells s before w after
 season-reported s before x calls acts cost w after short r h put = go (priceOf (r .text)) refl (h (r .text) (r .holds) (r .sound))
   where
-    go : (p : Priced) → priceOf (r .text) ≡ p → Cost cost ≡ answerTo (r .text) p → Answered s before w after
+    go : (p : Priced) → priceOf (r .text) ≡ p → Cost cost ≡ answerTo (r .text) p → Tells s before w after
     go (costs c) is e =
-        let q : Put (reportAgainst (r .text) c) before w after = subst (λ (z : ℕ). Put (reportAgainst (r .text) z) before w after) (ap costOf e) (put acts (r .text) (r .holds) (r .sound)) in
-        answers s before after w (reported (reportAgainst (r .text) c)) (short-outcome s (on (r .text)) short (r .reads) ∙ ap (priced (r .text)) is) (q .answer) (q .page)
+        let q : Put (reportAgainst (r .text) c) before w after × (length (reportAgainst (r .text) c) ≤ longest) =
+        subst (λ (z : ℕ). Put (reportAgainst (r .text) z) before w after × (length (reportAgainst (r .text) z) ≤ longest)) (ap costOf e) (put acts (r .text) (r .holds) (r .sound)) in
+        answers s before after w (reported (reportAgainst (r .text) c)) (short-outcome s (on (r .text)) short (r .reads) ∙ ap (priced (r .text)) is) (q .0 .answer) (q .0 .page) (q .1)
     go (fault f) is e = absurd (not-cost _ cost (sym e))
 
 -- the report of the season's cache, with both sides of the bound, is the text's
-pub reports-season :
-    (x : Seen) (calls acts : List ℕ) (v : Sofar) (cost : ℕ) (c : Cache) (before : List ℕ) (w : Written) (after : List ℕ) →
+same-report :
+    (x : Seen) (calls acts : List ℕ) (v : Sofar) (cost : ℕ) (c : Cache) →
     Holds x calls acts v →
     Becomes (closedSeason v) c →
-    Put (reportOf (view c) (against (x .k) (x .h) cost c)) before w after →
-    Put (reportAgainst v cost) before w after
-reports-season x calls acts v cost c before w after holds b put =
-    subst (λ (t : List ℕ). Put t before w after) (ap (λ (z : Standing). reportOf z (against (x .k) (x .h) cost c)) (b .stands) ∙ ap (reportOf (closedSeason v)) figures) put
+    reportOf (view c) (against (x .k) (x .h) cost c) ≡ reportAgainst v cost
+same-report x calls acts v cost c holds b =
+    ap (λ (z : Standing). reportOf z (against (x .k) (x .h) cost c)) (b .stands) ∙ ap (reportOf (closedSeason v)) figures
   where
     total : c .loadcost + c .writecost ≡ totalCost (closedSeason v .figures)
     total = ap (λ (z : Standing). totalCost (z .figures)) (b .stands)
@@ -213,3 +227,27 @@ comparable x calls cost c r closes =
       high = subst (λ (z : ℕ). z ≤ x .k) (sym (h .h)) (subst (λ (z : ℕ). r .text .h ≤ z) (sym (h .k)) (ok .rivalHigh));
       small = r .small;
     }
+
+-- a total, and so each side of the bound, fits its word
+figures-fit : (k h cost : ℕ) (c : Cache) → Comparable k h cost c → RivalFits (against k h cost c)
+figures-fit k h cost c ok =
+    let r = ok .valid .rule in
+    let left : (k - h + 1) * (c .loadcost + c .writecost) ≤ 4096 * 131070000000 =
+    mul-le-mul {n₂ = 4096} {m₂ = 131070000000} (omega (arith, ok .capacity, ok .low, ok .high))
+    (omega (arith, r .loadCost, r .writeCost, r .steps, r .taken, r .writebacks)) in
+    let right : k * cost ≤ 4096 * 1000000000000 = mul-le-mul (ok .capacity) (ok .small) in
+    (omega (arith, ok .small), omega (arith, left), omega (arith, right))
+
+-- the report of an accepted text, on the page
+pub reports-season :
+    (x : Seen) (calls acts : List ℕ) (v : Sofar) (cost : ℕ) (c : Cache) (before : List ℕ) (w : Written) (after : List ℕ) →
+    Holds x calls acts v →
+    Becomes (closedSeason v) c →
+    Comparable (x .k) (x .h) cost c →
+    Put (reportOf (view c) (against (x .k) (x .h) cost c)) before w after →
+    Put (reportAgainst v cost) before w after × (length (reportAgainst v cost) ≤ longest)
+reports-season x calls acts v cost c before w after holds b ok put =
+    let same = same-report x calls acts v cost c holds b in (
+      subst (λ (t : List ℕ). Put t before w after) same put,
+      subst (λ (t : List ℕ). length t ≤ longest) same (no-longer c (against (x .k) (x .h) cost c) (ok .valid) (figures-fit (x .k) (x .h) cost c ok)),
+    )

@@ -3,15 +3,17 @@ use mathlib.Core.Path.{_≡_, refl, sym, ap, subst, _∙_}
 use mathlib.Core.Bool.{Bool, true, false, cond}
 use mathlib.Core.List.{List, _++_}
 use Prim.Native.Nat.{ℕ, _≤_}
+use native.Mathlib.Omega.{arith}
 use lib.ListN.{length, drop}
+use borrow.Author.Tests.{le-leb}
 use Rattle.landlord.specs.declared.Refusal.{Refusal}
 use Rattle.landlord.specs.declared.Refusal.the-variants.{ShortBuffer}
 use Rattle.decimal.specs.Decimal.{fits, wroteOf, pageOf}
 use Rattle.decimal.proofs.Laws.{wrote-fits, page-length}
 use Rattle.report.specs.declared.Written.{Written}
 use Rattle.report.specs.declared.Written.the-variants.{Text, Refused}
-use Rattle.report.specs.Report.{refusalText, wrote, Put}
-use Rattle.season_text.specs.Answer.{Outcome, refused, reported, outcomeOf, answerOn, pageWith, Answered, printedOn, Printed}
+use Rattle.report.specs.Report.{refusalText, wrote, Put, longest}
+use Rattle.season_text.specs.Answer.{Outcome, refused, reported, outcomeOf, answerOn, pageWith, Answered, ReportFits, printedOn, outputOf, Printed}
 
 -- what an answer holds, told apart by its case
 abbrev lengthOf : Written → ℕ
@@ -56,24 +58,41 @@ text-short t page x = go (fits t page)
     go true e = absurd (not-text x (length t) e)
     go false e = (refl, ap refusalOf e)
 
+-- on a page as long as the longest report nothing is told to be short
+whole-on : (o : Outcome) (page : List ℕ) → ReportFits o → longest ≤ length page → printedOn o page ≡ outputOf o
+whole-on (refused r) page f l = refl
+whole-on (reported t) page f l = rw (le-leb (length t) (length page) (omega (arith, f)))
+
 -- what stands on a page of which so much was written
-on-page : (s before after t : List ℕ) (n : ℕ) → printedOn (outcomeOf s) before ≡ t → n ≡ wroteOf t before → after ≡ pageOf t before → Printed s before n after × (n ≤ length after)
-on-page s before after t n is e p =
-    (record { count = e ∙ ap (λ (z : List ℕ). wroteOf z before) (sym is); page = p ∙ ap (λ (z : List ℕ). pageOf z before) (sym is) },
-      subst (λ (z : ℕ). n ≤ z) (sym (ap length p ∙ page-length t before)) (subst (λ (z : ℕ). z ≤ length before) (sym e) (wrote-fits t before)))
+on-page :
+    (s before after t : List ℕ) (n : ℕ) →
+    ReportFits (outcomeOf s) →
+    printedOn (outcomeOf s) before ≡ t →
+    n ≡ wroteOf t before →
+    after ≡ pageOf t before →
+    Printed s before n after × (n ≤ length after)
+on-page s before after t n f is e p = (
+  record {
+    count = e ∙ ap (λ (z : List ℕ). wroteOf z before) (sym is);
+    page = p ∙ ap (λ (z : List ℕ). pageOf z before) (sym is);
+    whole = whole-on (outcomeOf s) before f;
+  },
+  subst (λ (z : ℕ). n ≤ z) (sym (ap length p ∙ page-length t before)) (subst (λ (z : ℕ). z ≤ length before) (sym e) (wrote-fits t before)),
+)
 
 -- the report
 pub prints-report :
     (s before after : List ℕ) (r : Written) (n : ℕ) →
     Answered s before r after →
+    ReportFits (outcomeOf s) →
     r ≡ Text n →
     Printed s before n after × (n ≤ length after)
-prints-report s before after r n h e = go (outcomeOf s) refl (sym e ∙ h .answer) (h .page)
+prints-report s before after r n h f e = go (outcomeOf s) refl (sym e ∙ h .answer) (h .page)
   where
     go : (o : Outcome) → outcomeOf s ≡ o → Text n ≡ answerOn o before → after ≡ pageWith o before → Printed s before n after × (n ≤ length after)
     go (refused x) is a p = absurd (not-text x n (sym a))
     go (reported t) is a p =
-        on-page s before after t n (ap (λ (o : Outcome). printedOn o before) is ∙ ap (λ (b : Bool). cond b t (refusalText (ShortBuffer 0))) (text-fits t before n a)) (ap lengthOf a ∙ wrote-length t before) p
+        on-page s before after t n f (ap (λ (o : Outcome). printedOn o before) is ∙ ap (λ (b : Bool). cond b t (refusalText (ShortBuffer 0))) (text-fits t before n a)) (ap lengthOf a ∙ wrote-length t before) p
 
 -- the refusal of a text, on a page that is as before
 refused-page :
@@ -86,21 +105,23 @@ refused-page s before middle r x h e = go (outcomeOf s) refl (sym e ∙ h .answe
     go : (o : Outcome) → outcomeOf s ≡ o → Refused x ≡ answerOn o before → middle ≡ pageWith o before → (middle ≡ before) × (printedOn (outcomeOf s) before ≡ refusalText x)
     go (refused y) is a p = (p, ap (λ (o : Outcome). printedOn o before) is ∙ ap (λ (w : Written). refusalText (refusalOf w)) (sym a))
     go (reported t) is a p =
-        let short = text-short t before x a in
-        (p ∙ unfold pageOf in ap (λ (b : Bool). cond b (t ++ drop (length t) before) before) (short .0),
-          ap (λ (o : Outcome). printedOn o before) is ∙ ap (λ (b : Bool). cond b t (refusalText (ShortBuffer 0))) (short .0) ∙ ap refusalText (sym (short .1)))
+        let short = text-short t before x a in (
+          p ∙ unfold pageOf in ap (λ (b : Bool). cond b (t ++ drop (length t) before) before) (short .0),
+          ap (λ (o : Outcome). printedOn o before) is ∙ ap (λ (b : Bool). cond b t (refusalText (ShortBuffer 0))) (short .0) ∙ ap refusalText (sym (short .1)),
+        )
 
 -- the refusal's number and line, as far as there is room
 pub prints-refusal :
     (s before middle after : List ℕ) (r w : Written) (x : Refusal) →
     Answered s before r middle →
+    ReportFits (outcomeOf s) →
     r ≡ Refused x →
     Put (refusalText x) middle w after →
     Printed s before (lengthOf w) after × (lengthOf w ≤ length after)
-prints-refusal s before middle after r w x h e put =
+prints-refusal s before middle after r w x h f e put =
     let page = refused-page s before middle r x h e in
     let q : Put (refusalText x) before w after = subst (λ (z : List ℕ). Put (refusalText x) z w after) (page .0) put in
-    on-page s before after (refusalText x) (lengthOf w) (page .1) (ap lengthOf (q .answer) ∙ wrote-length (refusalText x) before) (q .page)
+    on-page s before after (refusalText x) (lengthOf w) f (page .1) (ap lengthOf (q .answer) ∙ wrote-length (refusalText x) before) (q .page)
 
 -- and so for the two cases of its answer
 pub prints-case :

@@ -3,7 +3,7 @@
 use mathlib.Core.Path.{_≡_}
 use mathlib.Core.Bool.{cond}
 use mathlib.Core.List.{List}
-use Prim.Native.Nat.{ℕ, _+_, _*_, _-_}
+use Prim.Native.Nat.{ℕ, _+_, _*_, _-_, _≤_}
 use lib.ListN.{length}
 use lib.Dec.{leb}
 use Rattle.landlord.specs.declared.Refusal.{Refusal}
@@ -15,7 +15,7 @@ use Rattle.decimal.specs.Decimal.{fits, wroteOf, pageOf}
 use Rattle.report.specs.declared.Rival.the-variants.{Priced as Against}
 use Rattle.report.specs.declared.Written.{Written}
 use Rattle.report.specs.declared.Written.the-variants.{Refused}
-use Rattle.report.specs.Report.{reportOf, refusalText, wrote}
+use Rattle.report.specs.Report.{reportOf, refusalText, wrote, longest}
 use Rattle.season_tables.specs.Tables.{Sofar, Led, on, stop, readingOf}
 use Rattle.season_plan.specs.Plans.{faultLine, faultRefusal, priceOf}
 
@@ -66,12 +66,23 @@ pub record Answered (s before : List ℕ) (r : Written) (after : List ℕ) : Typ
   pub answer : r ≡ answerOn (outcomeOf s) before
   pub page : after ≡ pageWith (outcomeOf s) before
 
+-- No report is longer than the page of the program: 15 is never told there.
+abbrev pub ReportFits : Outcome → Type 0
+ReportFits (refused r) = Unit {0}
+ReportFits (reported t) = length t ≤ longest
+
 -- what is printed: the report, or the refusal's number and line; of a report that the page has no room for, 15
 abbrev pub printedOn : Outcome → List ℕ → List ℕ
 printedOn (refused r) page = refusalText r
 printedOn (reported t) page = cond (fits t page) t (refusalText (ShortBuffer 0))
 
--- it stands at the start of the page, if there is room
+-- what the program prints, whose page is as long as the longest report
+abbrev pub outputOf : Outcome → List ℕ
+outputOf (refused r) = refusalText r
+outputOf (reported t) = t
+
+-- It stands at the start of the page, if there is room; on a page as long as the longest report it is never 15.
 pub record Printed (s before : List ℕ) (r : ℕ) (after : List ℕ) : Type 0 where
   pub count : r ≡ wroteOf (printedOn (outcomeOf s) before) before
   pub page : after ≡ pageOf (printedOn (outcomeOf s) before) before
+  pub whole : longest ≤ length before → printedOn (outcomeOf s) before ≡ outputOf (outcomeOf s)

@@ -9,7 +9,7 @@ use Rattle.cache_state.specs.Becomes.{Becomes}
 use Rattle.report.specs.declared.Rival.{Rival}
 use Rattle.report.specs.declared.Rival.the-variants.{Priced as Against}
 use Rattle.report.specs.declared.Written.{Written}
-use Rattle.report.specs.Report.{Put}
+use Rattle.report.specs.Report.{Put, longest}
 use Rattle.season_tables.specs.declared.Seen.{Seen}
 use Rattle.season_tables.specs.Tables.{Sofar}
 use Rattle.season_tables.specs.Holds.{Holds}
@@ -49,4 +49,7 @@ pub record Reportable (x : Seen) (calls : List ℕ) (cost : ℕ) : Type 0 where
 -- and this is its report, on the page
 abbrev pub Reports : Seen → List ℕ → ℕ → List ℕ → Written → List ℕ → Type 0
 Reports x calls cost before r after =
-    (acts : List ℕ) (v : Sofar) → Holds x calls acts v → Sound v → Put (reportAgainst v cost) before r after
+    (acts : List ℕ) (v : Sofar) →
+    Holds x calls acts v →
+    Sound v →
+    Put (reportAgainst v cost) before r after × (length (reportAgainst v cost) ≤ longest)

@@ -2,7 +2,7 @@
 ghost use mathlib.Core.Path.{_≡_};
 ghost use Prim.Native.Nat.{_≤_};
 ghost use lib.ListN.{length};
-ghost use Rattle.season_text.specs.Answer.{Answered, Printed};
+ghost use Rattle.season_text.specs.Answer.{outcomeOf, Answered, ReportFits, Printed};
 ghost use Rattle.season_text.specs.Runs.{Closable, Closes, Comparable, against, Reportable, Reports};
 use cache_state::Cache;
 use landlord::Refusal;
@@ -64,6 +64,7 @@ fn report_season(seen: Seen, cost: u64, calls: &mut [u32], page: &mut [u8]) -> W
 // The answer to a text: refused, with every byte of the page as before; or accepted, with its report at the start of the page.
 pub fn answer(text: &[u8], page: &mut [u8]) -> Written
     ensures { λ r. ⌜ Answered (now (text .entry)) (now (page .entry)) r (now (page .exit)) ⌝ }
+    ensures { λ _. ⌜ ReportFits (outcomeOf (now (text .entry))) ⌝ }
 {
     if 65536 < text.len() {
         return Written::Refused(Refusal::InputTooLong { line: 0 });

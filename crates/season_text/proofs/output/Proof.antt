@@ -43,7 +43,7 @@ returns c =
     let a = c .before .before .before .before .before .before .before .before .before .args in
     let r = c .before .before .before .before .before .answer in
     let n = c .before .n .given in
-    prints-report (denote.Ref.now (a .text)) (denote.Ref.now (a .page)) (r .last .1 .0) (r .result) (n .0 .0) (r .ensures) (n .1)
+    prints-report (denote.Ref.now (a .text)) (denote.Ref.now (a .page)) (r .last .1 .0) (r .result) (n .0 .0) (r .ensures .0) (r .ensures .1) (n .1)
 
 -- src/lib.rt:88:1
 same-length-2 : tie.Need-same-length-2
@@ -56,7 +56,7 @@ returns-2 c =
     let r = c .before .before .before .before .before .before .before .before .before .before .before .before .answer in
     let x = c .before .before .before .before .before .before .before .before .r .given in
     let w = c .before .before .before .before .before .refused in
-    let told = prints-refusal (denote.Ref.now (a .text)) (denote.Ref.now (a .page)) (r .last .1 .0) (w .last .1 .0) (r .result) (w .result) (x .0 .0) (r .ensures) (x .1) (w .ensures) in
+    let told = prints-refusal (denote.Ref.now (a .text)) (denote.Ref.now (a .page)) (r .last .1 .0) (w .last .1 .0) (r .result) (w .result) (x .0 .0) (r .ensures .0) (r .ensures .1) (x .1) (w .ensures) in
     let n = c .before .n2 .given in
     prints-case (denote.Ref.now (a .text)) (denote.Ref.now (a .page)) (w .last .1 .0) (w .result) (n .0 .0) told (written-text (w .result) (n .0 .0) (n .1))
 
@@ -71,7 +71,7 @@ returns-3 c =
     let r = c .before .before .before .before .before .before .before .before .before .before .before .answer in
     let x = c .before .before .before .before .before .before .before .r .given in
     let w = c .before .before .before .before .refused in
-    let told = prints-refusal (denote.Ref.now (a .text)) (denote.Ref.now (a .page)) (r .last .1 .0) (w .last .1 .0) (r .result) (w .result) (x .0 .0) (r .ensures) (x .1) (w .ensures) in
+    let told = prints-refusal (denote.Ref.now (a .text)) (denote.Ref.now (a .page)) (r .last .1 .0) (w .last .1 .0) (r .result) (w .result) (x .0 .0) (r .ensures .0) (r .ensures .1) (x .1) (w .ensures) in
     prints-case (denote.Ref.now (a .text)) (denote.Ref.now (a .page)) (w .last .1 .0) (w .result) 0 told (written-not (w .result) _ (c .enum-told .given .1))
 
 pub output-spec : {M : Type 1} → statement M

@@ -5,7 +5,6 @@ use denote.Ref
 use Rattle.cache_state.specs.View.{view}
 use Rattle.report.specs.declared.Rival.{Rival}
 use Rattle.report.specs.Report.{reportOf, Put}
-use Rattle.season_text.proofs.Season.{text-valid}
 use Rattle.season_text.proofs.Answers.{comparable, reports-season}
 use Rattle.season_text.proofs.report_season.Statement.{statement}
 use Rattle.season_text.proofs.report_season.Tie as tie
@@ -43,9 +42,11 @@ returns : tie.Need-returns
 returns c =
     λ acts v holds sound.
     let a = c .before .before .before .before .before .before .before .before .before .before .before .args in
-    let b = c .before .before .before .before .before .before .before .close-season .ensures acts v holds sound in
-    reports-season (a .seen) (denote.Ref.now (a .calls)) acts v (a .cost) (c .before .before .before .before .before .before .before .close-season .result) (denote.Ref.now (a .page)) (c .before .before .report .result) (c .before .before .report .last .1 .1 .0) holds b
-    (subst (λ (z : Rival). Put (reportOf (view (c .before .before .before .before .before .before .before .close-season .result)) z) (denote.Ref.now (a .page)) (c .before .before .report .result) (c .before .before .report .last .1 .1 .0)) (c .before .before .before .before .compared .ensures) (c .before .before .report .ensures .fine (text-valid v (c .before .before .before .before .before .before .before .close-season .result) sound b)))
+    let season = c .before .before .before .before .before .before .before .close-season in
+    let w = c .before .before .report in
+    let ok = comparable (a .seen) (denote.Ref.now (a .calls)) (a .cost) (season .result) (c .before .before .before .before .before .before .before .before .before .before .before .pre) (season .ensures) in
+    reports-season (a .seen) (denote.Ref.now (a .calls)) acts v (a .cost) (season .result) (denote.Ref.now (a .page)) (w .result) (w .last .1 .1 .0) holds (season .ensures acts v holds sound) ok
+    (subst (λ (z : Rival). Put (reportOf (view (season .result)) z) (denote.Ref.now (a .page)) (w .result) (w .last .1 .1 .0)) (c .before .before .before .before .compared .ensures) (w .ensures .fine (ok .valid)))
 
 pub report-season-spec : {M : Type 1} → statement M
 report-season-spec =
