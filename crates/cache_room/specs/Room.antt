@@ -6,10 +6,12 @@ use Prim.Native.Nat.{ℕ, _+_, _*_, _-_, _≤_, _<_}
 use lib.ListN.{getD, set}
 use Rattle.landlord.specs.Catalog.{full}
 use Rattle.landlord.specs.Rule.{used}
+use Rattle.landlord.specs.Figures.{totalsOf}
 use Rattle.marks.specs.Marks.{marks}
 use Rattle.cache_state.specs.declared.Cache.{Cache}
 use Rattle.cache_state.specs.View.{stateOf}
 use Rattle.cache_state.specs.Valid.{Valid}
+pub use Rattle.cache_state.specs.With.{withSlots, withFigures}
 use Rattle.cache_room.specs.Stores.{storeTo}
 
 -- no credit is greater than this
@@ -33,61 +35,10 @@ pub record Wanted (c : Cache) (i : ℕ) : Type 0 where
   pub known : i < c .n
   pub fits : getD (c .blocks) i 0 ≤ c .k
 
--- c with other marks and credits
-abbrev pub withSlots : Cache → List Bool → List ℕ → List ℕ → List ℕ → Cache
-withSlots c h a b d =
-    record {
-      k = c .k;
-      n = c .n;
-      blocks = c .blocks;
-      load = c .load;
-      write = c .write;
-      held = h;
-      loadcredit = a;
-      writecredit = b;
-      dirty = d;
-      tenths = c .tenths;
-      itemloads = c .itemloads;
-      itemwritebacks = c .itemwritebacks;
-      steps = c .steps;
-      hits = c .hits;
-      loads = c .loads;
-      loadcost = c .loadcost;
-      evictions = c .evictions;
-      dirtyevictions = c .dirtyevictions;
-      writebacks = c .writebacks;
-      writecost = c .writecost;
-      flushes = c .flushes;
-      closed = c .closed;
-    }
-
 -- c with other counts of evictions, of dirty evictions, of writebacks (in all, their cost, and by item)
 abbrev pub withCounts : Cache → ℕ → ℕ → ℕ → ℕ → List ℕ → Cache
 withCounts c e de w wc ws =
-    record {
-      k = c .k;
-      n = c .n;
-      blocks = c .blocks;
-      load = c .load;
-      write = c .write;
-      held = c .held;
-      loadcredit = c .loadcredit;
-      writecredit = c .writecredit;
-      dirty = c .dirty;
-      tenths = c .tenths;
-      itemloads = c .itemloads;
-      itemwritebacks = ws;
-      steps = c .steps;
-      hits = c .hits;
-      loads = c .loads;
-      loadcost = c .loadcost;
-      evictions = e;
-      dirtyevictions = de;
-      writebacks = w;
-      writecost = wc;
-      flushes = c .flushes;
-      closed = c .closed;
-    }
+    withFigures c (c .tenths) (c .itemloads) ws (totalsOf (c .steps) (c .hits) (c .loads) (c .loadcost) e de w wc (c .flushes))
 
 -- what item i loses where each block loses m
 abbrev pub lossAt : Cache → ℕ → ℕ → ℕ

@@ -1,70 +1,15 @@
 -- What each small store leaves: the cache that it hands back, field by field. Assumes nothing.
 use mathlib.Core.Path.{_≡_}
-use mathlib.Core.Bool.{Bool, true, false}
+use mathlib.Core.Bool.{true, false}
 use mathlib.Core.List.{List}
 use Prim.Native.Nat.{ℕ, _+_}
 use lib.ListN.{length, getD, set}
 use Rattle.landlord.specs.Catalog.{full}
-use Rattle.landlord.specs.Figures.{Totals, totalsOf, tenthsOf}
+use Rattle.landlord.specs.Figures.{totalsOf, tenthsOf}
 use Rattle.marks.specs.Marks.{marks}
 use Rattle.cache_state.specs.declared.Cache.{Cache}
 use Rattle.cache_state.specs.View.{countsOf}
-
--- a cache with other slots: which items are held, the two credits, and the marks of the dirty ones
-abbrev pub withSlots : Cache → List Bool → List ℕ → List ℕ → List ℕ → Cache
-withSlots c holds loads writes marked =
-    record {
-      k = c .k;
-      n = c .n;
-      blocks = c .blocks;
-      load = c .load;
-      write = c .write;
-      held = holds;
-      loadcredit = loads;
-      writecredit = writes;
-      dirty = marked;
-      tenths = c .tenths;
-      itemloads = c .itemloads;
-      itemwritebacks = c .itemwritebacks;
-      steps = c .steps;
-      hits = c .hits;
-      loads = c .loads;
-      loadcost = c .loadcost;
-      evictions = c .evictions;
-      dirtyevictions = c .dirtyevictions;
-      writebacks = c .writebacks;
-      writecost = c .writecost;
-      flushes = c .flushes;
-      closed = c .closed;
-    }
-
--- a cache with other figures: tenths, loads and writebacks of each item, and the totals
-abbrev pub withFigures : Cache → List ℕ → List ℕ → List ℕ → Totals → Cache
-withFigures c hours loads writes t =
-    record {
-      k = c .k;
-      n = c .n;
-      blocks = c .blocks;
-      load = c .load;
-      write = c .write;
-      held = c .held;
-      loadcredit = c .loadcredit;
-      writecredit = c .writecredit;
-      dirty = c .dirty;
-      tenths = hours;
-      itemloads = loads;
-      itemwritebacks = writes;
-      steps = t .steps;
-      hits = t .hits;
-      loads = t .loads;
-      loadcost = t .loadCost;
-      evictions = t .evictions;
-      dirtyevictions = t .dirtyEvictions;
-      writebacks = t .writebacks;
-      writecost = t .writeCost;
-      flushes = t .flushes;
-      closed = c .closed;
-    }
+pub use Rattle.cache_state.specs.With.{withSlots, withFigures}
 
 -- a hit counted: one step, one hit
 abbrev pub hitOf : Cache → Cache

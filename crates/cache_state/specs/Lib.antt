@@ -2,3 +2,4 @@ pub mod View
 pub mod Valid
 pub mod Becomes
 pub mod Parts
+pub mod With
