@@ -1,0 +1,183 @@
+//! The cache and the step rule (paper 01: the locker).
+
+use crate::{Item, Step};
+
+/// One unit of cost in shares: the least common multiple of 1 to 16, so that credits divide by the blocks with nothing lost.
+const UNIT: u64 = 720_720;
+
+pub struct Cache<'a> {
+    k: u32,
+    catalog: &'a [Item],
+    /// The held items, from the lowest number on.
+    held: Vec<Held>,
+    /// Their blocks.
+    used: u32,
+    pub counts: Counts,
+}
+
+struct Held {
+    item: usize,
+    blocks: u64,
+    load_credit: u64,
+    write_credit: u64,
+    dirty: bool,
+}
+
+/// What the report says of a cache.
+pub struct Counts {
+    pub hits: u32,
+    pub loads: u32,
+    pub load_cost: u64,
+    pub evictions: u32,
+    pub dirty_evictions: u32,
+    pub writebacks: u32,
+    pub write_cost: u64,
+    pub items: Vec<ItemCounts>,
+}
+
+/// And of an item.
+#[derive(Clone, Default)]
+pub struct ItemCounts {
+    pub tenths: u32,
+    pub loads: u32,
+    pub writebacks: u32,
+}
+
+impl<'a> Cache<'a> {
+    pub fn open(k: u32, catalog: &'a [Item]) -> Self {
+        Cache {
+            k,
+            catalog,
+            held: Vec::with_capacity(catalog.len()),
+            used: 0,
+            counts: Counts {
+                hits: 0,
+                loads: 0,
+                load_cost: 0,
+                evictions: 0,
+                dirty_evictions: 0,
+                writebacks: 0,
+                write_cost: 0,
+                items: vec![ItemCounts::default(); catalog.len()],
+            },
+        }
+    }
+
+    /// Takes a step. Its item is in the catalog and has at most `k` blocks.
+    pub fn step(&mut self, step: Step) {
+        match step {
+            Step::Read { item } => {
+                self.request(item);
+            }
+            Step::Write { item, minutes } => {
+                let full = self.catalog[item].write * UNIT;
+                let held = self.request(item);
+                held.dirty = true;
+                held.write_credit = full;
+                self.counts.items[item].tenths += minutes / 6;
+            }
+            Step::Flush => self.flush(),
+        }
+    }
+
+    /// Closes the log: what is dirty is written back.
+    pub fn close(&mut self) {
+        self.flush();
+    }
+
+    pub fn holds(&self, i: usize) -> bool {
+        self.find(i).is_ok()
+    }
+
+    /// Where item `i` is held, or where it would be.
+    fn find(&self, i: usize) -> Result<usize, usize> {
+        self.held.binary_search_by_key(&i, |held| held.item)
+    }
+
+    /// A hit or a miss, and a full load credit in any case.
+    fn request(&mut self, i: usize) -> &mut Held {
+        let at = match self.find(i) {
+            Ok(at) => {
+                self.counts.hits += 1;
+                at
+            }
+            Err(_) => self.load(i),
+        };
+        let held = &mut self.held[at];
+        held.load_credit = self.catalog[i].load * UNIT;
+        held
+    }
+
+    /// Brings in an item that is not held, clean and without credit, once there is room for it. Answers where it is held.
+    fn load(&mut self, i: usize) -> usize {
+        let Item { blocks, load, .. } = self.catalog[i];
+        while self.used + blocks > self.k {
+            self.evict();
+        }
+        self.used += blocks;
+        self.counts.loads += 1;
+        self.counts.load_cost += load;
+        self.counts.items[i].loads += 1;
+        let (Ok(at) | Err(at)) = self.find(i);
+        let held = Held {
+            item: i,
+            blocks: blocks.into(),
+            load_credit: 0,
+            write_credit: 0,
+            dirty: false,
+        };
+        self.held.insert(at, held);
+        at
+    }
+
+    /// Evicts the held item of least rank, of equal ones the first, and takes as much for each block from the others.
+    fn evict(&mut self) {
+        let ranks = self.held.iter().map(Held::rank).enumerate();
+        let (at, least) = ranks
+            .min_by_key(|&(_, rank)| rank)
+            .expect("the blocks in use are those of a held item");
+        let victim = self.held.remove(at);
+        for held in &mut self.held {
+            held.charge(least);
+        }
+        let Item { blocks, write, .. } = self.catalog[victim.item];
+        self.used -= blocks;
+        self.counts.evictions += 1;
+        if victim.dirty {
+            self.counts.dirty_evictions += 1;
+            self.counts.write_back(victim.item, write);
+        }
+    }
+
+    fn flush(&mut self) {
+        for held in self.held.iter_mut().filter(|held| held.dirty) {
+            held.dirty = false;
+            held.write_credit = 0;
+            let cost = self.catalog[held.item].write;
+            self.counts.write_back(held.item, cost);
+        }
+    }
+}
+
+impl Held {
+    /// The credits a block. They are multiples of the blocks, so nothing is rounded.
+    fn rank(&self) -> u64 {
+        (self.load_credit + self.write_credit) / self.blocks
+    }
+
+    /// Takes so much for each block, from the write credit first.
+    fn charge(&mut self, rank: u64) {
+        let loss = self.blocks * rank;
+        let from_write = loss.min(self.write_credit);
+        self.write_credit -= from_write;
+        self.load_credit -= loss - from_write;
+    }
+}
+
+impl Counts {
+    fn write_back(&mut self, i: usize, cost: u64) {
+        self.writebacks += 1;
+        self.write_cost += cost;
+        self.items[i].writebacks += 1;
+    }
+}
