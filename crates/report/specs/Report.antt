@@ -68,8 +68,11 @@ unfoldable pub reportOf : Standing → Rival → List ℕ
 reportOf v rival = itemNames ++ (itemLines 0 (v .figures .uses) ++ (10 ∷ totalLines v rival))
 
 -- "A refused input prints the names `refusal line` and one line with both numbers, and nothing else."
+abbrev pub refusalNames : List ℕ
+refusalNames = namesOf (refusalWord ∷ lineWord ∷ [])
+
 unfoldable pub refusalText : Refusal → List ℕ
-refusalText r = namesOf (refusalWord ∷ lineWord ∷ []) ++ lineOf (refusalNumber r ∷ refusalLine r ∷ [])
+refusalText r = refusalNames ++ lineOf (refusalNumber r ∷ refusalLine r ∷ [])
 
 -- what writing a text on a page answers: its length, or 15
 unfoldable pub wrote : List ℕ → List ℕ → Written

@@ -1,12 +1,13 @@
 // The report of a cache on a lent page, and the two numbers of a refused input. The whole length is known before the first byte is
 // written, so a page that is too short is left as it was; then each line is written into what remains of the page.
 ghost use mathlib.Core.Path.{_≡_};
-ghost use Prim.Native.Nat.{_≤_};
+ghost use mathlib.Core.List.{_++_};
+ghost use Prim.Native.Nat.{_≤_, _<_};
 ghost use lib.ListN.{length, take};
-ghost use Rattle.cache_state.specs.View.{view, usesOf};
+ghost use Rattle.cache_state.specs.View.{view, usageOf, usesOf};
 ghost use Rattle.cache_state.specs.Valid.{Valid};
-ghost use Rattle.report.specs.Report.{lineOf, itemLines, totalNumbers, totalNames, refusalText, Put, Reported};
-ghost use Rattle.report.specs.Lines.{over, LineFits, ItemsFit, figureCount};
+ghost use Rattle.report.specs.Report.{lineOf, itemNumbers, itemLines, totalNumbers, totalLines, reportOf, refusalText, Put, Reported};
+ghost use Rattle.report.specs.Lines.{over, TextFits, figureCount};
 use cache_state::Cache;
 use landlord::Refusal;
 
@@ -29,6 +30,7 @@ pub enum Written {
 fn line_length(numbers: &[u64]) -> usize
     requires { ⌜ length (now numbers) ≤ 11 ⌝ }
     ensures { λ r. ⌜ r ≡ length (lineOf (now (numbers .entry))) ⌝ }
+    ensures { λ r. ⌜ r ≤ 231 ⌝ }
 {
     let mut n = 0;
     let mut i = 0;
@@ -41,7 +43,7 @@ fn line_length(numbers: &[u64]) -> usize
 
 // Writes a line of numbers at the start of the page, which has room for it.
 fn put_line(page: &mut [u8], numbers: &[u64]) -> usize
-    requires { ⌜ LineFits (now numbers) (now page) ⌝ }
+    requires { ⌜ length (lineOf (now numbers)) ≤ length (now page) ⌝ }
     ensures { λ r. ⌜ r ≡ length (lineOf (now (numbers .entry))) ⌝ }
     ensures { λ r. ⌜ now (page .exit) ≡ over (lineOf (now (numbers .entry))) (now (page .entry)) ⌝ }
 {
@@ -71,10 +73,32 @@ fn put_text(page: &mut [u8], text: &[u8]) -> usize
     i
 }
 
+// Writes a line of names and a line of numbers at the start of the page, which has room for both.
+fn put_table(page: &mut [u8], names: &[u8], numbers: &[u64])
+    requires { ⌜ length (now names ++ lineOf (now numbers)) ≤ length (now page) ⌝ }
+    ensures { λ _. ⌜ now (page .exit) ≡ over (now (names .entry) ++ lineOf (now (numbers .entry))) (now (page .entry)) ⌝ }
+{
+    let at = put_text(page, names);
+    put_line(&mut page[at..], numbers);
+}
+
 fn wide(x: u32) -> u64
     ensures { λ r. ⌜ r ≡ x ⌝ }
 {
     x as u64
+}
+
+// The numbers of an item's line.
+fn item_numbers(c: Cache, i: usize) -> [u64; 4]
+    requires { ⌜ i < 256 ⌝ }
+    ensures { λ r. ⌜ r ≡ itemNumbers i (usageOf c i) ⌝ }
+{
+    [
+        i as u64,
+        wide(c.tenths[i]),
+        wide(c.itemloads[i]),
+        wide(c.itemwritebacks[i]),
+    ]
 }
 
 // How many bytes the items' lines have.
@@ -86,12 +110,7 @@ fn items_length(c: Cache) -> usize
     let mut sum = 0;
     let mut i = 0;
     while i < n {
-        let line = [
-            i as u64,
-            wide(c.tenths[i]),
-            wide(c.itemloads[i]),
-            wide(c.itemwritebacks[i]),
-        ];
+        let line = item_numbers(c, i);
         sum += line_length(&line);
         i += 1;
     }
@@ -100,7 +119,7 @@ fn items_length(c: Cache) -> usize
 
 // Writes the items' lines at the start of the page, which has room for them.
 fn put_items(page: &mut [u8], c: Cache) -> usize
-    requires { ⌜ ItemsFit c (now page) ⌝ }
+    requires { ⌜ TextFits c (itemLines 0 (usesOf c)) (now page) ⌝ }
     ensures { λ r. ⌜ r ≡ length (itemLines 0 (usesOf c)) ⌝ }
     ensures { λ r. ⌜ now (page .exit) ≡ over (itemLines 0 (usesOf c)) (now (page .entry)) ⌝ }
 {
@@ -108,12 +127,7 @@ fn put_items(page: &mut [u8], c: Cache) -> usize
     let mut at = 0;
     let mut i = 0;
     while i < n {
-        let line = [
-            i as u64,
-            wide(c.tenths[i]),
-            wide(c.itemloads[i]),
-            wide(c.itemwritebacks[i]),
-        ];
+        let line = item_numbers(c, i);
         at += put_line(&mut page[at..], &line);
         i += 1;
     }
@@ -152,54 +166,64 @@ fn figures(c: Cache, rival: Rival) -> [u64; 11]
     ]
 }
 
-// How many of these a report prints.
-fn figure_count(rival: Rival) -> usize
-    ensures { λ r. ⌜ r ≡ figureCount rival ⌝ }
+// How many bytes the last two lines have: the names, and the numbers.
+fn totals_length(c: Cache, rival: Rival) -> usize
+    requires { ⌜ Valid c ⌝ }
+    ensures { λ r. ⌜ r ≡ length (totalLines (view c) rival) ⌝ }
+    ensures { λ r. ⌜ r ≤ 312 ⌝ }
 {
+    let numbers = figures(c, rival);
     match rival {
-        Rival::Absent => 8,
+        Rival::Absent => 64 + line_length(&numbers[..8]),
         Rival::Priced {
             cost: _,
             left: _,
             right: _,
-        } => 11,
+        } => 81 + line_length(&numbers),
     }
 }
 
-// How many bytes the names of the last line have.
-fn names_length(rival: Rival) -> usize
-    ensures { λ r. ⌜ r ≡ length (totalNames rival) ⌝ }
+// Writes the last two lines at the start of the page, which has room for them.
+fn put_totals(page: &mut [u8], c: Cache, rival: Rival)
+    requires { ⌜ TextFits c (totalLines (view c) rival) (now page) ⌝ }
+    ensures { λ _. ⌜ now (page .exit) ≡ over (totalLines (view c) rival) (now (page .entry)) ⌝ }
 {
+    let numbers = figures(c, rival);
     match rival {
-        Rival::Absent => 64,
-        Rival::Priced {
-            cost: _,
-            left: _,
-            right: _,
-        } => 81,
-    }
-}
-
-// Writes the names of the last line at the start of the page, which has room for them.
-fn put_names(page: &mut [u8], rival: Rival) -> usize
-    requires { ⌜ length (totalNames rival) ≤ length (now page) ⌝ }
-    ensures { λ r. ⌜ r ≡ length (totalNames rival) ⌝ }
-    ensures { λ r. ⌜ now (page .exit) ≡ over (totalNames rival) (now (page .entry)) ⌝ }
-{
-    match rival {
-        Rival::Absent => put_text(
+        Rival::Absent => put_table(
             page,
             b"hits loads loadcost drops dirtydrops writebacks writecost total\n",
+            &numbers[..8],
         ),
         Rival::Priced {
             cost: _,
             left: _,
             right: _,
-        } => put_text(
+        } => put_table(
             page,
             b"hits loads loadcost drops dirtydrops writebacks writecost total rival left right\n",
+            &numbers,
         ),
     }
+}
+
+// How many bytes the report of a valid cache has.
+fn report_length(c: Cache, rival: Rival) -> usize
+    requires { ⌜ Valid c ⌝ }
+    ensures { λ r. ⌜ r ≡ length (reportOf (view c) rival) ⌝ }
+{
+    30 + items_length(c) + totals_length(c, rival)
+}
+
+// Writes the report of a valid cache at the start of the page, which has room for it.
+fn put_report(page: &mut [u8], c: Cache, rival: Rival)
+    requires { ⌜ TextFits c (reportOf (view c) rival) (now page) ⌝ }
+    ensures { λ _. ⌜ now (page .exit) ≡ over (reportOf (view c) rival) (now (page .entry)) ⌝ }
+{
+    let mut at = put_text(page, b"sail tenths loads writebacks\n");
+    at += put_items(&mut page[at..], c);
+    at += put_text(&mut page[at..], b"\n");
+    put_totals(&mut page[at..], c, rival);
 }
 
 // The report of a cache, open or closed: 17 if it is invalid, 15 if the page is too short, else the text at the start of the page.
@@ -209,18 +233,12 @@ pub fn report(c: Cache, rival: Rival, page: &mut [u8]) -> Written
     if !cache_state::valid(c) {
         return Written::Refused(Refusal::InvalidState { line: 0 });
     }
-    let numbers = figures(c, rival);
-    let count = figure_count(rival);
-    let needed = 30 + items_length(c) + names_length(rival) + line_length(&numbers[..count]);
+    let needed = report_length(c, rival);
     if page.len() < needed {
         return Written::Refused(Refusal::ShortBuffer { line: 0 });
     }
-    let mut at = put_text(page, b"sail tenths loads writebacks\n");
-    at += put_items(&mut page[at..], c);
-    at += put_text(&mut page[at..], b"\n");
-    at += put_names(&mut page[at..], rival);
-    at += put_line(&mut page[at..], &numbers[..count]);
-    Written::Text(at)
+    put_report(page, c, rival);
+    Written::Text(needed)
 }
 
 // The output of a refused input: the refusal's number and its line; 15 if the page is too short.
@@ -228,10 +246,10 @@ pub fn refused(r: Refusal, page: &mut [u8]) -> Written
     ensures { λ w. ⌜ Put (refusalText r) (now (page .entry)) w (now (page .exit)) ⌝ }
 {
     let line = [wide(r.number()), wide(r.line())];
-    if page.len() < 13 + line_length(&line) {
+    let length = 13 + line_length(&line);
+    if page.len() < length {
         return Written::Refused(Refusal::ShortBuffer { line: 0 });
     }
-    let mut at = put_text(page, b"refusal line\n");
-    at += put_line(&mut page[at..], &line);
-    Written::Text(at)
+    put_table(page, b"refusal line\n", &line);
+    Written::Text(length)
 }

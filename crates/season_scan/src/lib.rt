@@ -8,6 +8,7 @@ use season_lines::Field;
 use season_tables::Scanned;
 use season_tables::Verdict;
 
+
 // Reads the tables up to the first faulty line. The steps are noted in `calls`, four numbers each, and the acts in `acts`, three.
 pub fn scan(s: &[u8], calls: &mut [u32], acts: &mut [u32]) -> Scanned
     requires { ⌜ Scannable (now s) (now calls) (now acts) ⌝ }
@@ -20,11 +21,11 @@ pub fn scan(s: &[u8], calls: &mut [u32], acts: &mut [u32]) -> Scanned
     let mut line: u32 = 1;
     'lines: loop {
         if s.len() <= at {
-            break 'lines season_tables::ended(seen, line);
+            break season_tables::ended(seen, line);
         }
         let end = at + season_lines::find(&s[at..], b'\n');
         if s.len() <= end {
-            break 'lines season_tables::stopped(seen, Refusal::Malformed { line: line });
+            break season_tables::stopped(seen, Refusal::Malformed { line: line });
         }
         let mut fields = [Field::Other; 4];
         let mut count: usize = 0;
@@ -45,7 +46,7 @@ pub fn scan(s: &[u8], calls: &mut [u32], acts: &mut [u32]) -> Scanned
         let next = season_tables::lead(seen, &s[at..end], fields, count, line, calls, acts);
         let verdict = next.verdict;
         if let Verdict::Refused(_) = verdict {
-            break 'lines next;
+            break next;
         }
         let read = next.seen;
         seen = read;

@@ -1,0 +1,337 @@
+-- The laws by which the writers are proved. A text is written in parts, each into the rest of the page (`Going`), and what is left of
+-- it is known by one law for each definition of specs/Report.antt: the next part, and its length. Assumes nothing.
+use mathlib.Core.Path.{_≡_, refl, sym, ap, _∙_}
+use mathlib.Core.List.{List, [], _∷_, _++_, append-assoc, append-nil}
+use Prim.Native.Nat.{ℕ, suc, _+_, _-_, _≤_, _<_}
+use native.Mathlib.Nat.{zero-add}
+use native.Mathlib.Numerals.{add-one}
+use native.Mathlib.Omega.{arith}
+use borrow.Author.Tests.{le-leb, lt-leb}
+use lib.ListN.{length, getD, take, drop, set, length-append, length-drop, take-append-drop, drop-of-length-le}
+use lib.Seq.{drop-cons, drop-drop, take-at, drop-at, length-take-le, take-all, set-split}
+use borrow.Rule.Slice.PartMut.{midOf, putMid, mid-len}
+use Rattle.decimal.specs.Decimal.{digitsOf, wroteOf, pageOf}
+use Rattle.decimal.proofs.Laws.{wrote-all, page-all, page-none}
+use Rattle.landlord.specs.declared.Refusal.{Refusal}
+use Rattle.landlord.specs.declared.Refusal.the-variants.{ShortBuffer, InvalidState}
+use Rattle.landlord.specs.Types.{refusalNumber, refusalLine}
+use Rattle.landlord.specs.Figures.{Use, noUse, Standing}
+use Rattle.cache_state.specs.declared.Cache.{Cache}
+use Rattle.cache_state.specs.View.{usageOf, usesOf, view}
+use Rattle.cache_state.specs.Valid.{Valid}
+use Rattle.cache_state.proofs.Views.{uses-length, use-is}
+use Rattle.report.specs.declared.Rival.{Rival}
+use Rattle.report.specs.declared.Rival.the-variants.{Absent, Priced}
+use Rattle.report.specs.declared.Written.{Written}
+use Rattle.report.specs.declared.Written.the-variants.{Text, Refused}
+use Rattle.report.specs.Words.{moreWords, wordsOf}
+use Rattle.report.specs.Report.{separator, lineOf, itemNumbers, itemLines, itemNames, totalNames, totalNumbers, totalLines, reportOf, refusalNames, refusalText, wrote, Put, Reported}
+use Rattle.report.specs.Lines.{over, figureCount}
+
+-- ## A text at a place of a page
+
+-- the page with the text t from place a on
+unfoldable pub overAt : ℕ → List ℕ → List ℕ → List ℕ
+overAt a t page = take a page ++ (t ++ drop (a + length t) page)
+
+pub over-start : (t page : List ℕ) → overAt 0 t page ≡ over t page
+unfolding overAt
+over-start t page = rw zero-add
+
+pub over-none : (a : ℕ) (page : List ℕ) → overAt a [] page ≡ page
+unfolding overAt
+over-none a page =
+    let e : a + 0 ≡ a = omega arith in
+    rw e (take-append-drop a page)
+
+over-front : (a : ℕ) (t page : List ℕ) → a ≤ length page → length (take a page ++ t) ≡ a + length t
+over-front a t page h = rw (length-append, length-take-le a page h)
+
+pub over-length : (a : ℕ) (t page : List ℕ) → a + length t ≤ length page → length (overAt a t page) ≡ length page
+unfolding overAt
+over-length a t page h = rw (length-append, length-append, length-take-le a page (omega arith), length-drop) (omega arith)
+
+behind : (a : ℕ) (t u : List ℕ) → a + length t + length u ≡ a + length (t ++ u)
+behind a t u = omega (arith, length-append t u)
+
+-- two texts, one behind the other, are one text
+pub over-join : (a : ℕ) (t u page : List ℕ) → a ≤ length page → overAt (a + length t) u (overAt a t page) ≡ overAt a (t ++ u) page
+unfolding overAt
+over-join a t u page h =
+    let here : overAt a t page ≡ (take a page ++ t) ++ drop (a + length t) page = sym (append-assoc (take a page) t (drop (a + length t) page)) in
+    let front : take (a + length t) (overAt a t page) ≡ take a page ++ t =
+    ap (take (a + length t)) here ∙ take-at (take a page ++ t) (drop (a + length t) page) (a + length t) (over-front a t page h) in
+    let back : drop (a + length t) (overAt a t page) ≡ drop (a + length t) page =
+    ap (drop (a + length t)) here ∙ drop-at (take a page ++ t) (drop (a + length t) page) (a + length t) (over-front a t page h) in
+    let rest : drop (a + length t + length u) (overAt a t page) ≡ drop (a + length (t ++ u)) page =
+    sym (drop-drop (length u) (a + length t) (overAt a t page)) ∙ ap (drop (length u)) back ∙ drop-drop (length u) (a + length t) page
+    ∙ ap (λ (n : ℕ). drop n page) (behind a t u) in
+    ap (λ (l : List ℕ). l ++ (u ++ drop (a + length t + length u) (overAt a t page))) front
+    ∙ ap (λ (l : List ℕ). (take a page ++ t) ++ (u ++ l)) rest
+    ∙ simp append-assoc
+
+-- what comes back of a lent rest of the page
+pub tail-over :
+    (a : ℕ) (t page ys : List ℕ) → a ≤ length page → ys ≡ over t (midOf a (length page - a) page) →
+    putMid a (length page - a) page ys ≡ overAt a t page
+unfolding overAt
+tail-over a t page ys h e =
+    let lent : midOf a (length page - a) page ≡ drop a page = take-all (length page - a) (drop a page) (omega (arith, length-drop a page)) in
+    let past : drop (length page - a) (drop a page) ≡ [] =
+    drop-of-length-le (drop a page) {i = length page - a} (omega (arith, length-drop a page)) in
+    let got : ys ≡ t ++ drop (a + length t) page =
+    e ∙ ap (over t) lent ∙ ap (λ (l : List ℕ). t ++ l) (drop-drop (length t) a page) in
+    ap (λ (l : List ℕ). take a page ++ (ys ++ l)) past
+    ∙ ap (λ (l : List ℕ). take a page ++ l) (append-nil ys ∙ got)
+
+set-over : (a b : ℕ) (page : List ℕ) → a < length page → set page a b ≡ overAt a (b ∷ []) page
+unfolding overAt
+set-over a b page h = rw (set-split page a b h, add-one)
+
+-- ## Writing a text in parts
+
+-- Of the text `all`, to be written at the start of the page `before`, what is `left` is still to be written at place a, and the page
+-- as it is is `page`.
+pub record Going (all before : List ℕ) (a : ℕ) (left page : List ℕ) : Type 0 where
+  pub count : a + length left ≡ length all
+  pub same : length page ≡ length before
+  pub goal : overAt a left page ≡ over all before
+
+pub go-start : (all before : List ℕ) → Going all before 0 all before
+go-start all before = record { count = omega arith; same = refl; goal = over-start all before }
+
+module _ {all before : List ℕ} (room : length all ≤ length before) where
+  -- the law of all writers: the part t is written into the rest of the page, and what is left is behind it
+  pub go-next :
+      {a : ℕ} (t u : List ℕ) {page ys : List ℕ} {w : ℕ} →
+      Going all before a (t ++ u) page →
+      w ≡ length t →
+      ys ≡ over t (midOf a (length page - a) page) →
+      Going all before (a + w) u (putMid a (length page - a) page ys)
+  go-next {a} t u {page} {ys} {w} g l e =
+      let n : a + length t + length u ≡ length all = behind a t u ∙ g .count in
+      let s = g .same in
+      let put = tail-over a t page ys (omega arith) e in
+      rw (l, put)
+      record {
+        count = n;
+        same = over-length a t page (omega arith) ∙ s;
+        goal = over-join a t u page (omega arith) ∙ g .goal;
+      }
+
+  -- one byte is written
+  pub go-byte :
+      {a b : ℕ} {u page : List ℕ} → Going all before a (b ∷ u) page → Going all before (a + 1) u (set page a b)
+  go-byte {a} {b} {u} {page} g =
+      let n : a + suc (length u) ≡ length all = g .count in
+      let s = g .same in
+      rw (set-over a b page (omega arith))
+      record {
+        count = omega arith;
+        same = over-length a (b ∷ []) page (omega arith) ∙ s;
+        goal = over-join a (b ∷ []) u page (omega arith) ∙ g .goal;
+      }
+
+  -- the rest of the page has room for the part t
+  pub go-room : (a : ℕ) (t u page : List ℕ) → Going all before a (t ++ u) page → length t ≤ length (midOf a (length page - a) page)
+  go-room a t u page g =
+      omega (arith, g .count, g .same, length-append t u, mid-len a (length page) page (omega arith))
+
+-- the first part is written on the page itself
+pub go-first :
+    (t u before : List ℕ) {after : List ℕ} {w : ℕ} →
+    length (t ++ u) ≤ length before →
+    w ≡ length t →
+    after ≡ over t before →
+    Going (t ++ u) before w u after
+go-first t u before {after} {w} h l e =
+    let n : w ≡ 0 + length t = omega arith in
+    let p : after ≡ overAt 0 t before = e ∙ sym (over-start t before) in
+    rw (n, p)
+    record {
+      count = omega (arith, length-append t u);
+      same = over-length 0 t before (omega (arith, length-append t u));
+      goal = over-join 0 t u before (omega arith) ∙ over-start (t ++ u) before;
+    }
+
+-- nothing is left
+pub go-end : {all before : List ℕ} {a : ℕ} {page : List ℕ} → Going all before a [] page → (a ≡ length all) × (page ≡ over all before)
+go-end {all} {before} {a} {page} g = (omega (arith, g .count), sym (over-none a page) ∙ g .goal)
+
+-- the same text in another form is left
+pub go-as : {all before : List ℕ} {a : ℕ} {t u page : List ℕ} → t ≡ u → Going all before a t page → Going all before a u page
+go-as e g = rw e at g
+
+-- ## What is left of a text
+
+pub text-next : (t : List ℕ) (i : ℕ) → i < length t → drop i t ≡ getD t i 0 ∷ drop (i + 1) t
+text-next t i h = rw (drop-cons t i 0 h, add-one)
+
+-- ## What is left of a line of numbers
+
+pub line-next :
+    (ns : List ℕ) (i : ℕ) → i < length ns →
+    lineOf (drop i ns) ≡ digitsOf (getD ns i 0) ++ (separator (drop (i + 1) ns) ∷ lineOf (drop (i + 1) ns))
+unfolding lineOf
+line-next ns i h = rw (drop-cons ns i 0 h, add-one)
+
+pub line-end : (ns : List ℕ) (i : ℕ) → length ns ≤ i → lineOf (drop i ns) ≡ []
+unfolding lineOf
+line-end ns i h = rw (drop-of-length-le ns {i = i} h)
+
+-- a space before the next number, a line feed behind the last
+pub space-next : (ns : List ℕ) (i : ℕ) → i < length ns → separator (drop i ns) ≡ 32
+space-next ns i h = rw (drop-cons ns i 0 h)
+
+pub feed-last : (ns : List ℕ) (i : ℕ) → length ns ≤ i → separator (drop i ns) ≡ 10
+feed-last ns i h = rw (drop-of-length-le ns {i = i} h)
+
+-- a line's length, a number at a time
+pub line-count :
+    (ns : List ℕ) (i : ℕ) → i < length ns →
+    length (lineOf (drop i ns)) ≡ length (digitsOf (getD ns i 0)) + 1 + length (lineOf (drop (i + 1) ns))
+line-count ns i h =
+    let e : length (lineOf (drop i ns)) ≡ length (digitsOf (getD ns i 0)) + suc (length (lineOf (drop (i + 1) ns))) =
+    ap length (line-next ns i h) ∙ length-append (digitsOf (getD ns i 0)) (separator (drop (i + 1) ns) ∷ lineOf (drop (i + 1) ns)) in
+    omega arith
+
+-- a number whose text has room is written
+pub number-next :
+    (ns before : List ℕ) (i a w : ℕ) (page ys : List ℕ) →
+    length (lineOf ns) ≤ length before →
+    i < length ns →
+    Going (lineOf ns) before a (lineOf (drop i ns)) page →
+    w ≡ wroteOf (digitsOf (getD ns i 0)) (midOf a (length page - a) page) →
+    ys ≡ pageOf (digitsOf (getD ns i 0)) (midOf a (length page - a) page) →
+    Going (lineOf ns) before (a + w) (separator (drop (i + 1) ns) ∷ lineOf (drop (i + 1) ns)) (putMid a (length page - a) page ys)
+number-next ns before i a w page ys room l g n p =
+    let t = digitsOf (getD ns i 0) in
+    let u = separator (drop (i + 1) ns) ∷ lineOf (drop (i + 1) ns) in
+    let h : Going (lineOf ns) before a (t ++ u) page = go-as (line-next ns i l) g in
+    let fits = go-room room a t u page h in
+    go-next room t u h (n ∙ wrote-all t _ fits) (p ∙ page-all t _ fits)
+
+-- ## What is left of the items' lines
+
+-- ns are the numbers of item i's line
+pub items-next :
+    (c : Cache) (i : ℕ) (ns : List ℕ) → i < c .n → ns ≡ itemNumbers i (usageOf c i) →
+    itemLines i (drop i (usesOf c)) ≡ lineOf ns ++ itemLines (i + 1) (drop (i + 1) (usesOf c))
+unfolding itemLines
+items-next c i ns h e =
+    let u : i < length (usesOf c) = omega (arith, uses-length c) in
+    rw (e, drop-cons (usesOf c) i noUse u, add-one)
+    (ap (λ (x : Use). lineOf (itemNumbers i x) ++ itemLines (suc i) (drop (suc i) (usesOf c))) (use-is c i h))
+
+pub items-end : (c : Cache) (i : ℕ) → c .n ≤ i → itemLines i (drop i (usesOf c)) ≡ []
+unfolding itemLines
+items-end c i h = rw (drop-of-length-le (usesOf c) {i = i} (omega (arith, uses-length c)))
+
+-- the items' lines, an item at a time
+pub items-count :
+    (c : Cache) (i : ℕ) (ns : List ℕ) → i < c .n → ns ≡ itemNumbers i (usageOf c i) →
+    length (itemLines i (drop i (usesOf c))) ≡ length (lineOf ns) + length (itemLines (i + 1) (drop (i + 1) (usesOf c)))
+items-count c i ns h e = ap length (items-next c i ns h e) ∙ length-append (lineOf ns) (itemLines (i + 1) (drop (i + 1) (usesOf c)))
+
+-- ## The last two lines
+
+-- the eight totals, and behind them three numbers of which a report without a rival prints none
+pub figures-alone :
+    (v : Standing) (rival : Rival) (x y z : ℕ) →
+    rival ≡ Absent →
+    take (figureCount rival) (totalNumbers v (Priced x y z)) ≡ totalNumbers v rival
+figures-alone v rival x y z e = rw e
+
+pub figures-priced :
+    (v : Standing) (rival : Rival) (x y z : ℕ) →
+    rival ≡ Priced x y z →
+    take (figureCount rival) (totalNumbers v (Priced x y z)) ≡ totalNumbers v rival
+figures-priced v rival x y z e = rw e
+
+-- the last two lines, from an array whose first numbers are those of the last line
+totals-as :
+    (v : Standing) (rival known : Rival) (ns : List ℕ) →
+    rival ≡ known →
+    take (figureCount rival) ns ≡ totalNumbers v rival →
+    totalLines v rival ≡ totalNames known ++ lineOf (take (figureCount known) ns)
+unfolding totalLines
+totals-as v rival known ns e f =
+    ap (λ (l : List ℕ). totalNames rival ++ lineOf l) (sym f)
+    ∙ ap (λ (x : Rival). totalNames x ++ lineOf (take (figureCount x) ns)) e
+
+pub totals-alone :
+    (v : Standing) (rival : Rival) (ns : List ℕ) →
+    rival ≡ Absent →
+    take (figureCount rival) ns ≡ totalNumbers v rival →
+    totalLines v rival ≡ totalNames Absent ++ lineOf (take 8 ns)
+totals-alone v rival ns e f = totals-as v rival Absent ns e f
+
+-- the names are the same whatever the rival's figures are
+pub totals-priced :
+    (v : Standing) (rival : Rival) (x y z : ℕ) (ns : List ℕ) →
+    length ns ≡ 11 →
+    rival ≡ Priced x y z →
+    take (figureCount rival) ns ≡ totalNumbers v rival →
+    totalLines v rival ≡ totalNames (Priced 0 0 0) ++ lineOf ns
+totals-priced v rival x y z ns l e f =
+    totals-as v rival (Priced x y z) ns e f
+    ∙ ap (λ (m : List ℕ). totalNames (Priced 0 0 0) ++ lineOf m) (take-all 11 ns (omega arith))
+
+-- ## Lengths
+
+pub item-names-count : length itemNames ≡ 29
+unfolding moreWords wordsOf
+item-names-count = refl
+
+pub refusal-names-count : length refusalNames ≡ 13
+unfolding moreWords wordsOf
+refusal-names-count = refl
+
+pub names-alone-count : length (totalNames Absent) ≡ 64
+unfolding moreWords wordsOf
+names-alone-count = refl
+
+pub names-priced-count : (cost left right : ℕ) → length (totalNames (Priced cost left right)) ≡ 81
+unfolding moreWords wordsOf
+names-priced-count cost left right = refl
+
+pub totals-count :
+    (v : Standing) (rival : Rival) → length (totalLines v rival) ≡ length (totalNames rival) + length (lineOf (totalNumbers v rival))
+unfolding totalLines
+totals-count v rival = length-append (totalNames rival) (lineOf (totalNumbers v rival))
+
+pub report-count :
+    (v : Standing) (rival : Rival) →
+    length (reportOf v rival) ≡ 30 + length (itemLines 0 (v .figures .uses)) + length (totalLines v rival)
+unfolding reportOf
+report-count v rival =
+    omega (
+      arith,
+      item-names-count,
+      length-append itemNames (itemLines 0 (v .figures .uses) ++ (10 ∷ totalLines v rival)),
+      length-append (itemLines 0 (v .figures .uses)) (10 ∷ totalLines v rival),
+    )
+
+pub refusal-count : (r : Refusal) → length (refusalText r) ≡ 13 + length (lineOf (refusalNumber r ∷ refusalLine r ∷ []))
+unfolding refusalText
+refusal-count r = omega (arith, refusal-names-count, length-append refusalNames (lineOf (refusalNumber r ∷ refusalLine r ∷ [])))
+
+-- ## The answer
+
+-- a page that is too short, and one with the text
+pub put-short : (t before : List ℕ) → length before < length t → Put t before (Refused (ShortBuffer 0)) before
+unfolding wrote
+put-short t before h = record { answer = rw (lt-leb (length t) (length before) h); page = sym (page-none t before h) }
+
+pub put-whole :
+    (t before after : List ℕ) (n : ℕ) → length t ≤ length before → n ≡ length t → after ≡ over t before → Put t before (Text n) after
+unfolding wrote
+put-whole t before after n h l e =
+    record { answer = rw (le-leb (length t) (length before) h) (ap Text l); page = e ∙ sym (page-all t before h) }
+
+module _ (c : Cache) (rival : Rival) (before : List ℕ) where
+  pub foul-told : (Valid c → ⊥) → Reported c rival before (Refused (InvalidState 0)) before
+  foul-told f = record { fine = λ v. absurd (f v); foul = λ g. (refl, refl) }
+
+  pub fine-told : (r : Written) (after : List ℕ) → Valid c → Put (reportOf (view c) rival) before r after → Reported c rival before r after
+  fine-told r after v p = record { fine = λ w. p; foul = λ f. absurd (f v) }

@@ -1,0 +1,138 @@
+-- No report is longer than `longest`, and no output of a refused input. Assumes nothing.
+use mathlib.Core.Path.{_≡_, refl, ap}
+use mathlib.Core.List.{List, [], _∷_}
+use Prim.Native.Nat.{ℕ, zero, suc, _+_, _*_, _^_, _≤_, _<_}
+use native.Mathlib.Nat.{le-refl}
+use native.Mathlib.Omega.{arith}
+use lib.ListN.{length, drop, length-append}
+use Rattle.decimal.specs.Decimal.{digitsOf}
+use Rattle.decimal.proofs.Laws.{digits-length}
+use Rattle.landlord.specs.declared.Refusal.{Refusal}
+use Rattle.landlord.specs.declared.Refusal.the-variants.{Malformed, Heading, OutOfRange, OutOfSequence, PlanTooLarge, UnknownItem, ItemTooLarge, LogFull, Closed, ActOutOfOrder, NotHeld, AlreadyHeld, OverCapacity, RequestNotHeld, ShortBuffer, InputTooLong, InvalidState}
+use Rattle.landlord.specs.Types.{refusalNumber, refusalLine}
+use Rattle.landlord.specs.Rule.{size}
+use Rattle.landlord.specs.Figures.{Use, useAt}
+use Rattle.landlord.proofs.Sums.{sum-term}
+use Rattle.cache_state.specs.declared.Cache.{Cache}
+use Rattle.cache_state.specs.View.{usageOf, usesOf, stateOf, figuresOf, view}
+use Rattle.cache_state.specs.Valid.{Valid}
+use Rattle.cache_state.proofs.Views.{size-is, use-is}
+use Rattle.report.specs.declared.Rival.{Rival}
+use Rattle.report.specs.declared.Rival.the-variants.{Absent, Priced}
+use Rattle.report.specs.Report.{separator, lineOf, itemNumbers, itemLines, rivalNumbers, totalNames, totalNumbers, reportOf, refusalText, longest, RivalFits}
+use Rattle.report.proofs.Laws.{items-count, items-end, names-alone-count, names-priced-count, totals-count, report-count, refusal-count}
+
+-- a number of at most w digits in front of a line makes it longer by at most w + 1
+cons-longest :
+    (x w m : ℕ) (ns : List ℕ) {k : ℕ} →
+    x < 10 ^ w →
+    (1 ≤ w) × (w + 1 + m ≤ k) →
+    length (lineOf ns) ≤ m →
+    length (lineOf (x ∷ ns)) ≤ k
+unfolding lineOf
+cons-longest x w m ns h k l =
+    omega (arith, digits-length x w h (k .0), length-append (digitsOf x) (separator ns ∷ lineOf ns))
+
+none-longest : length (lineOf []) ≤ 0
+unfolding lineOf
+none-longest = omega arith
+
+-- ## The items
+
+-- what a valid cache has counted for item i
+module _ (c : Cache) (v : Valid c) (i : ℕ) (l : i < c .n) where
+  here : i < size (stateOf c)
+  here = rw (size-is c) l
+
+  few-tenths : usageOf c i .tenths ≤ 240000000
+  few-tenths =
+      let e : useAt (figuresOf c) i .tenths ≡ usageOf c i .tenths = ap (λ (u : Use). u .tenths) (use-is c i l) in
+      omega (arith, v .rule .tenths i here, v .rule .taken)
+
+  few-loads : usageOf c i .loads ≤ 1000000
+  few-loads =
+      let e : useAt (figuresOf c) i .loads ≡ usageOf c i .loads = ap (λ (u : Use). u .loads) (use-is c i l) in
+      omega (arith, sum-term (size (stateOf c)) i (λ j. useAt (figuresOf c) j .loads) here, v .rule .loadsAdd, v .rule .steps, v .rule .taken)
+
+  few-writebacks : usageOf c i .writebacks ≤ 1000000
+  few-writebacks =
+      let e : useAt (figuresOf c) i .writebacks ≡ usageOf c i .writebacks = ap (λ (u : Use). u .writebacks) (use-is c i l) in
+      omega (arith, sum-term (size (stateOf c)) i (λ j. useAt (figuresOf c) j .writebacks) here, v .rule .writebacksAdd, v .rule .writebacks, v .rule .taken)
+
+  item-longest : length (lineOf (itemNumbers i (usageOf c i))) ≤ 30
+  item-longest =
+      cons-longest i 3 26 _ (omega (arith, v .fields .few)) (omega arith)
+      (cons-longest (usageOf c i .tenths) 9 16 _ (omega (arith, few-tenths)) (omega arith)
+      (cons-longest (usageOf c i .loads) 7 8 _ (omega (arith, few-loads)) (omega arith)
+      (cons-longest (usageOf c i .writebacks) 7 0 _ (omega (arith, few-writebacks)) (omega arith) none-longest)))
+
+rest-longest : (c : Cache) → Valid c → (k i : ℕ) → i + k ≡ c .n → length (itemLines i (drop i (usesOf c))) ≤ 30 * k
+rest-longest c v zero i e = omega (arith, ap length (items-end c i (omega arith)))
+rest-longest c v (suc k) i e =
+    omega (
+      arith,
+      items-count c i (itemNumbers i (usageOf c i)) (omega arith) refl,
+      item-longest c v i (omega arith),
+      rest-longest c v k (i + 1) (omega arith),
+    )
+
+pub items-longest : (c : Cache) → Valid c → length (itemLines 0 (usesOf c)) ≤ 7680
+items-longest c v = omega (arith, rest-longest c v (c .n) 0 (omega arith), v .fields .few)
+
+-- ## The totals
+
+rival-longest : (rival : Rival) → RivalFits rival → length (totalNames rival) + length (lineOf (rivalNumbers rival)) ≤ 144
+rival-longest Absent f = omega (arith, names-alone-count, none-longest)
+rival-longest (Priced cost left right) f =
+    let line : length (lineOf (cost ∷ left ∷ right ∷ [])) ≤ 63 =
+    cons-longest cost 20 42 _ (omega arith) (omega arith)
+    (cons-longest left 20 21 _ (omega arith) (omega arith)
+    (cons-longest right 20 0 _ (omega arith) (omega arith) none-longest)) in
+    omega (arith, names-priced-count cost left right)
+
+-- the eight totals and the bytes behind them, in front of a rival's numbers
+totals-longest :
+    (c : Cache) (rival : Rival) → Valid c → length (lineOf (totalNumbers (view c) rival)) ≤ 77 + length (lineOf (rivalNumbers rival))
+totals-longest c rival v =
+    let r = v .rule in
+    let m = length (lineOf (rivalNumbers rival)) in
+    cons-longest (c .hits) 7 (69 + m) _ (omega arith) (omega arith)
+    (cons-longest (c .loads) 7 (61 + m) _ (omega arith) (omega arith)
+    (cons-longest (c .loadcost) 11 (49 + m) _ (omega arith) (omega arith)
+    (cons-longest (c .evictions) 7 (41 + m) _ (omega arith) (omega arith)
+    (cons-longest (c .dirtyevictions) 7 (33 + m) _ (omega arith) (omega arith)
+    (cons-longest (c .writebacks) 7 (25 + m) _ (omega arith) (omega arith)
+    (cons-longest (c .writecost) 11 (13 + m) _ (omega arith) (omega arith)
+    (cons-longest (c .loadcost + c .writecost) 12 m (rivalNumbers rival) (omega arith) (omega arith) (le-refl m))))))))
+
+pub no-longer : (c : Cache) (rival : Rival) → Valid c → RivalFits rival → length (reportOf (view c) rival) ≤ longest
+no-longer c rival v f =
+    omega (arith, report-count (view c) rival, totals-count (view c) rival, items-longest c v, rival-longest rival f, totals-longest c rival v)
+
+-- ## A refusal
+
+few-refusals : (r : Refusal) → refusalNumber r ≤ 17
+few-refusals (Malformed l) = omega arith
+few-refusals (Heading l) = omega arith
+few-refusals (OutOfRange l) = omega arith
+few-refusals (OutOfSequence l) = omega arith
+few-refusals (PlanTooLarge l) = omega arith
+few-refusals (UnknownItem l) = omega arith
+few-refusals (ItemTooLarge l) = omega arith
+few-refusals (LogFull l) = omega arith
+few-refusals (Closed l) = omega arith
+few-refusals (ActOutOfOrder l) = omega arith
+few-refusals (NotHeld l) = omega arith
+few-refusals (AlreadyHeld l) = omega arith
+few-refusals (OverCapacity l) = omega arith
+few-refusals (RequestNotHeld l) = omega arith
+few-refusals (ShortBuffer l) = omega arith
+few-refusals (InputTooLong l) = omega arith
+few-refusals (InvalidState l) = omega arith
+
+pub refusal-no-longer : (r : Refusal) → refusalLine r < 2 ^ 32 → length (refusalText r) ≤ longest
+refusal-no-longer r h =
+    let line : length (lineOf (refusalNumber r ∷ refusalLine r ∷ [])) ≤ 14 =
+    cons-longest (refusalNumber r) 2 11 _ (omega (arith, few-refusals r)) (omega arith)
+    (cons-longest (refusalLine r) 10 0 _ (omega arith) (omega arith) none-longest) in
+    omega (arith, refusal-count r)

@@ -1,0 +1,58 @@
+-- `report::report` meets its contract. Assumes nothing.
+use mathlib.Core.Path.{sym, _∙_}
+use mathlib.Core.Bool.{false≢true}
+use native.Mathlib.Omega.{arith}
+use borrow.Author.Needs.{needs}
+use borrow.Author.Tests.{not-true, not-false}
+use Rattle.cache_state.specs.View.{view}
+use Rattle.cache_state.specs.Valid.{Valid}
+use Rattle.report.specs.Report.{reportOf}
+use Rattle.report.proofs.Laws.{put-short, put-whole, foul-told, fine-told}
+use Rattle.report.proofs.report.Statement.{statement}
+use Rattle.report.proofs.report.Tie as tie
+
+valid-requires : tie.Need-valid-requires
+valid-requires c κs = search needs
+
+returns : tie.Need-returns
+returns c =
+    let a = c .before .before .before .args in
+    foul-told (a .c) (a .rival) (a .page .now) (λ v. false≢true (sym (not-true _ (c .if1 .taken)) ∙ c .before .valid .ensures .only v))
+
+-- past the first test the cache is valid
+valid : (c : tie.Else1) → Valid (c .before .before .before .args .c)
+valid c = c .before .valid .ensures .yes (not-false _ (c .if1 .left))
+
+report-length-requires : tie.Need-report-length-requires
+report-length-requires c κs = valid c
+
+returns-2 : tie.Need-returns-2
+returns-2 c =
+    let a = c .before .before .before .before .before .args in
+    let t = reportOf (view (a .c)) (a .rival) in
+    fine-told (a .c) (a .rival) (a .page .now) _ _ (valid (c .before .before)) (put-short t (a .page .now) (omega arith))
+
+put-report-requires : tie.Need-put-report-requires
+put-report-requires c κs = record { valid = valid (c .before .before .before); room = omega arith }
+
+same-length : tie.Need-same-length
+same-length c = search needs
+
+returns-3 : tie.Need-returns-3
+returns-3 c =
+    let a = c .before .before .before .before .before .before .before .before .before .args in
+    let t = reportOf (view (a .c)) (a .rival) in
+    fine-told (a .c) (a .rival) (a .page .now) _ _ (valid (c .before .before .before .before .before .before))
+    (put-whole t (a .page .now) _ _ (omega arith) (c .before .before .before .before .before .report-length .ensures) (c .before .before .put-report .ensures))
+
+pub report-spec : {M : Type 1} → statement M
+report-spec =
+    tie.close
+    (tie.spec
+    valid-requires
+    returns
+    report-length-requires
+    returns-2
+    put-report-requires
+    same-length
+    returns-3)

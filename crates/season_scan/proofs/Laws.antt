@@ -1,0 +1,220 @@
+-- Laws of the reading that a scan by positions cites: how the first line of what is left leads, what a line that leads on adds, and
+-- how the first field of what is left of a line is found. Assumes nothing.
+use mathlib.Core.Path.{_≡_, refl, sym, _∙_}
+use mathlib.Core.Bool.{Bool, true, false, cond, not, false≢true}
+use mathlib.Core.List.{List, [], _∷_}
+use mathlib.Core.Logic.{_⊎_, inl, inr}
+use Prim.Native.Nat.{ℕ, zero, suc, _+_, _-_, _≤_, _<_}
+use native.Mathlib.Nat.{zero-sub}
+use native.Mathlib.Numerals.{unary-clauses}
+use native.Mathlib.Omega.{arith}
+use borrow.Author.Tests.{ltb-true, ltb-false, eqb-true, ne-eqb}
+use lib.Dec.{leb, ltb, eqb}
+use lib.ListN.{length, take, drop, length-append, length-drop, drop-of-length-le}
+use lib.Seq.{drop-drop, take-take, length-take-le, take-nil, take-all}
+use Rattle.landlord.specs.declared.Refusal.{Refusal}
+use Rattle.landlord.specs.declared.Refusal.the-variants.{Malformed, Heading, OutOfSequence, PlanTooLarge, UnknownItem, ItemTooLarge, ActOutOfOrder}
+use Rattle.landlord.specs.Types.{actItem}
+use Rattle.landlord.specs.Calls.{itemRefusal}
+use Rattle.season_lines.specs.declared.Field.{Field}
+use Rattle.season_lines.specs.declared.Line.{Line}
+use Rattle.season_lines.specs.declared.Line.the-variants.{Sizes, Item as ItemLine, Step as StepLine, Act as ActLine, Refused}
+use Rattle.season_lines.specs.Fields.{before, split, fieldOf, fieldsOf}
+use Rattle.season_lines.specs.Lines.{lineIn}
+use Rattle.season_tables.specs.Tables.{Sofar, Led, on, stop, heading, sameBytes, isBlank, isSized, mayEnd, mustEnd, nowNamed, nextTable, withSizes, withItem, withStep, withAct, inTurn, takes, leads, atEnd, goesOn, readFrom}
+use Rattle.season_tables.specs.Holds.{wantsValues}
+use Rattle.season_lines.proofs.Pieces.{before-le, before-take, split-last, split-more, split-some, fields-last, fields-more, line-step, line-act}
+
+-- ## The first line of what is left
+
+pub line-first :
+    (n : ℕ) (s : List ℕ) (v : Sofar) →
+    length (before 10 s) < length s →
+    readFrom n (split 10 s) v
+    ≡ goesOn (leads v (before 10 s) n) (readFrom (suc n) (split 10 (drop (length (before 10 s) + 1) s)))
+unfolding readFrom
+line-first n s v h = rw (split-more 10 s h, split-some 10 (drop (length (before 10 s) + 1) s) .1)
+
+-- where the first line ends, as it is found: in the part of the text from byte `at` up to the text's end
+pub line-end :
+    (s : List ℕ) (at m : ℕ) →
+    m ≡ length (before 10 (take (length s - at) (drop at s))) →
+    at + m ≡ at + length (before 10 (drop at s))
+line-end s at m e = rw (e, take-all (length s - at) (drop at s) (omega (arith, length-drop at s)))
+
+-- nothing is left
+pub nothing-left : (n at : ℕ) (s : List ℕ) (v : Sofar) → length s ≤ at → readFrom n (split 10 (drop at s)) v ≡ atEnd v n
+unfolding readFrom split
+nothing-left n at s v h = rw (drop-of-length-le s {i = at} h)
+
+-- bytes without a line feed are left
+pub no-feed :
+    (n : ℕ) (s : List ℕ) (v : Sofar) →
+    0 < length s →
+    length s ≤ length (before 10 s) →
+    readFrom n (split 10 s) v ≡ stop (Malformed n)
+unfolding readFrom
+no-feed n s v p h = rw (split-last 10 s h, ne-eqb (length (before 10 s)) 0 (λ e. omega arith))
+
+-- ## Where a line leads
+
+-- whether a line's fields are looked at, by what has been read
+abbrev pub wantsHere : Sofar → List ℕ → Bool
+wantsHere v l = wantsValues (v .named) (v .table) (v .k) (length l)
+
+pub by-values :
+    (v : Sofar) (l : List ℕ) (n : ℕ) → wantsHere v l ≡ true → leads v l n ≡ takes v (lineIn (v .table) (fieldsOf l) n) n
+unfolding wantsValues leads
+by-values v l n h =
+    go (v .named) (cond (isBlank l) (mayEnd (v .table) (v .k)) false) (mustEnd (v .table) (v .k)) (on (nextTable v))
+    (stop (Malformed n)) (takes v (lineIn (v .table) (fieldsOf l) n) n)
+    (cond (sameBytes l (heading (v .table))) (on (nowNamed v)) (stop (Heading n))) h
+  where
+    go : (a b c : Bool) (x y z w : Led) → cond a (cond b false (not c)) false ≡ true → cond a (cond b x (cond c y z)) w ≡ z
+    go true true c x y z w e = absurd (false≢true e)
+    go true false true x y z w e = absurd (false≢true e)
+    go true false false x y z w e = refl
+    go false b c x y z w e = absurd (false≢true e)
+
+-- a line that is torn by its fields alone
+pub torn-line :
+    (v : Sofar) (l : List ℕ) (n : ℕ) →
+    wantsHere v l ≡ true →
+    lineIn (v .table) (fieldsOf l) n ≡ Refused (Malformed n) →
+    leads v l n ≡ stop (Malformed n)
+unfolding takes
+torn-line v l n h e = by-values v l n h ∙ rw e
+
+-- ## What a line that leads on adds
+
+-- one more, and then of a line of three fields
+abbrev pub Adds : ℕ → ℕ → Bool → ℕ → Type 0
+Adds a b wants fields = (b ≡ a) ⊎ ((b ≡ a + 1) × (wants ≡ true) × (fields ≡ 3))
+
+pub record Grows (v w : Sofar) (wants : Bool) (fields : ℕ) : Type 0 where
+  pub table : v .table ≤ 3 → w .table ≤ 3
+  pub steps : Adds (length (v .steps)) (length (w .steps)) wants fields
+  pub acts : Adds (length (v .acts)) (length (w .acts)) wants fields
+
+no-on : (r : Refusal) (w : Sofar) → stop r ≡ on w → ⊥
+no-on r w e = let z : _≡_ {A = ℕ} 0 1 = cc in omega arith
+
+if-on : (t : Bool) (x w : Sofar) (r : Refusal) → cond t (on x) (stop r) ≡ on w → x ≡ w
+if-on true x w r e = cc
+if-on false x w r e = absurd (no-on r w e)
+
+if-both : (t u : Bool) (x w : Sofar) (r q : Refusal) → cond t (cond u (on x) (stop r)) (stop q) ≡ on w → x ≡ w
+if-both true u x w r q e = if-on u x w r e
+if-both false u x w r q e = absurd (no-on q w e)
+
+grows-to : (v x w : Sofar) (b : Bool) (f : ℕ) → x ≡ w → Grows v x b f → Grows v w b f
+grows-to v x w b f e g = rw e at g
+
+-- a value line
+grown-by :
+    (v w : Sofar) (table : ℕ) (fs : List Field) (n : ℕ) → takes v (lineIn table fs n) n ≡ on w → Grows v w true (length fs)
+unfolding takes
+grown-by v w table fs n e = go (lineIn table fs n) refl e
+  where
+    go : (line : Line) → lineIn table fs n ≡ line → takes v line n ≡ on w → Grows v w true (length fs)
+    go (Sizes k h) l e =
+        grows-to v (withSizes v k h) w true (length fs) (if-on (leb h k) (withSizes v k h) w (PlanTooLarge n) e)
+        (record { table = λ t. t; steps = inl refl; acts = inl refl })
+    go (ItemLine i k l m) q e =
+        grows-to v (withItem v k l m) w true (length fs)
+        (if-on (eqb i (length (v .catalog))) (withItem v k l m) w (OutOfSequence n) e)
+        (record { table = λ t. t; steps = inl refl; acts = inl refl })
+    go (StepLine s) l e =
+        let number = itemRefusal (v .k) (v .catalog) s in
+        grows-to v (withStep v s) w true (length fs)
+        (if-on (eqb number 0) (withStep v s) w (cond (eqb number 6) (UnknownItem n) (ItemTooLarge n)) e)
+        (record {
+          table = λ t. t;
+          steps = inr (length-append (v .steps) (s ∷ []), refl, line-step table fs n s l .0);
+          acts = inl refl;
+        })
+    go (ActLine place act) l e =
+        grows-to v (withAct v place act) w true (length fs)
+        (if-both (inTurn v place) (ltb (actItem act) (length (v .catalog))) (withAct v place act) w (UnknownItem n)
+        (ActOutOfOrder n) e)
+        (record {
+          table = λ t. t;
+          steps = inl refl;
+          acts = inr (length-append (v .acts) _, refl, line-act table fs n place act l .0);
+        })
+    go (Refused r) l e = absurd (no-on r w e)
+
+-- the last table has no blank line behind it
+may-end : (b : Bool) (table k : ℕ) → cond b (mayEnd table k) false ≡ true → table < 3
+may-end b table k e = go b (eqb table 0) (isSized k) (ltb table 3) refl refl e
+  where
+    go : (b z s t : Bool) → eqb table 0 ≡ z → ltb table 3 ≡ t → cond b (cond z s t) false ≡ true → table < 3
+    go true true s t ez et e = let x = eqb-true table 0 ez in omega arith
+    go true false s t ez et e = ltb-true table 3 (et ∙ e)
+    go false z s t ez et e = absurd (false≢true e)
+
+pub grown : (v w : Sofar) (l : List ℕ) (n : ℕ) → leads v l n ≡ on w → Grows v w (wantsHere v l) (length (fieldsOf l))
+unfolding wantsValues leads
+grown v w l n e =
+    go (v .named) (cond (isBlank l) (mayEnd (v .table) (v .k)) false) (mustEnd (v .table) (v .k)) (sameBytes l (heading (v .table)))
+    (may-end (isBlank l) (v .table) (v .k)) e
+  where
+    go :
+        (a p m d : Bool) →
+        (p ≡ true → v .table < 3) →
+        cond a (cond p (on (nextTable v)) (cond m (stop (Malformed n)) (takes v (lineIn (v .table) (fieldsOf l) n) n)))
+        (cond d (on (nowNamed v)) (stop (Heading n)))
+        ≡ on w →
+        Grows v w (cond a (cond p false (not m)) false) (length (fieldsOf l))
+    go true true m d below e =
+        grows-to v (nextTable v) w false (length (fieldsOf l)) (cc)
+        (record { table = λ t. below refl; steps = inl refl; acts = inl refl })
+    go true false true d below e = absurd (no-on (Malformed n) w e)
+    go true false false d below e = grown-by v w (v .table) (fieldsOf l) n e
+    go false p m true below e =
+        grows-to v (nowNamed v) w false (length (fieldsOf l)) (cc) (record { table = λ t. t; steps = inl refl; acts = inl refl })
+    go false p m false below e = absurd (no-on (Heading n) w e)
+
+-- ## The first field of what is left of a line
+
+-- the fields from byte i up to the line's end, or none, if no field is left
+abbrev pub fieldsFrom : List ℕ → ℕ → ℕ → Bool → List Field
+fieldsFrom s i end more = cond more (fieldsOf (take (end - i) (drop i s))) []
+
+drop-take : (n k : ℕ) (l : List ℕ) → drop n (take k l) ≡ take (k - n) (drop n l)
+drop-take zero k l = simp unary-clauses
+drop-take (suc n) zero l = rw (zero-sub (suc n))
+drop-take (suc n) (suc k) [] = sym (take-nil (suc k - suc n))
+drop-take (suc n) (suc k) (x ∷ l) = simp unary-clauses (drop-take n k l)
+
+pub length-part : (s : List ℕ) (i end : ℕ) → end ≤ length s → length (take (end - i) (drop i s)) ≡ end - i
+length-part s i end h = rw (length-take-le (end - i) (drop i s) (rw length-drop (omega arith)))
+
+pub field-first :
+    (s : List ℕ) (i end m : ℕ) →
+    i ≤ end →
+    end ≤ length s →
+    m ≡ length (before 32 (take (end - i) (drop i s))) →
+    fieldsOf (take (end - i) (drop i s)) ≡ fieldOf (take m (drop i s)) ∷ fieldsFrom s (i + m + 1) end (ltb (i + m) end)
+field-first s i end m h k e = go (ltb (i + m) end) refl
+  where
+    left : List ℕ
+    left = take (end - i) (drop i s)
+
+    size : length left ≡ end - i
+    size = length-part s i end k
+
+    first : before 32 left ≡ take m (drop i s)
+    first =
+        sym (before-take 32 left) ∙ rw (← e) (take-take m (end - i) (drop i s) (omega (arith, before-le 32 left, size)))
+
+    behind : drop (length (before 32 left) + 1) left ≡ take (end - (i + m + 1)) (drop (i + m + 1) s)
+    behind =
+        let a : length (before 32 left) + 1 ≡ m + 1 = omega arith in
+        let b : end - i - (m + 1) ≡ end - (i + m + 1) = omega arith in
+        let c : i + (m + 1) ≡ i + m + 1 = omega arith in
+        rw (a, drop-take (m + 1) (end - i) (drop i s), drop-drop (m + 1) i s, b, c)
+
+    go : (t : Bool) → ltb (i + m) end ≡ t → fieldsOf left ≡ fieldOf (take m (drop i s)) ∷ fieldsFrom s (i + m + 1) end t
+    go true t = rw (← first, ← behind) (fields-more left (omega (arith, size, ltb-true (i + m) end t)))
+    go false t = rw (← first) (fields-last left (omega (arith, size, ltb-false (i + m) end t)))
