@@ -6,13 +6,20 @@ ghost use Prim.Native.Nat.{_≤_, _<_};
 ghost use lib.ListN.{length, take};
 ghost use Rattle.cache_state.specs.View.{view, usageOf, usesOf};
 ghost use Rattle.cache_state.specs.Valid.{Valid};
-ghost use Rattle.report.specs.Report.{lineOf, itemNumbers, itemLines, totalNumbers, totalLines, reportOf, refusalText, Put, Reported};
+ghost use Rattle.report.specs.Report.{lineOf, itemNumbers, itemLines, totalNumbers, totalLines, reportOf, refusalText, Put, Reported, longest};
 ghost use Rattle.report.specs.Lines.{over, TextFits, figureCount};
 use cache_state::Cache;
 use landlord::Refusal;
 
 // The bytes of the longest report there can be, with or without a rival's figures.
 pub const LONGEST: usize = 7931;
+
+// That constant, for callers outside Rattle: a page of so many bytes has room for every report.
+pub fn longest_length() -> usize
+    ensures { λ r. ⌜ r ≡ longest ⌝ }
+{
+    LONGEST
+}
 
 // What the last two lines say of a rival plan: nothing, or its cost and the two sides of the bound.
 pub enum Rival {

@@ -8,7 +8,6 @@ use season_lines::Field;
 use season_tables::Scanned;
 use season_tables::Verdict;
 
-
 // Reads the tables up to the first faulty line. The steps are noted in `calls`, four numbers each, and the acts in `acts`, three.
 pub fn scan(s: &[u8], calls: &mut [u32], acts: &mut [u32]) -> Scanned
     requires { ⌜ Scannable (now s) (now calls) (now acts) ⌝ }

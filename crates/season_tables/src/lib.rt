@@ -276,11 +276,12 @@ fn take_act(seen: Seen, place: u32, act: Act, at: u32, acts: &mut [u32]) -> Scan
     ensures { λ r. ⌜ NotesAct seen (now (acts .entry)) (λ v. takes v (ActLine place act) at) r (now (acts .exit)) ⌝ }
     ensures { λ _. ⌜ length (now (acts .exit)) ≡ length (now (acts .entry)) ⌝ }
 {
+    let item = act.item() as usize;
     // It may not fall, and there is such a step.
     if place < seen.last || seen.steps <= place as usize {
         return stopped(seen, Refusal::ActOutOfOrder { line: at });
     }
-    if seen.n <= act.item() as usize {
+    if seen.n <= item {
         return stopped(seen, Refusal::UnknownItem { line: at });
     }
     let count = seen.acts;

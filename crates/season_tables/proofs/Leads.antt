@@ -1,0 +1,117 @@
+-- Laws of a line that is ended by its line feed: which of the three it is, the line of names, a line with values or the blank line,
+-- and where it leads. Assumes nothing.
+use mathlib.Core.Path.{_≡_, refl, sym, ap, subst, _∙_}
+use mathlib.Core.Bool.{Bool, true, false, cond, not, false≢true}
+use mathlib.Core.List.{List}
+use Prim.Native.Nat.{ℕ}
+use lib.ListN.{length}
+use lib.Dec.{eqb, leb, ltb}
+use Rattle.landlord.specs.declared.Refusal.the-variants.{Malformed, Heading}
+use Rattle.season_lines.specs.declared.Field.{Field}
+use Rattle.season_lines.specs.declared.Line.{Line}
+use Rattle.season_lines.specs.declared.Line.the-variants.{Sizes, Item as ItemLine, Step as StepLine, Act as ActLine, Refused as RefusedLine}
+use Rattle.season_lines.specs.Fields.{fieldsOf}
+use Rattle.season_lines.specs.Lines.{lineIn}
+use Rattle.season_lines.proofs.Pieces.{line-item}
+use Rattle.season_tables.specs.declared.Seen.{Seen}
+use Rattle.season_tables.specs.declared.Scanned.{Scanned}
+use Rattle.season_tables.specs.Tables.{Sofar, Led, on, stop, nowNamed, nextTable, heading, sameBytes, mayEnd, mustEnd, takes, leads}
+use Rattle.season_tables.specs.Holds.{Holds, Leads, LeadsFrom, LeadsBy, LineLeads, Numbered, wantsValues}
+
+unnamed : {A : Type 0} (t : Bool) (x y : A) → t ≡ false → cond t x y ≡ y
+unnamed true x y e = absurd (false≢true (sym e))
+unnamed false x y e = refl
+
+-- the tests of a line with values, and of the blank line
+valued : {A : Type 0} (p t m : Bool) (x y z w : A) → cond p (cond t false (not m)) false ≡ true → cond p (cond t x (cond m y z)) w ≡ z
+valued true true m x y z w e = absurd (false≢true e)
+valued true false true x y z w e = absurd (false≢true e)
+valued true false false x y z w e = refl
+valued false t m x y z w e = absurd (false≢true e)
+
+blank :
+    {A : Type 0} (p b may m : Bool) (x y z w : A) →
+    (m ≡ true → may ≡ true) →
+    p ≡ true →
+    cond p (cond (cond b may false) false (not m)) false ≡ false →
+    cond p (cond (cond b may false) x (cond m y z)) w ≡ cond b x y
+blank true true true m x y z w f g e = refl
+blank true true false true x y z w f g e = absurd (false≢true (f refl))
+blank true true false false x y z w f g e = absurd (false≢true (sym e))
+blank true false may true x y z w f g e = refl
+blank true false may false x y z w f g e = absurd (false≢true (sym e))
+blank false b may m x y z w f g e = absurd (false≢true g)
+
+must-may : (table k : ℕ) → mustEnd table k ≡ true → mayEnd table k ≡ true
+must-may table k = go (eqb table 0)
+  where
+    go : (t : Bool) → cond t (leb 1 k) false ≡ true → cond t (leb 1 k) (ltb table 3) ≡ true
+    go true e = e
+    go false e = absurd (false≢true e)
+
+-- where each leads
+module _ (v : Sofar) (l : List ℕ) (n : ℕ) where
+  pub leads-names : v .named ≡ false → leads v l n ≡ cond (sameBytes l (heading (v .table))) (on (nowNamed v)) (stop (Heading n))
+  unfolding leads
+  leads-names e = unnamed (v .named) _ _ e
+
+  pub leads-values : wantsValues (v .named) (v .table) (v .k) (length l) ≡ true → leads v l n ≡ takes v (lineIn (v .table) (fieldsOf l) n) n
+  unfolding leads wantsValues
+  leads-values e = valued (v .named) (cond (eqb (length l) 0) (mayEnd (v .table) (v .k)) false) (mustEnd (v .table) (v .k)) _ _ _ _ e
+
+  pub leads-blank :
+      v .named ≡ true →
+      wantsValues (v .named) (v .table) (v .k) (length l) ≡ false →
+      leads v l n ≡ cond (eqb (length l) 0) (on (nextTable v)) (stop (Malformed n))
+  unfolding leads wantsValues
+  leads-blank e f =
+      blank (v .named) (eqb (length l) 0) (mayEnd (v .table) (v .k)) (mustEnd (v .table) (v .k)) _ _ _ _ (must-may (v .table) (v .k)) e f
+
+-- an item's line has a number that has a place
+pub line-numbered : (table : ℕ) (fs : List Field) (n : ℕ) (line : Line) → line ≡ lineIn table fs n → Numbered line
+line-numbered table fs n (Sizes k h) e = tt
+line-numbered table fs n (ItemLine i b l w) e = line-item table fs n i b l w (sym e) .0
+line-numbered table fs n (StepLine s) e = tt
+line-numbered table fs n (ActLine place act) e = tt
+line-numbered table fs n (RefusedLine r) e = tt
+
+-- and so for the struct
+module _ (q : Seen) (calls acts l : List ℕ) (fs : List Field) (n : ℕ) (r : Scanned) where
+  pub lead-names :
+      (right : Bool) →
+      q .named ≡ false →
+      right ≡ sameBytes l (heading (q .table)) →
+      LeadsBy q (λ v. cond right (on (nowNamed v)) (stop (Heading n))) r →
+      LineLeads q calls acts l fs n r calls acts
+  lead-names right e f led v h looked =
+      let same : right ≡ sameBytes l (heading (v .table)) = f ∙ ap (λ (t : ℕ). sameBytes l (heading t)) (h .table) in
+      subst (λ (x : Led). Leads x r calls acts)
+      (ap (λ (t : Bool). cond t (on (nowNamed v)) (stop (Heading n))) same ∙ sym (leads-names v l n (sym (h .named) ∙ e)))
+      (led calls acts v h)
+
+  same-wants : (v : Sofar) → Holds q calls acts v → q .named ≡ true → wantsValues (v .named) (v .table) (v .k) (length l) ≡ wantsValues true (q .table) (q .k) (length l)
+  same-wants v h e = λ i. wantsValues ((sym (h .named) ∙ e) i) (sym (h .table) i) (sym (h .k) i) (length l)
+
+  pub lead-values :
+      (line : Line) (calls-after acts-after : List ℕ) →
+      q .named ≡ true →
+      wantsValues true (q .table) (q .k) (length l) ≡ true →
+      line ≡ lineIn (q .table) fs n →
+      LeadsFrom q calls acts (λ v. takes v line n) r calls-after acts-after →
+      LineLeads q calls acts l fs n r calls-after acts-after
+  lead-values line calls-after acts-after e f g led v h looked =
+      let wants = same-wants v h e ∙ f in
+      let same : line ≡ lineIn (v .table) (fieldsOf l) n = g ∙ (λ i. lineIn (h .table i) (looked wants i) n) in
+      subst (λ (x : Led). Leads x r calls-after acts-after)
+      (ap (λ (x : Line). takes v x n) same ∙ sym (leads-values v l n wants))
+      (led v h)
+
+  pub lead-blank :
+      q .named ≡ true →
+      wantsValues true (q .table) (q .k) (length l) ≡ false →
+      LeadsBy q (λ v. cond (eqb (length l) 0) (on (nextTable v)) (stop (Malformed n))) r →
+      LineLeads q calls acts l fs n r calls acts
+  lead-blank e f led v h looked =
+      subst (λ (x : Led). Leads x r calls acts)
+      (sym (leads-blank v l n (sym (h .named) ∙ e) (same-wants v h e ∙ f)))
+      (led calls acts v h)

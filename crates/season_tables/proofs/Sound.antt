@@ -1,0 +1,441 @@
+-- What an accepted text keeps (specs/Sound.antt), where its reading ends, and that it has no more steps and acts than bytes. What is
+-- claimed after i lines (After) holds before the first line, and each line that leads on keeps it. Assumes nothing.
+use mathlib.Core.Path.{_≡_, refl, subst}
+use mathlib.Core.Bool.{Bool, true, false, cond, _&&_, false≢true}
+use mathlib.Core.List.{List, [], _∷_, _++_}
+use Prim.Native.Nat.{ℕ, suc, _+_, _-_, _≤_, _<_}
+use native.Mathlib.Omega.{arith}
+use native.Mathlib.Decide.{ℕ-discrete}
+use lib.ListN.{length, getD, length-append, List·getD-append}
+use lib.Seq.{getD-append-seam}
+use lib.Dec.{leb, ltb, eqb}
+use borrow.Author.Tests.{eqb-true, eqb-false, leb-true, ltb-true, lt-leb}
+use Rattle.landlord.specs.declared.Step.{Step}
+use Rattle.landlord.specs.declared.Step.the-variants.{Read, Write, Flush}
+use Rattle.landlord.specs.declared.Act.{Act}
+use Rattle.landlord.specs.declared.Act.the-variants.{Fetch}
+use Rattle.landlord.specs.Types.{stepKind, stepItem, stepMinutes, actItem}
+use Rattle.landlord.specs.Fold.{fold}
+use Rattle.landlord.specs.Catalog.{Catalog, ItemOk, CatalogOk, noItem}
+use Rattle.landlord.specs.Calls.{callOf, stepOf, itemInRange, inRange, itemRefusal, refusalAt}
+use Rattle.landlord.proofs.Folds.{either, fold-append}
+use Rattle.landlord.proofs.Calls.{item-in-range}
+use Rattle.season_lines.specs.declared.Field.{Field}
+use Rattle.season_lines.specs.declared.Line.{Line}
+use Rattle.season_lines.specs.declared.Line.the-variants.{Sizes, Item as ItemLine, Step as StepLine, Act as ActLine, Refused}
+use Rattle.season_lines.specs.Fields.{onto, split, fieldsOf}
+use Rattle.season_lines.specs.Lines.{itemFrom, lineIn}
+use Rattle.season_lines.proofs.Laws.{and-parts}
+use Rattle.season_lines.proofs.Pieces.{line-sizes, line-item, line-step, table-sizes, table-item, table-step, table-act}
+use Rattle.season_tables.specs.Tables.{Placed, Sofar, Led, on, stop, atStart, nowNamed, nextTable, withSizes, withItem, withStep, withAct, lastPlace, inTurn, takes, mayEnd, mustEnd, isBlank, heading, sameBytes, leads, atEnd, goesOn, readFrom, readingOf}
+use Rattle.season_tables.specs.Sound.{placedAt, Sound}
+
+-- what is claimed of a reading where it leads on
+abbrev Leading : (Sofar → Type 0) → Led → Type 0
+Leading P (on w) = P w
+Leading P (stop r) = Unit {0}
+
+-- what a value line of a table says of its own numbers
+abbrev Says : ℕ → Line → Type 0
+Says table (Sizes k h) = (table ≡ 0) × (1 ≤ k) × (k ≤ 4096) × (1 ≤ h)
+Says table (ItemLine i b l w) = (table ≡ 1) × (i ≤ 255) × (itemInRange (itemFrom b l w) ≡ true)
+Says table (StepLine s) = (table ≡ 2) × (inRange (stepKind s) (stepItem s) (stepMinutes s) ≡ true)
+Says table (ActLine place act) = 3 ≤ table
+Says table (Refused r) = Unit {0}
+
+line-says : (table : ℕ) (fs : List Field) (n : ℕ) → Says table (lineIn table fs n)
+line-says table fs n = go (lineIn table fs n) refl
+  where
+    go : (x : Line) → lineIn table fs n ≡ x → Says table x
+    go (Sizes k h) e = let f = line-sizes table fs n k h e in (table-sizes table fs n k h e .0, f .0, f .1, f .2)
+    go (ItemLine i b l w) e = let f = line-item table fs n i b l w e in (table-item table fs n i b l w e .0, f .0, f .1)
+    go (StepLine s) e = (table-step table fs n s e .0, line-step table fs n s e .1)
+    go (ActLine place act) e = table-act table fs n place act e .0
+    go (Refused r) e = tt
+
+-- a step of a text: in range, and its item known and not too large
+record StepFits (k : ℕ) (cat : Catalog) (s : Step) : Type 0 where
+  ranged : inRange (stepKind s) (stepItem s) (stepMinutes s) ≡ true
+  taken : itemRefusal k cat s ≡ 0
+
+-- an act of a text: of a known item, before some step, and no later than the last act
+record ActFits (v : Sofar) (a : Placed) : Type 0 where
+  known : actItem (a .act) < length (v .catalog)
+  within : a .place < length (v .steps)
+  passed : a .place ≤ lastPlace (v .acts)
+
+-- the sizes, which are 0 before they are read
+record SizesFit (k h : ℕ) : Type 0 where
+  high : k ≤ 4096
+  rivalLow : 1 ≤ k → 1 ≤ h
+  rivalHigh : h ≤ k
+
+-- what holds after any lines
+record Partial (v : Sofar) : Type 0 where
+  tables : v .table ≤ 3
+  sized : 1 ≤ v .table → 1 ≤ v .k
+  noSteps : v .table ≤ 1 → length (v .steps) ≡ 0
+  noActs : v .table ≤ 2 → length (v .acts) ≡ 0
+  sizes : SizesFit (v .k) (v .h)
+  catalog : CatalogOk (v .catalog)
+  steps : (j : ℕ) → j < length (v .steps) → StepFits (v .k) (v .catalog) (getD (v .steps) j Flush)
+  acts : (j : ℕ) → j < length (v .acts) → ActFits v (placedAt (v .acts) j)
+  inOrder : (i j : ℕ) → i ≤ j → j < length (v .acts) → placedAt (v .acts) i .place ≤ placedAt (v .acts) j .place
+
+-- and after i lines, each of which adds a step, or an act, or neither
+record After (i : ℕ) (v : Sofar) : Type 0 where
+  few : length (v .steps) + length (v .acts) ≤ i
+  so : Partial v
+
+-- a list of length 0 has no place j
+none : {A : Type 0} (n j : ℕ) → n ≡ 0 → j < n → A
+none n j e l = absurd (omega arith)
+
+-- what holds of each element of a list, and of one more, holds of each of them
+each-more :
+    {A : Type 0} (P : A → Type 0) (d : A) (xs : List A) (x : A) →
+    ((j : ℕ) → j < length xs → P (getD xs j d)) →
+    P x →
+    (j : ℕ) → j < length (xs ++ (x ∷ [])) → P (getD (xs ++ (x ∷ [])) j d)
+each-more P d xs x h p j l = go (ℕ-discrete j (length xs))
+  where
+    go : Dec (j ≡ length xs) → P (getD (xs ++ (x ∷ [])) j d)
+    go (yes e) = rw (e, getD-append-seam xs x [] d) p
+    go (no e) =
+        let b : j < length xs = omega (arith, length-append xs (x ∷ [])) in
+        rw (List·getD-append xs (x ∷ []) d j b) (h j b)
+
+start-after : After 0 atStart
+start-after =
+    record {
+      few = omega arith;
+      so =
+          record {
+            tables = omega arith;
+            sized = λ l. absurd (omega arith);
+            noSteps = λ l. refl;
+            noActs = λ l. refl;
+            sizes = record { high = omega arith; rivalLow = λ l. absurd (omega arith); rivalHigh = omega arith };
+            catalog = record { few = omega arith; each = λ i l. none 0 i refl l };
+            steps = λ j l. none 0 j refl l;
+            acts = λ j l. none 0 j refl l;
+            inOrder = λ i j m l. none 0 j refl l;
+          };
+    }
+
+-- an act that fits still fits when more has been read
+act-fits :
+    (v w : Sofar) (a : Placed) →
+    length (v .catalog) ≤ length (w .catalog) →
+    length (v .steps) ≤ length (w .steps) →
+    lastPlace (v .acts) ≤ lastPlace (w .acts) →
+    ActFits v a →
+    ActFits w a
+act-fits v w a c s p f = record { known = omega (arith, f .known); within = omega (arith, f .within); passed = omega (arith, f .passed) }
+
+-- ## Each line that leads on keeps it
+
+-- the line of names
+named-after : (i : ℕ) (v : Sofar) → After i v → After (suc i) (nowNamed v)
+named-after i v p =
+    let q = p .so in
+    record {
+      few = omega (arith, p .few);
+      so =
+          record {
+            tables = q .tables;
+            sized = q .sized;
+            noSteps = q .noSteps;
+            noActs = q .noActs;
+            sizes = q .sizes;
+            catalog = q .catalog;
+            steps = q .steps;
+            acts = λ j l. act-fits v (nowNamed v) _ (omega arith) (omega arith) (omega arith) (q .acts j l);
+            inOrder = q .inOrder;
+          };
+    }
+
+-- a blank line ends table 0 only behind the sizes, and never table 3
+may-end : (table k : ℕ) → mayEnd table k ≡ true → (table < 3) × (table ≡ 0 → 1 ≤ k)
+may-end table k e = go (eqb table 0) refl e
+  where
+    go : (t : Bool) → eqb table 0 ≡ t → cond t (leb 1 k) (ltb table 3) ≡ true → (table < 3) × (table ≡ 0 → 1 ≤ k)
+    go true z e = (omega (arith, eqb-true table 0 z), λ q. leb-true 1 k e)
+    go false z e = (ltb-true table 3 e, λ q. absurd (eqb-false table 0 z q))
+
+-- the blank line
+next-after : (i : ℕ) (v : Sofar) → After i v → mayEnd (v .table) (v .k) ≡ true → After (suc i) (nextTable v)
+next-after i v p e =
+    let q = p .so in
+    let m = may-end (v .table) (v .k) e in
+    record {
+      few = omega (arith, p .few);
+      so =
+          record {
+            tables = m .0;
+            sized = λ l. sized (ℕ-discrete (v .table) 0);
+            noSteps = λ l. q .noSteps (omega arith);
+            noActs = λ l. q .noActs (omega arith);
+            sizes = q .sizes;
+            catalog = q .catalog;
+            steps = q .steps;
+            acts = λ j l. act-fits v (nextTable v) _ (omega arith) (omega arith) (omega arith) (q .acts j l);
+            inOrder = q .inOrder;
+          };
+    }
+  where
+    sized : Dec (v .table ≡ 0) → 1 ≤ v .k
+    sized (yes z) = may-end (v .table) (v .k) e .1 z
+    sized (no z) = p .so .sized (omega arith)
+
+-- a value line of each table: what stands in the later tables is not read yet
+sizes-after : (i : ℕ) (v : Sofar) (k h : ℕ) → After i v → Says (v .table) (Sizes k h) → h ≤ k → After (suc i) (withSizes v k h)
+sizes-after i v k h p s l =
+    let q = p .so in
+    let noSteps : length (v .steps) ≡ 0 = q .noSteps (omega arith) in
+    let noActs : length (v .acts) ≡ 0 = q .noActs (omega arith) in
+    record {
+      few = omega (arith, p .few);
+      so =
+          record {
+            tables = q .tables;
+            sized = λ l. s .1;
+            noSteps = q .noSteps;
+            noActs = q .noActs;
+            sizes = record { high = s .2; rivalLow = λ l. s .3; rivalHigh = l };
+            catalog = q .catalog;
+            steps = λ j l. none _ j noSteps l;
+            acts = λ j l. none _ j noActs l;
+            inOrder = λ i j m l. none _ j noActs l;
+          };
+    }
+
+item-after :
+    (i : ℕ) (v : Sofar) (number b l w : ℕ) →
+    After i v →
+    Says (v .table) (ItemLine number b l w) →
+    number ≡ length (v .catalog) →
+    After (suc i) (withItem v b l w)
+item-after i v number b l w p s e =
+    let q = p .so in
+    let noSteps : length (v .steps) ≡ 0 = q .noSteps (omega arith) in
+    let noActs : length (v .acts) ≡ 0 = q .noActs (omega arith) in
+    record {
+      few = omega (arith, p .few);
+      so =
+          record {
+            tables = q .tables;
+            sized = q .sized;
+            noSteps = q .noSteps;
+            noActs = q .noActs;
+            sizes = q .sizes;
+            catalog =
+                record {
+                  few = omega (arith, length-append (v .catalog) (itemFrom b l w ∷ []));
+                  each = each-more ItemOk noItem (v .catalog) (itemFrom b l w) (q .catalog .each) (item-in-range (itemFrom b l w) (s .2));
+                };
+            steps = λ j l. none _ j noSteps l;
+            acts = λ j l. none _ j noActs l;
+            inOrder = λ i j m l. none _ j noActs l;
+          };
+    }
+
+step-after :
+    (i : ℕ) (v : Sofar) (s : Step) →
+    After i v →
+    Says (v .table) (StepLine s) →
+    itemRefusal (v .k) (v .catalog) s ≡ 0 →
+    After (suc i) (withStep v s)
+step-after i v s p r e =
+    let q = p .so in
+    let noActs : length (v .acts) ≡ 0 = q .noActs (omega arith) in
+    record {
+      few = omega (arith, p .few, length-append (v .steps) (s ∷ []));
+      so =
+          record {
+            tables = q .tables;
+            sized = q .sized;
+            noSteps = λ l. absurd (omega arith);
+            noActs = q .noActs;
+            sizes = q .sizes;
+            catalog = q .catalog;
+            steps = each-more (StepFits (v .k) (v .catalog)) Flush (v .steps) s (q .steps) (record { ranged = r .1; taken = e });
+            acts = λ j l. none _ j noActs l;
+            inOrder = λ i j m l. none _ j noActs l;
+          };
+    }
+
+-- the last place is that of the act just read
+last-more : (acts : List Placed) (a : Placed) → lastPlace (acts ++ (a ∷ [])) ≡ a .place
+unfolding fold
+last-more acts a = fold-append (λ (p : ℕ) (a : Placed). a .place) 0 acts (a ∷ [])
+
+act-after :
+    (i : ℕ) (v : Sofar) (place : ℕ) (act : Act) →
+    After i v →
+    3 ≤ v .table →
+    inTurn v place ≡ true →
+    actItem act < length (v .catalog) →
+    After (suc i) (withAct v place act)
+act-after i v place act p t e k =
+    let q = p .so in
+    record {
+      few = omega (arith, p .few, length-append (v .acts) (a ∷ []));
+      so =
+          record {
+            tables = q .tables;
+            sized = q .sized;
+            noSteps = q .noSteps;
+            noActs = λ l. absurd (omega arith);
+            sizes = q .sizes;
+            catalog = q .catalog;
+            steps = q .steps;
+            acts = fits;
+            inOrder = λ i j m l. order i j m l (ℕ-discrete j (length (v .acts)));
+          };
+    }
+  where
+    a : Placed
+    a = record { place = place; act = act }
+
+    w : Sofar
+    w = withAct v place act
+
+    turn : (leb (lastPlace (v .acts)) place ≡ true) × (ltb place (length (v .steps)) ≡ true)
+    turn = and-parts (leb (lastPlace (v .acts)) place) (ltb place (length (v .steps))) e
+
+    last : lastPlace (w .acts) ≡ place
+    last = last-more (v .acts) a
+
+    later : lastPlace (v .acts) ≤ lastPlace (w .acts)
+    later = omega (arith, last, leb-true (lastPlace (v .acts)) place (turn .0))
+
+    fits : (j : ℕ) → j < length (w .acts) → ActFits w (placedAt (w .acts) j)
+    fits =
+        each-more (ActFits w) (record { place = 0; act = Fetch 0 }) (v .acts) a
+        (λ j l. act-fits v w _ (omega arith) (omega arith) later (p .so .acts j l))
+        (record { known = k; within = ltb-true place (length (v .steps)) (turn .1); passed = omega (arith, last) })
+
+    order : (i j : ℕ) → i ≤ j → j < length (w .acts) → Dec (j ≡ length (v .acts)) → placedAt (w .acts) i .place ≤ placedAt (w .acts) j .place
+    order i j m l (yes z) = rw (z, getD-append-seam (v .acts) a []) (omega (arith, fits i (omega arith) .passed, last))
+    order i j m l (no z) =
+        let b : j < length (v .acts) = omega (arith, length-append (v .acts) (a ∷ [])) in
+        let c : i < length (v .acts) = omega arith in
+        rw (List·getD-append (v .acts) (a ∷ []) _ i c, List·getD-append (v .acts) (a ∷ []) _ j b) (p .so .inOrder i j m b)
+
+-- any value line, and any line
+takes-after : (i n : ℕ) (v : Sofar) (x : Line) → After i v → Says (v .table) x → Leading (After (suc i)) (takes v x n)
+unfolding takes
+takes-after i n v (Sizes k h) p s =
+    either (Leading (After (suc i))) (leb h k) _ _ (λ e. sizes-after i v k h p s (leb-true h k e)) (λ e. tt)
+takes-after i n v (ItemLine number b l w) p s =
+    either (Leading (After (suc i))) (eqb number (length (v .catalog))) _ _
+    (λ e. item-after i v number b l w p s (eqb-true number (length (v .catalog)) e)) (λ e. tt)
+takes-after i n v (StepLine s) p r =
+    either (Leading (After (suc i))) (eqb (itemRefusal (v .k) (v .catalog) s) 0) _ _
+    (λ e. step-after i v s p r (eqb-true (itemRefusal (v .k) (v .catalog) s) 0 e)) (λ e. tt)
+takes-after i n v (ActLine place act) p t =
+    either (Leading (After (suc i))) (inTurn v place) _ _
+    (λ e. either (Leading (After (suc i))) (ltb (actItem act) (length (v .catalog))) _ _
+    (λ k. act-after i v place act p t e (ltb-true (actItem act) (length (v .catalog)) k)) (λ k. tt))
+    (λ e. tt)
+takes-after i n v (Refused r) p s = tt
+
+blank : (a b : Bool) → cond a b false ≡ true → b ≡ true
+blank true b e = e
+blank false b e = absurd (false≢true e)
+
+leads-after : (i n : ℕ) (v : Sofar) (l : List ℕ) → After i v → Leading (After (suc i)) (leads v l n)
+unfolding leads
+leads-after i n v l p =
+    either Q (v .named) _ _
+    (λ e. either Q (cond (isBlank l) (mayEnd (v .table) (v .k)) false) _ _
+    (λ b. next-after i v p (blank (isBlank l) (mayEnd (v .table) (v .k)) b))
+    (λ b. either Q (mustEnd (v .table) (v .k)) _ _ (λ m. tt)
+    (λ m. takes-after i n v (lineIn (v .table) (fieldsOf l) n) p (line-says (v .table) (fieldsOf l) n))))
+    (λ e. either Q (sameBytes l (heading (v .table))) _ _ (λ b. named-after i v p) (λ b. tt))
+  where
+    Q : Led → Type 0
+    Q = Leading (After (suc i))
+
+-- ## The whole text
+
+-- where a reading ends, after b lines at most
+record Ended (b : ℕ) (v : Sofar) : Type 0 where
+  few : length (v .steps) + length (v .acts) ≤ b
+  so : Partial v
+  named : v .named ≡ true
+  table : v .table ≡ 3
+
+end-after : (i b n : ℕ) (v : Sofar) → i ≤ b → After i v → Leading (Ended b) (atEnd v n)
+end-after i b n v l p =
+    either (Leading (Ended b)) (v .named && eqb (v .table) 3) _ _ (λ e. done (and-parts (v .named) (eqb (v .table) 3) e)) (λ e. tt)
+  where
+    done : (v .named ≡ true) × (eqb (v .table) 3 ≡ true) → Ended b v
+    done e = record { few = omega (arith, p .few); so = p .so; named = e .0; table = eqb-true (v .table) 3 (e .1) }
+
+goes-on :
+    (P Q : Sofar → Type 0) (x : Led) (next : Sofar → Led) →
+    Leading P x →
+    ((v : Sofar) → P v → Leading Q (next v)) →
+    Leading Q (goesOn x next)
+goes-on P Q (on v) next p f = f v p
+goes-on P Q (stop r) next p f = tt
+
+read-after : (i b n : ℕ) (ls : List (List ℕ)) (v : Sofar) → i + (length ls - 1) ≤ b → After i v → Leading (Ended b) (readFrom n ls v)
+unfolding readFrom
+read-after i b n [] v l p = end-after i b n v (omega arith) p
+read-after i b n (x ∷ []) v l p = either (Leading (Ended b)) (isBlank x) _ _ (λ e. end-after i b n v (omega arith) p) (λ e. tt)
+read-after i b n (x ∷ y ∷ rest) v l p =
+    goes-on (After (suc i)) (Ended b) (leads v x n) (readFrom (suc n) (y ∷ rest)) (leads-after i n v x p)
+    (λ w q. read-after (suc i) b (suc n) (y ∷ rest) w (omega arith) q)
+
+-- a text has at most one piece more than bytes
+split-few : (b : ℕ) (s : List ℕ) → length (split b s) ≤ suc (length s)
+unfolding split
+split-few b [] = omega arith
+split-few b (x ∷ s) =
+    either (λ ps. length ps ≤ suc (suc (length s))) (eqb x b) ([] ∷ split b s) (onto x (split b s))
+    (λ e. omega (arith, split-few b s)) (λ e. ahead (split b s) (split-few b s))
+  where
+    ahead : (ps : List (List ℕ)) → length ps ≤ suc (length s) → length (onto x ps) ≤ suc (suc (length s))
+    ahead [] l = omega arith
+    ahead (p ∷ ps) l = omega arith
+
+accepted : (s : List ℕ) (v : Sofar) → readingOf s ≡ on v → Ended (length s) v
+accepted s v e =
+    subst (Leading (Ended (length s))) e
+    (read-after 0 (length s) 1 (split 10 s) atStart (omega (arith, split-few 10 s)) start-after)
+
+-- an accepted text ends behind the names of its last table
+pub accepted-ends : (s : List ℕ) (v : Sofar) → readingOf s ≡ on v → (v .named ≡ true) × (v .table ≡ 3)
+accepted-ends s v e = let a = accepted s v e in (a .named, a .table)
+
+-- it has no more steps and acts than bytes
+pub accepted-few : (s : List ℕ) (v : Sofar) → readingOf s ≡ on v → length (v .steps) + length (v .acts) ≤ length s
+accepted-few s v e = accepted s v e .few
+
+-- the table lets a step through that is in range, of a known item not too large, and not behind too many others
+let-through : (k : ℕ) (cat : Catalog) (j : ℕ) (s : Step) → j < 1000000 → StepFits k cat s → refusalAt k cat j false (callOf s) ≡ 0
+unfolding refusalAt stepOf
+let-through k cat j (Read i) l f = rw (lt-leb 1000000 j l, f .ranged) (f .taken)
+let-through k cat j (Write i m) l f = rw (lt-leb 1000000 j l, f .ranged) (f .taken)
+let-through k cat j Flush l f = rw (lt-leb 1000000 j l)
+
+-- and what it says is sound
+pub accepted-sound : (s : List ℕ) (v : Sofar) → length s ≤ 65536 → readingOf s ≡ on v → Sound v
+accepted-sound s v l e =
+    let a = accepted s v e in
+    let p = a .so in
+    let k : 1 ≤ v .k = p .sized (omega arith) in
+    record {
+      capacity = record { low = k; high = p .sizes .high };
+      rivalLow = p .sizes .rivalLow k;
+      rivalHigh = p .sizes .rivalHigh;
+      catalog = p .catalog;
+      allowed = record { each = λ j b. let-through (v .k) (v .catalog) j (getD (v .steps) j Flush) (omega arith) (p .steps j b) };
+      each =
+          λ j b.
+          let f = p .acts j b in
+          record { known = f .known; within = f .within; inOrder = λ i m. p .inOrder i j m b };
+    }

@@ -1,0 +1,83 @@
+-- `season_tables::lead` meets its contract: each return is a law of proofs/Leads.antt. Assumes nothing.
+use borrow.Author.Needs.{needs}
+use mathlib.Core.Path.{sym, _∙_}
+use borrow.Author.Tests.{not-true, not-false}
+use lib.ListN.{take}
+use Rattle.season_tables.proofs.Leads.{line-numbered, lead-names, lead-values, lead-blank}
+use Rattle.season_tables.proofs.lead.Statement.{statement}
+use Rattle.season_tables.proofs.lead.Tie as tie
+use Rattle.season_tables.proofs.lead.Reads as reads
+use Rattle.season_tables.proofs.lead.Lts as lts
+use Rattle.season_lines.proofs.line_in.Reads as line-in-reads
+use Rattle.season_tables.proofs.is_heading.Reads as is-heading-reads
+use Rattle.season_tables.proofs.take_blank.Reads as take-blank-reads
+use Rattle.season_tables.proofs.take_line.Reads as take-line-reads
+use Rattle.season_tables.proofs.take_names.Reads as take-names-reads
+use Rattle.season_tables.proofs.wants_values.Reads as wants-values-reads
+
+is-heading-requires : tie.Need-is-heading-requires
+is-heading-requires c κs = search needs
+
+take-names-requires : tie.Need-take-names-requires
+take-names-requires c κs = search needs
+
+returns : tie.Need-returns
+returns c =
+    let a = c .before .before .before .before .before .before .before .args in (
+      lead-names (a .seen) (a .calls .now) (a .acts .now) (a .text .now) (take (a .count) (a .fields)) (a .at) (c .take-names .result) (c .before .is-heading .result) (not-true _ (c .before .before .if1 .taken)) (c .before .is-heading .ensures) (c .take-names .ensures),
+      c .before .before .before .before .before .before .before .pre .room .roomy,
+    )
+
+wants-values-requires : tie.Need-wants-values-requires
+wants-values-requires c κs = search needs
+
+line-in-requires : tie.Need-line-in-requires
+line-in-requires c κs = search needs
+
+take-line-requires : tie.Need-take-line-requires
+take-line-requires c κs =
+    let a = c .before .before .before .before .before .before .before .before .before .before .args in
+    let p = c .before .before .before .before .before .before .before .before .before .before .pre in
+    let line = c .before .before .line-in in
+    record { room = p .room; few = p .few; numbered = line-numbered (a .seen .table) (take (a .count) (a .fields)) (a .at) (line .result) (line .ensures) }
+
+same-length : tie.Need-same-length
+same-length c = search needs
+
+same-length-2 : tie.Need-same-length-2
+same-length-2 c = search needs
+
+returns-2 : tie.Need-returns-2
+returns-2 c =
+    let a = c .before .before .before .before .before .before .before .before .before .before .before .before .before .before .before .args in
+    let p = c .before .before .before .before .take-line in
+    let line = c .before .before .before .before .before .before .before .line-in in (
+      lead-values (a .seen) (a .calls .now) (a .acts .now) (a .text .now) (take (a .count) (a .fields)) (a .at) (p .result) (line .result) (p .last .1 .1 .1 .0) (p .last .1 .1 .1 .1 .0) (not-false _ (c .before .before .before .before .before .before .before .before .before .before .if1 .left)) (sym (c .before .before .before .before .before .before .before .before .before .wants-values .ensures) ∙ c .before .before .before .before .before .before .before .before .if2 .taken) (line .ensures) (p .ensures .0),
+      p .ensures .1,
+    )
+
+take-blank-requires : tie.Need-take-blank-requires
+take-blank-requires c κs = search needs
+
+returns-3 : tie.Need-returns-3
+returns-3 c =
+    let a = c .before .before .before .before .before .before .before .before .args in (
+      lead-blank (a .seen) (a .calls .now) (a .acts .now) (a .text .now) (take (a .count) (a .fields)) (a .at) (c .take-blank .result) (not-false _ (c .before .before .before .if1 .left)) (sym (c .before .before .wants-values .ensures) ∙ c .before .if2 .left) (c .take-blank .ensures),
+      c .before .before .before .before .before .before .before .before .pre .room .roomy,
+    )
+
+pub lead-spec : {M : Type 1} → statement M
+lead-spec =
+    tie.close
+    (tie.spec
+    is-heading-requires
+    take-names-requires
+    returns
+    wants-values-requires
+    line-in-requires
+    take-line-requires
+    same-length
+    same-length-2
+    returns-2
+    take-blank-requires
+    returns-3)

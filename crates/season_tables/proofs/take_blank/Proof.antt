@@ -1,0 +1,31 @@
+-- `season_tables::take_blank` meets its contract: each return is a law of proofs/Held.antt. Assumes nothing.
+use borrow.Author.Needs.{needs}
+use Rattle.season_tables.proofs.Held.{blank-there, blank-missing}
+use Rattle.season_tables.proofs.take_blank.Statement.{statement}
+use Rattle.season_tables.proofs.take_blank.Tie as tie
+use Rattle.season_tables.proofs.take_blank.Reads as reads
+use Rattle.season_tables.proofs.take_blank.Lts as lts
+use Rattle.season_tables.proofs.stopped.Reads as stopped-reads
+use Rattle.season_tables.proofs.taken.Reads as taken-reads
+
+stopped-requires : tie.Need-stopped-requires
+stopped-requires c κs = search needs
+
+returns : tie.Need-returns
+returns c =
+    let a = c .before .before .args in
+    blank-missing (a .seen) (a .bytes) (a .at) (c .stopped .result) (c .before .if1 .taken) (c .stopped .ensures)
+
+add-q : tie.Need-add-q
+add-q c = search needs
+
+taken-requires : tie.Need-taken-requires
+taken-requires c κs = search needs
+
+returns-2 : tie.Need-returns-2
+returns-2 c =
+    let a = c .before .before .before .args in
+    blank-there (a .seen) (a .bytes) (a .at) (c .taken .result) (c .before .before .if1 .left) (c .taken .ensures .0) (c .taken .ensures .1)
+
+pub take-blank-spec : {M : Type 1} → statement M
+take-blank-spec = tie.close (tie.spec stopped-requires returns add-q taken-requires returns-2)

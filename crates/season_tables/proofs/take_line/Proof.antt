@@ -1,0 +1,112 @@
+-- `season_tables::take_line` meets its contract: each arm leads where its line says. Assumes nothing.
+use borrow.Author.Needs.{needs}
+use mathlib.Core.Path.{_∙_}
+use Rattle.season_tables.proofs.Held.{line-says, line-refused, line-number}
+use Rattle.season_tables.proofs.take_line.Statement.{statement}
+use Rattle.season_tables.proofs.take_line.Tie as tie
+use Rattle.season_tables.proofs.take_line.Reads as reads
+use Rattle.season_tables.proofs.take_line.Lts as lts
+use Rattle.season_tables.proofs.stopped.Reads as stopped-reads
+use Rattle.season_tables.proofs.take_act.Reads as take-act-reads
+use Rattle.season_tables.proofs.take_item.Reads as take-item-reads
+use Rattle.season_tables.proofs.take_sizes.Reads as take-sizes-reads
+use Rattle.season_tables.proofs.take_step.Reads as take-step-reads
+
+enum-known-line : tie.Need-enum-known-line
+enum-known-line c = search needs
+
+take-sizes-requires : tie.Need-take-sizes-requires
+take-sizes-requires c κs = search needs
+
+enum-known-line-2 : tie.Need-enum-known-line-2
+enum-known-line-2 c = search needs
+
+take-item-requires : tie.Need-take-item-requires
+take-item-requires c κs =
+    let a = c .before .before .before .before .before .args in
+    line-number (a .line) _ _ _ _ (c .before .line2 .given .1) (c .before .before .before .before .before .pre .numbered)
+
+enum-known-line-3 : tie.Need-enum-known-line-3
+enum-known-line-3 c = search needs
+
+take-step-requires : tie.Need-take-step-requires
+take-step-requires c κs = search needs
+
+enum-known-line-4 : tie.Need-enum-known-line-4
+enum-known-line-4 c = search needs
+
+take-act-requires : tie.Need-take-act-requires
+take-act-requires c κs = search needs
+
+enum-known-line-5 : tie.Need-enum-known-line-5
+enum-known-line-5 c = search needs
+
+stopped-requires : tie.Need-stopped-requires
+stopped-requires c κs = search needs
+
+returns : tie.Need-returns
+returns c =
+    let a = c .before .before .before .before .before .before .args in (
+      line-says (a .seen) (a .line) _ (a .at) (c .take-sizes .result) (a .calls .now) (a .acts .now) (a .calls .now) (a .acts .now) (c .before .before .line .given .1) (c .take-sizes .ensures (a .calls .now) (a .acts .now)),
+      c .before .before .before .before .before .before .pre .room .roomy,
+    )
+
+returns-2 : tie.Need-returns-2
+returns-2 c =
+    let a = c .before .before .before .before .before .before .args in (
+      line-says (a .seen) (a .line) _ (a .at) (c .take-item .result) (a .calls .now) (a .acts .now) (a .calls .now) (a .acts .now) (c .before .before .line2 .given .1) (c .take-item .ensures (a .calls .now) (a .acts .now)),
+      c .before .before .before .before .before .before .pre .room .roomy,
+    )
+
+same-length : tie.Need-same-length
+same-length c = search needs
+
+returns-3 : tie.Need-returns-3
+returns-3 c =
+    let a = c .before .before .before .before .before .before .before .before .before .args in
+    let p = c .before .before .take-step in
+    let roomy = c .before .before .before .before .before .before .before .before .before .pre .room .roomy in (
+      line-says (a .seen) (a .line) _ (a .at) (p .result) (a .calls .now) (a .acts .now) (p .last .1 .1 .1 .0) (a .acts .now) (c .before .before .before .before .before .line3 .given .1) (p .ensures .0 (a .acts .now)),
+      record { forSteps = p .ensures .1 ∙ roomy .forSteps; forActs = roomy .forActs },
+    )
+
+same-length-2 : tie.Need-same-length-2
+same-length-2 c = search needs
+
+returns-4 : tie.Need-returns-4
+returns-4 c =
+    let a = c .before .before .before .before .before .before .before .before .before .args in
+    let p = c .before .before .take-act in
+    let roomy = c .before .before .before .before .before .before .before .before .before .pre .room .roomy in (
+      line-says (a .seen) (a .line) _ (a .at) (p .result) (a .calls .now) (a .acts .now) (a .calls .now) (p .last .1 .1 .1 .1 .0) (c .before .before .before .before .before .line4 .given .1) (p .ensures .0 (a .calls .now)),
+      record { forSteps = roomy .forSteps; forActs = p .ensures .1 ∙ roomy .forActs },
+    )
+
+returns-5 : tie.Need-returns-5
+returns-5 c =
+    let a = c .before .before .before .before .before .before .args in (
+      line-says (a .seen) (a .line) _ (a .at) (c .stopped .result) (a .calls .now) (a .acts .now) (a .calls .now) (a .acts .now) (c .before .before .line5 .given .1) (line-refused (a .seen) _ (a .at) (c .stopped .result) (a .calls .now) (a .acts .now) (c .stopped .ensures)),
+      c .before .before .before .before .before .before .pre .room .roomy,
+    )
+
+pub take-line-spec : {M : Type 1} → statement M
+take-line-spec =
+    tie.close
+    (tie.spec
+    enum-known-line
+    take-sizes-requires
+    enum-known-line-2
+    take-item-requires
+    enum-known-line-3
+    take-step-requires
+    enum-known-line-4
+    take-act-requires
+    enum-known-line-5
+    stopped-requires
+    returns
+    returns-2
+    same-length
+    returns-3
+    same-length-2
+    returns-4
+    returns-5)

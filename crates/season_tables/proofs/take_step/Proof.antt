@@ -1,0 +1,69 @@
+-- `season_tables::take_step` meets its contract: each return is a law of proofs/Held.antt. Assumes nothing.
+use borrow.Author.Needs.{needs}
+use mathlib.Core.Path.{refl}
+use native.Mathlib.Omega.{arith}
+use Rattle.season_tables.proofs.Held.{step-unknown, step-large, step-noted}
+use Rattle.season_tables.proofs.take_step.Statement.{statement}
+use Rattle.season_tables.proofs.take_step.Tie as tie
+use Rattle.season_tables.proofs.take_step.Reads as reads
+use Rattle.season_tables.proofs.take_step.Lts as lts
+use Rattle.season_tables.proofs.put_step.Reads as put-step-reads
+use Rattle.season_tables.proofs.step_refused.Reads as step-refused-reads
+use Rattle.season_tables.proofs.stopped.Reads as stopped-reads
+use Rattle.season_tables.proofs.taken.Reads as taken-reads
+
+step-refused-requires : tie.Need-step-refused-requires
+step-refused-requires c κs = search needs
+
+stopped-requires : tie.Need-stopped-requires
+stopped-requires c κs = search needs
+
+returns : tie.Need-returns
+returns c =
+    let a = c .before .before .before .before .args in
+    (step-unknown (a .seen) (a .calls .now) (a .step) (a .at) (c .before .before .step-refused .result) (c .stopped .result) (c .before .before .step-refused .ensures) (c .before .if1 .taken) (c .stopped .ensures), refl)
+
+stopped-requires-2 : tie.Need-stopped-requires-2
+stopped-requires-2 c κs = search needs
+
+returns-2 : tie.Need-returns-2
+returns-2 c =
+    let a = c .before .before .before .before .before .args in
+    (step-large (a .seen) (a .calls .now) (a .step) (a .at) (c .before .before .before .step-refused .result) (c .stopped2 .result) (c .before .before .before .step-refused .ensures) (c .before .before .if1 .left) (c .before .if2 .taken) (c .stopped2 .ensures), refl)
+
+mul-put-step : tie.Need-mul-put-step
+mul-put-step c = search needs
+
+put-step-requires : tie.Need-put-step-requires
+put-step-requires c κs = search needs
+
+add-q : tie.Need-add-q
+add-q c = search needs
+
+taken-requires : tie.Need-taken-requires
+taken-requires c κs = search needs
+
+same-length : tie.Need-same-length
+same-length c = search needs
+
+returns-3 : tie.Need-returns-3
+returns-3 c =
+    let a = c .before .before .before .before .before .before .before .before .before .args in
+    let p = c .before .before .before .put-step in
+    (step-noted (a .seen) (a .calls .now) (a .step) (a .at) (c .before .before .before .before .before .before .before .step-refused .result) (c .taken .result) (p .last .0) (c .before .before .before .before .before .before .before .step-refused .ensures) (c .before .before .before .before .before .if2 .left) (omega arith) (c .taken .ensures .0) (c .taken .ensures .1) (p .ensures), p .kept .0)
+
+pub take-step-spec : {M : Type 1} → statement M
+take-step-spec =
+    tie.close
+    (tie.spec
+    step-refused-requires
+    stopped-requires
+    returns
+    stopped-requires-2
+    returns-2
+    mul-put-step
+    put-step-requires
+    add-q
+    taken-requires
+    same-length
+    returns-3)
