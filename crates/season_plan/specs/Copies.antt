@@ -1,7 +1,7 @@
 -- How the program holds what a plan has, and what its functions give. Assumes nothing.
 use mathlib.Core.Path.{_≡_}
 use mathlib.Core.Logic.{_≢_}
-use mathlib.Core.Bool.{true, cond}
+use mathlib.Core.Bool.{Bool, true, false, cond}
 use mathlib.Core.List.{List}
 use Prim.Native.Nat.{ℕ, suc, _+_, _*_, _≤_, _<_}
 use lib.ListN.{length, getD}
@@ -46,10 +46,11 @@ abbrev pub Does : Catalog → Done → ℕ → Did → Type 0
 Does cat (done q c) before r = (r .number ≡ 0) × Stands cat (r .copies) q (before + c)
 Does cat (faulty f) before r = r .number ≡ faultNumber f
 
--- what a part of the plan asks: a catalog in range, and sums far from the end of their words
+-- what a part of the plan asks: a catalog in range, the blocks that its copies have, and sums far from the end of their words
 pub record Ready (x : Seen) (p : Copies) : Type 0 where
   pub few : x .n ≤ 256
   pub catalog : CatalogOk (catalogIn x)
+  pub used : p .used ≡ planUsed (catalogIn x) (copiesOf (x .n) (p .marks))
   pub low : p .paid ≤ 1000000000000
 
 -- and that the item is known
@@ -82,10 +83,15 @@ pub record Cleans (n : ℕ) (p r : Copies) : Type 0 where
   pub used : r .used ≡ p .used
   pub sum : r .paid ≡ p .paid
 
--- a step that is in the log: a flush, or of a known item
+-- the step has an item, and the plan has no copy of it
+abbrev pub lacking : ℕ → ℕ → Bool
+lacking kind mark = cond (eqb kind 76) false (eqb mark 0)
+
+-- a step that is in the log: a flush, or of a known item; what stands for a flush's item has a place too
 pub record Servable (x : Seen) (p : Copies) (kind item : ℕ) : Type 0 where
   pub ready : Ready x p
   pub known : kind ≢ 76 → item < x .n
+  pub place : item < 256
   pub kinds : inRange kind 0 0 ≡ true
 
 -- a step served, by the code of its letter
@@ -128,11 +134,17 @@ pub record Priceable (x : Seen) (calls acts : List ℕ) : Type 0 where
   pub forSteps : length calls ≡ 43692
   pub forActs : length acts ≡ 32769
 
+-- at most so much is paid for so many acts, and so many steps that are flushes
+abbrev pub most : ℕ → ℕ → ℕ
+most acts steps = 65535 * acts + 16776960 * steps
+
 -- what the acts before step s ask: they begin at act `first`, and the sum is far from the end of its word
 pub record Actable (x : Seen) (p : Copies) (calls acts : List ℕ) (first s : ℕ) : Type 0 where
   pub priceable : Priceable x calls acts
   pub ready : Ready x p
   pub begins : first ≡ actsBefore s (priceable .text .acts)
+  pub inside : s < x .steps
+  pub paid : p .paid ≤ most first s
 
 -- whatever text the slices hold, its acts before step s are done, or the first fault among them is told
 abbrev pub RunsActs : Seen → Copies → List ℕ → List ℕ → ℕ → ℕ → Acted → Type 0
@@ -143,6 +155,11 @@ RunsActs x p calls acts first s r =
     first ≡ actsBefore s (v .acts) →
     Stands (v .catalog) p q paid →
     ActsDone v s (allActs (v .catalog) s 0 (planOf (v .acts) s) q) paid r
+
+-- `next` is no further than behind the last act, and the sum grows by what an act may cost
+pub record ActsWithin (x : Seen) (s : ℕ) (r : Acted) : Type 0 where
+  pub next : r .next ≤ x .acts
+  pub paid : r .number ≡ 0 → r .copies .paid ≤ most (r .next) s
 
 -- whatever text the slices hold, this is the price of its plan
 abbrev pub PricedAs : Seen → List ℕ → List ℕ → Price → Type 0

@@ -1,7 +1,8 @@
 // The plan of a text, run over its steps and priced.
 ghost use mathlib.Core.Path.{_≡_};
 ghost use Prim.Native.Nat.{_≤_};
-ghost use Rattle.season_plan.specs.Copies.{Ready, Known, Evicts, Fetches, Acts, Owes, Cleans, Servable, Serves, Actable, RunsActs, refusalFor, Priceable, PricedAs, PriceSmall};
+ghost use lib.Dec.{leb};
+ghost use Rattle.season_plan.specs.Copies.{Ready, Known, Evicts, Fetches, Acts, Owes, Cleans, lacking, Servable, Serves, Actable, RunsActs, ActsWithin, refusalFor, Priceable, PricedAs, PriceSmall};
 use landlord::Refusal;
 use season_tables::Seen;
 
@@ -97,6 +98,7 @@ fn act(seen: Seen, p: Copies, kind: u32, item: usize) -> Did
 fn acts_before(seen: Seen, p: Copies, calls: &[u32], acts: &[u32], first: usize, step: u32) -> Acted
     requires { ⌜ Actable seen p (now calls) (now acts) first step ⌝ }
     ensures { λ r. ⌜ RunsActs seen p (now (calls .entry)) (now (acts .entry)) first step r ⌝ }
+    ensures { λ r. ⌜ ActsWithin seen step r ⌝ }
 {
     let count = seen.acts;
     let mut q = p;
@@ -158,17 +160,34 @@ fn clean(p: Copies, n: usize) -> Copies
     q
 }
 
+// Whether a step has an item, and the plan's mark says that it holds no copy of it.
+fn lacks(kind: u32, mark: u8) -> bool
+    ensures { λ r. ⌜ r ≡ lacking kind mark ⌝ }
+{
+    if kind == 76 {
+        return false;
+    }
+    mark == 0
+}
+
+// Whether so many blocks are within a capacity.
+fn within(used: u32, h: u32) -> bool
+    ensures { λ r. ⌜ r ≡ leb used h ⌝ }
+{
+    used <= h
+}
+
 // The step is served: its item is held (14), the plan is within its capacity (13); a write makes the item dirty, a flush cleans.
 fn serve(seen: Seen, p: Copies, kind: u32, item: usize) -> Did
     requires { ⌜ Servable seen p kind item ⌝ }
     ensures { λ r. ⌜ Serves seen p kind item r ⌝ }
 {
-    if kind != 76 {
-        if p.marks[item] == 0 {
-            return failed(14, p);
-        }
+    let missing = lacks(kind, p.marks[item]);
+    let fits = within(p.used, seen.h);
+    if missing {
+        return failed(14, p);
     }
-    if seen.h < p.used {
+    if !fits {
         return failed(13, p);
     }
     let mut q = p;
@@ -232,5 +251,6 @@ pub fn price_plan(seen: Seen, calls: &[u32], acts: &[u32]) -> Price
         p = next;
         s += 1;
     }
-    Price::Cost(p.paid + owed(seen, p))
+    let total = p.paid + owed(seen, p);
+    Price::Cost(total)
 }

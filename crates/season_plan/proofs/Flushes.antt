@@ -1,0 +1,146 @@
+-- A flush: the sum of what it makes the plan pay, and the copies clean. Assumes nothing.
+use mathlib.Core.Path.{_≡_, refl, sym, ap, _∙_}
+use mathlib.Core.Bool.{false, cond}
+use Prim.Native.Nat.{ℕ, _+_, _-_, _≤_, _<_}
+use native.Mathlib.Numerals.{add-one}
+use native.Mathlib.Omega.{arith}
+use native.Mathlib.Decide.{ℕ-discrete}
+use lib.ListN.{length, getD, set}
+use lib.Seq.{getD-set-same, getD-set-other}
+use Rattle.landlord.specs.Fold.{sumTo}
+use Rattle.landlord.specs.Catalog.{itemAt}
+use Rattle.landlord.specs.Plan.{isChanged, copyAt, cleaned, owed}
+use Rattle.landlord.proofs.Folds.{tab-eq}
+use Rattle.season_tables.specs.declared.Seen.{Seen}
+use Rattle.season_plan.specs.declared.Copies.{Copies}
+use Rattle.season_plan.specs.Copies.{copyFrom, copiesOf, catalogIn, Cleans}
+use Rattle.season_plan.proofs.Marks.{catalog-length, write-at, copy-none, copy-clean, copy-dirty, copy-at}
+
+-- what item i adds to what is owed
+abbrev pub owedAt : Seen → Copies → ℕ → ℕ
+owedAt x p i = cond (isChanged (copyAt (copiesOf (x .n) (p .marks)) i)) (itemAt (catalogIn x) i .write) 0
+
+-- what the items below i make it pay
+unfoldable pub owedTo : Seen → Copies → ℕ → ℕ
+owedTo x p i = sumTo i (owedAt x p)
+
+pub owed-none : (x : Seen) (p : Copies) → 0 ≡ owedTo x p 0
+unfolding owedTo sumTo
+owed-none x p = refl
+
+not-dirty : (m : ℕ) → m ≤ 1 → isChanged (copyFrom m) ≡ false
+not-dirty m l = by-mark (ℕ-discrete m 0)
+  where
+    by-mark : Dec (m ≡ 0) → isChanged (copyFrom m) ≡ false
+    by-mark (yes z) = ap isChanged (copy-none m z)
+    by-mark (no z) = ap isChanged (copy-clean m (omega arith))
+
+module _ (x : Seen) (p : Copies) (i : ℕ) (l : i < x .n) where
+  at-item : owedAt x p i ≡ cond (isChanged (copyFrom (getD (p .marks) i 0))) (getD (x .write) i 0) 0
+  at-item =
+      ap (λ t. cond (isChanged t) (itemAt (catalogIn x) i .write) 0) (copy-at (x .n) (p .marks) i l)
+      ∙ ap (λ t. cond (isChanged (copyFrom (getD (p .marks) i 0))) t 0) (write-at x i l)
+
+  -- a dirty item is paid for
+  pub owed-dirty : 1 < getD (p .marks) i 0 → owedTo x p i + getD (x .write) i 0 ≡ owedTo x p (i + 1)
+  unfolding owedTo sumTo
+  owed-dirty m =
+      rw add-one
+      (omega (
+        arith,
+        at-item ∙ ap (λ t. cond (isChanged t) (getD (x .write) i 0) 0) (copy-dirty (getD (p .marks) i 0) m),
+      ))
+
+  -- another is not
+  pub owed-other : getD (p .marks) i 0 ≤ 1 → owedTo x p i ≡ owedTo x p (i + 1)
+  unfolding owedTo sumTo
+  owed-other m =
+      rw add-one
+      (omega (
+        arith,
+        at-item ∙ ap (λ t. cond t (getD (x .write) i 0) 0) (not-dirty (getD (p .marks) i 0) m),
+      ))
+
+pub owed-all : (x : Seen) (p : Copies) → owedTo x p (x .n) ≡ owed (catalogIn x) (copiesOf (x .n) (p .marks))
+unfolding owedTo owed
+owed-all x p = ap (λ t. sumTo t (owedAt x p)) (sym (catalog-length x))
+
+-- the items below i are clean in q, which else is p
+pub record Cleaning (n : ℕ) (p q : Copies) (i : ℕ) : Type 0 where
+  pub within : i ≤ n
+  pub used : q .used ≡ p .used
+  pub sum : q .paid ≡ p .paid
+  pub before : (j : ℕ) → j < i → copyFrom (getD (q .marks) j 0) ≡ cleaned (copyFrom (getD (p .marks) j 0))
+  pub behind : (j : ℕ) → i ≤ j → getD (q .marks) j 0 ≡ getD (p .marks) j 0
+
+pub clean-none : (n : ℕ) (p : Copies) → Cleaning n p p 0
+clean-none n p =
+    record {
+      within = omega arith;
+      used = refl;
+      sum = refl;
+      before = λ j l. absurd (let z : j < 0 = l in omega arith);
+      behind = λ j l. refl;
+    }
+
+stays-clean : (m : ℕ) → m ≤ 1 → copyFrom m ≡ cleaned (copyFrom m)
+stays-clean m l = by-mark (ℕ-discrete m 0)
+  where
+    by-mark : Dec (m ≡ 0) → copyFrom m ≡ cleaned (copyFrom m)
+    by-mark (yes z) = copy-none m z ∙ sym (ap cleaned (copy-none m z))
+    by-mark (no z) = copy-clean m (omega arith) ∙ sym (ap cleaned (copy-clean m (omega arith)))
+
+-- one item more, that was not dirty
+pub clean-other : (n : ℕ) (p q : Copies) (i : ℕ) → Cleaning n p q i → i < n → getD (p .marks) i 0 ≤ 1 → Cleaning n p q (i + 1)
+clean-other n p q i so l m =
+    record {
+      within = omega arith;
+      used = so .used;
+      sum = so .sum;
+      before = λ j b. each j b (ℕ-discrete j i);
+      behind = λ j b. so .behind j (omega arith);
+    }
+  where
+    each : (j : ℕ) → j < i + 1 → Dec (j ≡ i) → copyFrom (getD (q .marks) j 0) ≡ cleaned (copyFrom (getD (p .marks) j 0))
+    each j b (yes e) =
+        rw e (ap copyFrom (so .behind i (omega arith)) ∙ stays-clean (getD (p .marks) i 0) m)
+    each j b (no e) = so .before j (omega arith)
+
+-- one more, that was
+pub clean-dirty :
+    (n : ℕ) (p q r : Copies) (i : ℕ) →
+    Cleaning n p q i →
+    i < n →
+    i < length (q .marks) →
+    1 < getD (p .marks) i 0 →
+    r .marks ≡ set (q .marks) i 1 →
+    r .used ≡ q .used →
+    r .paid ≡ q .paid →
+    Cleaning n p r (i + 1)
+clean-dirty n p q r i so l b m marks used sum =
+    record {
+      within = omega arith;
+      used = used ∙ so .used;
+      sum = sum ∙ so .sum;
+      before = λ j k. each j k (ℕ-discrete j i);
+      behind = λ j k. ap (λ t. getD t j 0) marks ∙ getD-set-other (q .marks) i j 1 0 (omega arith) ∙ so .behind j (omega arith);
+    }
+  where
+    each : (j : ℕ) → j < i + 1 → Dec (j ≡ i) → copyFrom (getD (r .marks) j 0) ≡ cleaned (copyFrom (getD (p .marks) j 0))
+    each j k (yes e) =
+        rw e
+        (ap copyFrom (ap (λ t. getD t i 0) marks ∙ getD-set-same (q .marks) i 1 0 b)
+        ∙ sym (ap cleaned (copy-dirty (getD (p .marks) i 0) m)))
+    each j k (no e) =
+        ap copyFrom (ap (λ t. getD t j 0) marks ∙ getD-set-other (q .marks) i j 1 0 e) ∙ so .before j (omega arith)
+
+pub clean-all : (n : ℕ) (p q : Copies) (i : ℕ) → Cleaning n p q i → n ≤ i → Cleans n p q
+unfolding copiesOf
+clean-all n p q i so l =
+    record {
+      copies =
+          tab-eq n (λ j. copyFrom (getD (q .marks) j 0)) (λ j. cleaned (copyAt (copiesOf n (p .marks)) j))
+          (λ j b. so .before j (omega (arith, so .within)) ∙ sym (ap cleaned (copy-at n (p .marks) j b)));
+      used = so .used;
+      sum = so .sum;
+    }

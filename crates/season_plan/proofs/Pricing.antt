@@ -1,0 +1,337 @@
+-- A plan priced: the rest of it from here, with what is paid, leads to its price from the start. Assumes nothing.
+use mathlib.Core.Path.{_≡_, refl, sym, ap, subst, _∙_}
+use mathlib.Core.Logic.{_≢_}
+use mathlib.Core.Bool.{cond}
+use mathlib.Core.List.{List}
+use Prim.Native.Nat.{ℕ, suc, _+_, _*_, _-_, _≤_, _<_}
+use native.Mathlib.Nat.{add-assoc, zero-add}
+use native.Mathlib.Numerals.{add-one}
+use native.Mathlib.Omega.{arith}
+use lib.ListN.{length, getD, drop, replicate, getD-replicate, drop-of-length-le}
+use lib.Seq.{drop-cons}
+use Rattle.landlord.specs.declared.Step.{Step}
+use Rattle.landlord.specs.declared.Step.the-variants.{Read, Write, Flush}
+use Rattle.landlord.specs.Types.{stepKind, stepItem, stepMinutes}
+use Rattle.landlord.specs.Fold.{tab}
+use Rattle.landlord.specs.Catalog.{Catalog, CatalogOk, itemAt}
+use Rattle.landlord.specs.Calls.{inRange, stepOf}
+use Rattle.landlord.specs.Plan.{Copy, noCopy, has, copyAt, planUsed, owed, Fault, unknownItem, notHeld, alreadyHeld, requestNotHeld, overCapacity, faultNumber, Done, done, faulty, Priced, costs, fault, andPaid, andThen, allActs, planServes, pricedWith, priceThen, priceFrom}
+use Rattle.landlord.proofs.Folds.{tab-eq}
+use Rattle.landlord.proofs.Sums.{sum-zero}
+use Rattle.landlord.proofs.Keeps.{Served}
+use Rattle.landlord.proofs.Logs.{allowed-served}
+use Rattle.season_tables.specs.declared.Seen.{Seen}
+use Rattle.season_tables.specs.Tables.{Sofar}
+use Rattle.season_tables.specs.Holds.{Holds}
+use Rattle.season_tables.specs.Sound.{Sound}
+use Rattle.season_plan.specs.declared.Copies.{Copies}
+use Rattle.season_plan.specs.declared.Did.{Did}
+use Rattle.season_plan.specs.declared.Acted.{Acted}
+use Rattle.season_plan.specs.declared.Price.the-variants.{Cost, Refused}
+use Rattle.season_plan.specs.Plans.{actsBefore, planOf, faultLine, faultRefusal, priceOf, answerTo}
+use Rattle.season_plan.specs.Copies.{copyFrom, copiesOf, catalogIn, Stands, Does, Ready, Servable, Serves, faultAct, ActsDone, refusalFor, Priceable, most, Actable, RunsActs, ActsWithin, PricedAs}
+use Rattle.season_plan.proofs.Marks.{catalog-length, copy-at, copy-none}
+use Rattle.season_plan.proofs.Places.{stepAt, noted-step, step-again, step-kind, parted-is}
+use Rattle.season_plan.proofs.Costs.{Faults, ofAct, ofStep, fault-some, serve-cheap, acts-fault, serve-fault}
+use Rattle.season_plan.proofs.Acting.{copiesIn, held-length, stands-ready, did-ready}
+
+-- the acts before step s, the step, and the log from step s on
+abbrev actsOf : Sofar → ℕ → List Copy → Done
+actsOf v s = allActs (v .catalog) s 0 (planOf (v .acts) s)
+
+abbrev stepOn : Sofar → ℕ → List Copy → Done
+stepOn v s = planServes (v .catalog) (v .h) s (stepAt (v .steps) s)
+
+abbrev logFrom : Sofar → ℕ → List Copy → Priced
+logFrom v s = priceFrom (v .catalog) (v .h) (planOf (v .acts)) s (drop s (v .steps))
+
+-- Steps 0 to s - 1 are served, and a is the first act that stands before no earlier step than s.
+pub record Pricing (x : Seen) (calls acts : List ℕ) (p : Copies) (a s : ℕ) : Type 0 where
+  pub within : s ≤ x .steps
+  pub next : a ≤ x .acts
+  pub used : p .used ≡ planUsed (catalogIn x) (copiesIn x p)
+  pub low : p .paid ≤ most a s
+  pub at : (v : Sofar) → Holds x calls acts v → Sound v → a ≡ actsBefore s (v .acts)
+  pub leads :
+      (v : Sofar) →
+      Holds x calls acts v →
+      Sound v →
+      pricedWith (p .paid) (logFrom v s (copiesIn x p)) ≡ priceOf v
+
+-- what was paid adds up
+with-none : (d : Priced) → pricedWith 0 d ≡ d
+with-none (costs c) = ap costs (zero-add c)
+with-none (fault f) = refl
+
+with-with : (a b : ℕ) (d : Priced) → pricedWith a (pricedWith b d) ≡ pricedWith (a + b) d
+with-with a b (costs c) = ap costs (sym (add-assoc a b c))
+with-with a b (fault f) = refl
+
+-- the acts are done, then the step is served, then the rest
+turn :
+    (v : Sofar) (s : ℕ) (d : Done) (serves : List Copy → Done) (next : List Copy → Priced) (paid : ℕ) (b : Acted) (r : Did) →
+    ActsDone v s d paid b →
+    b .number ≡ 0 →
+    ((q : List Copy) (c : ℕ) → Stands (v .catalog) (b .copies) q c → Does (v .catalog) (serves q) c r) →
+    r .number ≡ 0 →
+    pricedWith (r .copies .paid) (next (copiesOf (length (v .catalog)) (r .copies .marks))) ≡ pricedWith paid (priceThen (andThen d serves) next)
+turn v s (done q c) serves next paid b r did e served f = go (serves q) (served q (paid + c) (did .1))
+  where
+    go : (t : Done) → Does (v .catalog) t (paid + c) r → pricedWith (r .copies .paid) (next (copiesOf (length (v .catalog)) (r .copies .marks))) ≡ pricedWith paid (priceThen (andPaid c t) next)
+    go (done o k) (number, st) =
+        ap (λ u. pricedWith u (next (copiesOf (length (v .catalog)) (r .copies .marks)))) (st .sum ∙ add-assoc paid c k)
+        ∙ ap (λ u. pricedWith (paid + (c + k)) (next u)) (st .copies)
+        ∙ sym (with-with paid (c + k) (next o))
+    go (faulty w) number = absurd (fault-some w (sym number ∙ f))
+turn v s (faulty w) serves next paid b r did e served f = absurd (fault-some w (sym (did .0) ∙ e))
+
+-- an act is at fault: its number on its line
+act-refused :
+    (v : Sofar) (s : ℕ) (f : Fault) (number line next : ℕ) →
+    ofAct s f →
+    number ≡ faultNumber f →
+    next ≡ actsBefore s (v .acts) + faultAct f →
+    line ≡ 9 + length (v .catalog) + length (v .steps) + next →
+    refusalFor number line ≡ faultRefusal f (faultLine v f)
+unfolding refusalFor
+act-refused v s (unknownItem t a i) number line next of e m l =
+    ap (λ u. refusalFor u line) e ∙ ap (refusalFor 6) (omega (arith, ap (λ u. actsBefore u (v .acts)) of))
+act-refused v s (notHeld t a i) number line next of e m l =
+    ap (λ u. refusalFor u line) e ∙ ap (refusalFor 11) (omega (arith, ap (λ u. actsBefore u (v .acts)) of))
+act-refused v s (alreadyHeld t a i) number line next of e m l =
+    ap (λ u. refusalFor u line) e ∙ ap (refusalFor 12) (omega (arith, ap (λ u. actsBefore u (v .acts)) of))
+act-refused v s (requestNotHeld t i) number line next of e m l = absurd of
+act-refused v s (overCapacity t) number line next of e m l = absurd of
+
+-- a step is at fault
+step-refused :
+    (v : Sofar) (s : ℕ) (f : Fault) (number line : ℕ) →
+    ofStep s f →
+    number ≡ faultNumber f →
+    line ≡ 7 + length (v .catalog) + s →
+    refusalFor number line ≡ faultRefusal f (faultLine v f)
+unfolding refusalFor
+step-refused v s (unknownItem t a i) number line of e l = absurd of
+step-refused v s (notHeld t a i) number line of e l = absurd of
+step-refused v s (alreadyHeld t a i) number line of e l = absurd of
+step-refused v s (requestNotHeld t i) number line of e l = ap (λ u. refusalFor u line) e ∙ ap (refusalFor 14) (omega arith)
+step-refused v s (overCapacity t) number line of e l = ap (λ u. refusalFor u line) e ∙ ap (refusalFor 13) (omega arith)
+
+act-faulty :
+    (v : Sofar) (s : ℕ) (d : Done) (serves : List Copy → Done) (next : List Copy → Priced) (paid line : ℕ) (b : Acted) →
+    ActsDone v s d paid b →
+    b .number ≢ 0 →
+    Faults (ofAct s) d →
+    line ≡ 9 + length (v .catalog) + length (v .steps) + b .next →
+    Refused (refusalFor (b .number) line) ≡ answerTo v (pricedWith paid (priceThen (andThen d serves) next))
+act-faulty v s (done q c) serves next paid line b did e of l = absurd (e (did .0))
+act-faulty v s (faulty f) serves next paid line b did e of l = ap Refused (act-refused v s f (b .number) line (b .next) of (did .0) (did .1) l)
+
+step-faulty :
+    (v : Sofar) (s : ℕ) (d : Done) (serves : List Copy → Done) (next : List Copy → Priced) (paid line : ℕ) (b : Acted) (r : Did) →
+    ActsDone v s d paid b →
+    b .number ≡ 0 →
+    ((q : List Copy) (c : ℕ) → Stands (v .catalog) (b .copies) q c → Does (v .catalog) (serves q) c r) →
+    r .number ≢ 0 →
+    ((q : List Copy) → Faults (ofStep s) (serves q)) →
+    line ≡ 7 + length (v .catalog) + s →
+    Refused (refusalFor (r .number) line) ≡ answerTo v (pricedWith paid (priceThen (andThen d serves) next))
+step-faulty v s (done q c) serves next paid line b r did e served f of l = go (serves q) (served q (paid + c) (did .1)) (of q)
+  where
+    go : (t : Done) → Does (v .catalog) t (paid + c) r → Faults (ofStep s) t → Refused (refusalFor (r .number) line) ≡ answerTo v (pricedWith paid (priceThen (andPaid c t) next))
+    go (done o k) (number, st) here = absurd (f number)
+    go (faulty w) number here = ap Refused (step-refused v s w (r .number) line here number l)
+step-faulty v s (faulty w) serves next paid line b r did e served f of l = absurd (fault-some w (sym (did .0) ∙ e))
+
+-- what the acts leave, if they are done
+acts-next : (v : Sofar) (s : ℕ) (d : Done) (paid : ℕ) (b : Acted) → ActsDone v s d paid b → b .number ≡ 0 → b .next ≡ actsBefore (suc s) (v .acts)
+acts-next v s (done q c) paid b did e = did .2
+acts-next v s (faulty f) paid b did e = absurd (fault-some f (sym (did .0) ∙ e))
+
+acts-used : (v : Sofar) (s : ℕ) (d : Done) (paid : ℕ) (b : Acted) → ActsDone v s d paid b → b .number ≡ 0 → b .copies .used ≡ planUsed (v .catalog) (copiesOf (length (v .catalog)) (b .copies .marks))
+acts-used v s (done q c) paid b did e = did .1 .used ∙ ap (planUsed (v .catalog)) (sym (did .1 .copies))
+acts-used v s (faulty f) paid b did e = absurd (fault-some f (sym (did .0) ∙ e))
+
+-- a step of the log has a known item
+item-known : (k : ℕ) (cat : Catalog) (st : Step) → Served k cat st → stepKind st ≢ 76 → stepItem st < length cat
+item-known k cat (Read i) served e = served .0
+item-known k cat (Write i m) served e = served .0
+item-known k cat Flush served e = absurd (e refl)
+
+item-place : (k : ℕ) (cat : Catalog) (st : Step) → CatalogOk cat → Served k cat st → stepItem st < 256
+item-place k cat (Read i) ok served = omega (arith, served .0, ok .few)
+item-place k cat (Write i m) ok served = omega (arith, served .0, ok .few)
+item-place k cat Flush ok served = omega arith
+
+module _ (x : Seen) (calls acts : List ℕ) (pre : Priceable x calls acts) where
+  catalog-ok : CatalogOk (catalogIn x)
+  catalog-ok = subst CatalogOk (sym (pre .holds .catalog)) (pre .sound .catalog)
+
+  -- nothing is held, and nothing paid
+  pub pricing-starts : (p : Copies) → p .marks ≡ replicate 256 0 → p .used ≡ 0 → p .paid ≡ 0 → Pricing x calls acts p 0 0
+  unfolding planUsed copiesOf
+  pricing-starts p marks used paid =
+      record {
+        within = omega arith;
+        next = omega arith;
+        used =
+            used
+            ∙ sym (sum-zero (length (catalogIn x)) (λ i. cond (has (copyAt (copiesIn x p) i)) (itemAt (catalogIn x) i .blocks) 0)
+            (λ i l. ap (λ t. cond (has t) (itemAt (catalogIn x) i .blocks) 0) (none i (omega (arith, catalog-length x)))));
+        low = omega arith;
+        at = λ v h sound. sym (parted-is 0 (v .acts) 0 (record { within = omega arith; below = λ i l. absurd (let z : i < 0 = l in omega arith); above = λ i l b. omega arith }));
+        leads =
+            λ v h sound.
+            ap (λ t. pricedWith t (logFrom v 0 (copiesIn x p))) paid ∙ with-none (logFrom v 0 (copiesIn x p)) ∙ ap (logFrom v 0) (empty v h);
+      }
+    where
+      mark : (i : ℕ) → i < x .n → copyFrom (getD (p .marks) i 0) ≡ noCopy
+      mark i l = copy-none (getD (p .marks) i 0) (ap (λ t. getD t i 0) marks ∙ getD-replicate 256 i 0 0 (omega (arith, pre .holds .few)))
+
+      none : (i : ℕ) → i < x .n → copyAt (copiesIn x p) i ≡ noCopy
+      none i l = copy-at (x .n) (p .marks) i l ∙ mark i l
+
+      empty : (v : Sofar) → Holds x calls acts v → copiesIn x p ≡ tab (length (v .catalog)) (λ i. noCopy)
+      empty v h =
+          tab-eq (x .n) (λ i. copyFrom (getD (p .marks) i 0)) (λ i. noCopy) mark
+          ∙ ap (λ n. tab n (λ (i : ℕ). noCopy)) (sym (held-length x calls acts v h))
+
+  module _ (p : Copies) (a s : ℕ) (so : Pricing x calls acts p a s) where
+    -- the sum is far from the end of its word
+    pub pricing-low : p .paid ≤ 900000000000
+    pricing-low = omega (arith, so .low, so .within, so .next, pre .fewActs, pre .fewSteps)
+
+    pub pricing-ready : Ready x p
+    pricing-ready =
+        record { few = pre .holds .few; catalog = catalog-ok; used = so .used; low = omega (arith, pricing-low) }
+
+    -- the program stands at these copies of the text's catalog
+    stands : (v : Sofar) → Holds x calls acts v → Stands (v .catalog) p (copiesIn x p) (p .paid)
+    stands v h = subst (λ (c : Catalog). Stands c p (copiesIn x p) (p .paid)) (h .catalog) (stands-ready x p (so .used))
+
+    module _ (l : s < x .steps) where
+      pub pricing-acts : Actable x p calls acts a s
+      pricing-acts =
+          record {
+            priceable = pre;
+            ready = pricing-ready;
+            begins = so .at (pre .text) (pre .holds) (pre .sound);
+            inside = l;
+            paid = so .low;
+          }
+
+      module _ (b : Acted) (ran : RunsActs x p calls acts a s b) (bound : ActsWithin x s b) where
+        -- the acts before the step, for a text that the slices hold
+        did : (v : Sofar) → Holds x calls acts v → Sound v → ActsDone v s (actsOf v s (copiesIn x p)) (p .paid) b
+        did v h sound = ran v (p .paid) (copiesIn x p) h sound (so .at v h sound) (stands v h)
+
+        -- the step with the rest of the log
+        unrolled :
+            (v : Sofar) →
+            Holds x calls acts v →
+            Sound v →
+            pricedWith (p .paid) (priceThen (andThen (actsOf v s (copiesIn x p)) (stepOn v s)) (logFrom v (suc s))) ≡ priceOf v
+        unfolding priceFrom
+        unrolled v h sound =
+            ap (λ t. pricedWith (p .paid) (priceFrom (v .catalog) (v .h) (planOf (v .acts)) s t (copiesIn x p)))
+            (sym (drop-cons (v .steps) s Flush (omega (arith, h .stepCount))))
+            ∙ so .leads v h sound
+
+        -- 11 or 12, with the act's line
+        pub pricing-act-fails : (line : ℕ) → b .number ≢ 0 → line ≡ 9 + x .n + x .steps + b .next → PricedAs x calls acts (Refused (refusalFor (b .number) line))
+        pricing-act-fails line e at v h sound =
+            act-faulty v s (actsOf v s (copiesIn x p)) (stepOn v s)
+            (logFrom v (suc s)) (p .paid) line b (did v h sound) e
+            (acts-fault (v .catalog) s 0 (planOf (v .acts) s) (copiesIn x p)) (omega (arith, held-length x calls acts v h, h .stepCount))
+            ∙ ap (answerTo v) (unrolled v h sound)
+
+        module _ (e : b .number ≡ 0) where
+          pub before-used : b .copies .used ≡ planUsed (catalogIn x) (copiesIn x (b .copies))
+          before-used =
+              let v = pre .text in
+              let h = pre .holds in
+              subst (λ (n : ℕ). b .copies .used ≡ planUsed (catalogIn x) (copiesOf n (b .copies .marks))) (catalog-length x)
+              (subst (λ (c : Catalog). b .copies .used ≡ planUsed c (copiesOf (length c) (b .copies .marks))) (sym (h .catalog))
+              (acts-used v s (actsOf v s (copiesIn x p)) (p .paid) b (did v h (pre .sound)) e))
+
+          pub pricing-serves : Servable x (b .copies) (getD calls (4 * s + 1) 0) (getD calls (4 * s + 2) 0)
+          pricing-serves =
+              let v = pre .text in
+              let h = pre .holds in
+              let st = stepAt (v .steps) s in
+              let noted = noted-step x calls acts v h s l in
+              let served : Served (v .k) (v .catalog) st =
+              allowed-served (v .k) (v .catalog) s st (pre .sound .allowed .each s (omega (arith, h .stepCount)))
+              in
+              record {
+                ready = record { few = h .few; catalog = catalog-ok; used = before-used; low = omega (arith, bound .paid e, bound .next, pre .fewActs, pre .fewSteps) };
+                known =
+                    λ (z : getD calls (4 * s + 1) 0 ≢ 76).
+                    omega (arith, noted .item, held-length x calls acts v h, item-known (v .k) (v .catalog) st served (λ u. z (noted .kind ∙ u)));
+                place = omega (arith, noted .item, item-place (v .k) (v .catalog) st (pre .sound .catalog) served);
+                kinds = ap (λ t. inRange t 0 0) (noted .kind) ∙ step-kind st;
+              }
+
+          module _ (r : Did) (served : Serves x (b .copies) (getD calls (4 * s + 1) 0) (getD calls (4 * s + 2) 0) r) where
+            -- the step as the definition serves it, for a text that the slices hold
+            serves : (v : Sofar) → Holds x calls acts v → (q : List Copy) (c : ℕ) → Stands (v .catalog) (b .copies) q c → Does (v .catalog) (stepOn v s q) c r
+            serves v h q c =
+                let st = stepAt (v .steps) s in
+                let noted = noted-step x calls acts v h s l in
+                let same : stepOf (getD calls (4 * s + 1) 0) (getD calls (4 * s + 2) 0) (stepMinutes st) ≡ st =
+                ap (λ t. stepOf t (getD calls (4 * s + 2) 0) (stepMinutes st)) (noted .kind)
+                ∙ ap (λ t. stepOf (stepKind st) t (stepMinutes st)) (noted .item)
+                ∙ step-again st
+                in
+                subst (λ (n : ℕ). Stands (v .catalog) (b .copies) q c → Does (v .catalog) (planServes (v .catalog) n s st q) c r) (h .h)
+                (subst (λ (k : Catalog). Stands k (b .copies) q c → Does k (planServes k (x .h) s st q) c r) (h .catalog)
+                (subst (λ (t : Step). Stands (catalogIn x) (b .copies) q c → Does (catalogIn x) (planServes (catalogIn x) (x .h) s t q) c r) same
+                (served s (stepMinutes st) c q)))
+
+            -- 14 or 13, with the step's line
+            pub pricing-step-fails : (line : ℕ) → r .number ≢ 0 → line ≡ 7 + x .n + s → PricedAs x calls acts (Refused (refusalFor (r .number) line))
+            pricing-step-fails line f at v h sound =
+                step-faulty v s (actsOf v s (copiesIn x p)) (stepOn v s)
+                (logFrom v (suc s)) (p .paid) line b r (did v h sound) e (serves v h) f
+                (serve-fault (v .catalog) (v .h) s (stepAt (v .steps) s)) (omega (arith, held-length x calls acts v h))
+                ∙ ap (answerTo v) (unrolled v h sound)
+
+            -- the step is served
+            pub pricing-turn : r .number ≡ 0 → Pricing x calls acts (r .copies) (b .next) (s + 1)
+            pricing-turn f =
+                let st = stepOf (getD calls (4 * s + 1) 0) (getD calls (4 * s + 2) 0) 0 in
+                let after =
+                did-ready x (planServes (catalogIn x) (x .h) s st (copiesIn x (b .copies))) 16776960 (b .copies .paid) r
+                (served s 0 (b .copies .paid) (copiesIn x (b .copies)) (stands-ready x (b .copies) before-used))
+                (serve-cheap (catalogIn x) catalog-ok (x .h) s st (copiesIn x (b .copies))) f
+                in
+                record {
+                  within = omega arith;
+                  next = bound .next;
+                  used = after .0;
+                  low = omega (arith, after .1, bound .paid e);
+                  at =
+                      λ v h sound.
+                      rw add-one
+                      (acts-next v s (actsOf v s (copiesIn x p)) (p .paid) b (did v h sound) e);
+                  leads =
+                      λ v h sound.
+                      rw add-one
+                      (ap
+                      (λ n. pricedWith (r .copies .paid) (logFrom v (suc s) (copiesOf n (r .copies .marks))))
+                      (sym (held-length x calls acts v h))
+                      ∙ turn v s (actsOf v s (copiesIn x p)) (stepOn v s)
+                      (logFrom v (suc s)) (p .paid) b r (did v h sound) e (serves v h) f
+                      ∙ unrolled v h sound);
+                }
+
+    -- the closing flush is paid
+    pub pricing-ends : (o total : ℕ) → x .steps ≤ s → o ≡ owed (catalogIn x) (copiesIn x p) → total ≡ p .paid + o → PricedAs x calls acts (Cost total)
+    unfolding priceFrom
+    pricing-ends o total l e is v h sound =
+        ap Cost is
+        ∙ ap (λ t. Cost (p .paid + t)) (e ∙ ap (λ (c : Catalog). owed c (copiesIn x p)) (h .catalog))
+        ∙ ap (answerTo v)
+        (ap (λ t. pricedWith (p .paid) (priceFrom (v .catalog) (v .h) (planOf (v .acts)) s t (copiesIn x p)))
+        (sym (drop-of-length-le (v .steps) (let z : length (v .steps) ≤ s = omega (arith, h .stepCount) in z)))
+        ∙ so .leads v h sound)

@@ -1,0 +1,91 @@
+-- `season_plan::fetch` meets its contract: held already, or not. Assumes nothing.
+use mathlib.Core.Path.{_≡_, ap}
+use Prim.Native.Nat.{_<_}
+use native.Mathlib.Omega.{arith}
+use lib.ListN.{length}
+use borrow.Author.Needs.{needs}
+use Rattle.season_plan.specs.declared.Copies.{Copies}
+use Rattle.season_plan.proofs.Deeds.{fetch-fails, fetch-does, used-most, item-most}
+use Rattle.season_plan.proofs.fetch.Statement.{statement}
+use Rattle.season_plan.proofs.fetch.Tie as tie
+
+-- the item has a place among the marks
+placed : (c : tie.Start) → c .args .item < length (c .args .t2 .marks)
+placed c =
+    let full : length (c .args .t2 .marks) ≡ 256 = search needs in
+    omega (arith, c .pre .known, c .pre .ready .few)
+
+element-copy-out-if1 : tie.Need-element-copy-out-if1
+element-copy-out-if1 c = search needs
+
+failed-requires : tie.Need-failed-requires
+failed-requires c κs = search needs
+
+returns : tie.Need-returns
+returns c =
+    let s = c .before .before .before in
+    fetch-fails (s .args .t1) (s .args .t2) (s .args .item) (s .pre .known) (placed s) (c .failed .result) (c .before .if1 .taken) (c .failed .ensures)
+
+element-write-q : tie.Need-element-write-q
+element-write-q c = search needs
+
+element-copy-out-q : tie.Need-element-copy-out-q
+element-copy-out-q c = search needs
+
+cast-q : tie.Need-cast-q
+cast-q c = search needs
+
+add-q : tie.Need-add-q
+add-q c =
+    let s = c .before .before .before in
+    omega (
+      arith,
+      used-most (s .args .t1) (s .args .t2) (s .pre .ready),
+      item-most (s .args .t1) (s .args .t2) (s .args .item) (s .pre .ready) (s .pre .known) .0,
+    )
+
+mul-q : tie.Need-mul-q
+mul-q c = search needs
+
+element-copy-out-q-2 : tie.Need-element-copy-out-q-2
+element-copy-out-q-2 c = search needs
+
+cast-q-2 : tie.Need-cast-q-2
+cast-q-2 c = search needs
+
+add-q-2 : tie.Need-add-q-2
+add-q-2 c =
+    let s = c .before .before .before .before in
+    omega (
+      arith,
+      s .pre .ready .low,
+      item-most (s .args .t1) (s .args .t2) (s .args .item) (s .pre .ready) (s .pre .known) .1,
+    )
+
+done-requires : tie.Need-done-requires
+done-requires c κs = search needs
+
+returns-2 : tie.Need-returns-2
+returns-2 c =
+    let s = c .before .before .before .before .before in
+    let is = c .done .ensures .1 in
+    fetch-does (s .args .t1) (s .args .t2) (s .args .item) (s .pre .known) (placed s) (c .done .result) (omega arith)
+    (c .done .ensures .0) (ap (λ (t : Copies). t .marks) is) (ap (λ (t : Copies). t .used) is) (ap (λ (t : Copies). t .paid) is)
+
+pub fetch-spec : {M : Type 1} → statement M
+fetch-spec =
+    tie.close
+    (tie.spec
+    element-copy-out-if1
+    failed-requires
+    returns
+    element-write-q
+    element-copy-out-q
+    cast-q
+    add-q
+    mul-q
+    element-copy-out-q-2
+    cast-q-2
+    add-q-2
+    done-requires
+    returns-2)
