@@ -36,14 +36,14 @@ Left v s j a q paid r = ActsDone v s (allActs (v .catalog) s j (actsAt s (drop a
 
 -- The acts that are done are of step s; and whatever the acts that are left end in, from these copies and this sum, all of them
 -- end in from the first copies and the first sum.
-pub record Acting (x : Seen) (calls acts : List ℕ) (p : Copies) (first s : ℕ) (q : Copies) (a : ℕ) : Type 0 where
+pub record Acting (x : Seen) (acts : List ℕ) (p : Copies) (first s : ℕ) (q : Copies) (a : ℕ) : Type 0 where
   pub begun : first ≤ a
   pub within : a ≤ x .acts
   pub used : q .used ≡ planUsed (catalogIn x) (copiesIn x q)
   pub low : q .paid ≤ most a s
   pub here : (i : ℕ) → first ≤ i → i < a → getD acts (3 * i) 0 ≡ s
   pub leads :
-      (v : Sofar) (r : Acted) →
+      (calls : List ℕ) (v : Sofar) (r : Acted) →
       Holds x calls acts v →
       Left v s (a - first) a (copiesIn x q) (q .paid) r →
       Left v s 0 first (copiesIn x p) (p .paid) r
@@ -102,8 +102,8 @@ stands-ready x p used = record { copies = ap (λ t. copiesOf t (p .marks)) (cata
 pub held-length : (x : Seen) (calls acts : List ℕ) (v : Sofar) → Holds x calls acts v → length (v .catalog) ≡ x .n
 held-length x calls acts v h = ap length (sym (h .catalog)) ∙ catalog-length x
 
-module _ (x : Seen) (calls acts : List ℕ) (p : Copies) (first s : ℕ) (pre : Actable x p calls acts first s) where
-  pub acting-starts : Acting x calls acts p first s p first
+module _ (x : Seen) (acts : List ℕ) (p : Copies) (first s : ℕ) (pre : Actable x p acts first s) where
+  pub acting-starts : Acting x acts p first s p first
   acting-starts =
       let begins = parted s (pre .priceable .text .acts) (sound-ordered (pre .priceable .text) (pre .priceable .sound)) in
       record {
@@ -113,7 +113,7 @@ module _ (x : Seen) (calls acts : List ℕ) (p : Copies) (first s : ℕ) (pre : 
         low = pre .paid;
         here = λ i l b. absurd (omega arith);
         leads =
-            λ v r h so.
+            λ calls v r h so.
             subst
             (λ (t : ℕ). Left v s t first (copiesIn x p) (p .paid) r)
             (let z : first - first ≡ 0 = omega arith in z) so;
@@ -121,14 +121,14 @@ module _ (x : Seen) (calls acts : List ℕ) (p : Copies) (first s : ℕ) (pre : 
 
   -- all acts before the step are those from the first one on
   whole :
-      (v : Sofar) (t : Acted) (paid : ℕ) (o : List Copy) →
+      (calls : List ℕ) (v : Sofar) (t : Acted) (paid : ℕ) (o : List Copy) →
       Holds x calls acts v →
       Sound v →
       first ≡ actsBefore s (v .acts) →
       Stands (v .catalog) p o paid →
       Left v s 0 first (copiesIn x p) (p .paid) t →
       ActsDone v s (allActs (v .catalog) s 0 (actsAt s (v .acts)) o) paid t
-  whole v t paid o h sound begins st so =
+  whole calls v t paid o h sound begins st so =
       let part = parted s (v .acts) (sound-ordered v sound) in
       let these : copiesIn x p ≡ o = ap (λ n. copiesOf n (p .marks)) (sym (held-length x calls acts v h)) ∙ st .copies in
       let skip : actsAt s (drop first (v .acts)) ≡ actsAt s (v .acts) =
@@ -138,7 +138,7 @@ module _ (x : Seen) (calls acts : List ℕ) (p : Copies) (first s : ℕ) (pre : 
       (subst (λ (u : List Copy). Left v s 0 first u paid t) these
       (subst (λ (u : ℕ). Left v s 0 first (copiesIn x p) u t) (st .sum) so))
 
-  module _ (q : Copies) (a : ℕ) (so : Acting x calls acts p first s q a) where
+  module _ (q : Copies) (a : ℕ) (so : Acting x acts p first s q a) where
     -- the sum is far from the end of its word
     pub acting-low : q .paid ≤ 900000000000
     acting-low = omega (arith, so .low, so .within, pre .inside, pre .priceable .fewActs, pre .priceable .fewSteps)
@@ -153,17 +153,17 @@ module _ (x : Seen) (calls acts : List ℕ) (p : Copies) (first s : ℕ) (pre : 
       acting-known =
           let text = pre .priceable .text in
           let h = pre .priceable .holds in
-          let n : length (text .catalog) ≡ x .n = held-length x calls acts text h in
+          let n : length (text .catalog) ≡ x .n = held-length x (pre .calls) acts text h in
           let known : actItem (placedAt (text .acts) a .act) < length (text .catalog) = pre .priceable .sound .each a (omega (arith, h .actCount)) .known in
           record {
             ready = acting-ready;
-            known = omega (arith, noted-act x calls acts text h a l .item);
+            known = omega (arith, noted-act x (pre .calls) acts text h a l .item);
           }
 
       module _ (r : Did) (acted : Acts x q (getD acts (3 * a + 1) 0) (getD acts (3 * a + 2) 0) r) (place : getD acts (3 * a) 0 ≡ s) where
         -- the act as the definition does it, for a text that the slices hold
-        does : (v : Sofar) → Holds x calls acts v → (j : ℕ) → Does (v .catalog) (planActs (v .catalog) s j (placedAt (v .acts) a .act) (copiesIn x q)) (q .paid) r
-        does v h j =
+        does : (calls : List ℕ) (v : Sofar) → Holds x calls acts v → (j : ℕ) → Does (v .catalog) (planActs (v .catalog) s j (placedAt (v .acts) a .act) (copiesIn x q)) (q .paid) r
+        does calls v h j =
             let noted = noted-act x calls acts v h a l in
             let act = placedAt (v .acts) a .act in
             let same : actOf (getD acts (3 * a + 1) 0) (getD acts (3 * a + 2) 0) ≡ act =
@@ -174,10 +174,10 @@ module _ (x : Seen) (calls acts : List ℕ) (p : Copies) (first s : ℕ) (pre : 
             (acted s j (q .paid) (copiesIn x q) (stands-ready x q (so .used))))
 
         -- the acts that are left begin with it
-        left : (v : Sofar) → Holds x calls acts v → actsAt s (drop a (v .acts)) ≡ placedAt (v .acts) a .act ∷ actsAt s (drop (suc a) (v .acts))
-        left v h = at-here s a (v .acts) (omega (arith, h .actCount)) (sym (noted-act x calls acts v h a l .place) ∙ place)
+        left : (calls : List ℕ) (v : Sofar) → Holds x calls acts v → actsAt s (drop a (v .acts)) ≡ placedAt (v .acts) a .act ∷ actsAt s (drop (suc a) (v .acts))
+        left calls v h = at-here s a (v .acts) (omega (arith, h .actCount)) (sym (noted-act x calls acts v h a l .place) ∙ place)
 
-        pub acting-turn : r .number ≡ 0 → Acting x calls acts p first s (r .copies) (a + 1)
+        pub acting-turn : r .number ≡ 0 → Acting x acts p first s (r .copies) (a + 1)
         unfolding allActs
         acting-turn e =
             let d = planActs (catalogIn x) s 0 (actOf (getD acts (3 * a + 1) 0) (getD acts (3 * a + 2) 0)) (copiesIn x q) in
@@ -199,15 +199,15 @@ module _ (x : Seen) (calls acts : List ℕ) (p : Copies) (first s : ℕ) (pre : 
             earlier i b k (no z) = so .here i b (omega arith)
 
             turn :
-                (v : Sofar) (t : Acted) →
+                (calls : List ℕ) (v : Sofar) (t : Acted) →
                 Holds x calls acts v →
                 Left v s (a + 1 - first) (a + 1) (copiesIn x (r .copies)) (r .copies .paid) t →
                 Left v s 0 first (copiesIn x p) (p .paid) t
-            turn v t h rest =
-                so .leads v t h
-                (subst (λ (o : List Act). ActsDone v s (allActs (v .catalog) s (a - first) o (copiesIn x q)) (q .paid) t) (sym (left v h))
+            turn calls v t h rest =
+                so .leads calls v t h
+                (subst (λ (o : List Act). ActsDone v s (allActs (v .catalog) s (a - first) o (copiesIn x q)) (q .paid) t) (sym (left calls v h))
                 (then-done v s (planActs (v .catalog) s (a - first) (placedAt (v .acts) a .act) (copiesIn x q))
-                (allActs (v .catalog) s (suc (a - first)) (actsAt s (drop (suc a) (v .acts)))) (q .paid) r t (does v h (a - first)) e
+                (allActs (v .catalog) s (suc (a - first)) (actsAt s (drop (suc a) (v .acts)))) (q .paid) r t (does calls v h (a - first)) e
                 (subst
                 (λ (n : ℕ). Left v s (suc (a - first)) (suc a) (copiesOf n (r .copies .marks)) (r .copies .paid) t)
                 (sym (held-length x calls acts v h))
@@ -218,28 +218,28 @@ module _ (x : Seen) (calls acts : List ℕ) (p : Copies) (first s : ℕ) (pre : 
                 (λ (n : ℕ). Left v s (a + 1 - first) n (copiesIn x (r .copies)) (r .copies .paid) t)
                 (add-one a) rest)))))
 
-        pub acting-fails : (t : Acted) → r .number ≢ 0 → t .number ≡ r .number → t .next ≡ a → RunsActs x p calls acts first s t
+        pub acting-fails : (t : Acted) → r .number ≢ 0 → t .number ≡ r .number → t .next ≡ a → RunsActs x p acts first s t
         unfolding allActs
-        acting-fails t e number next v paid o h sound begins st =
-            whole v t paid o h sound begins st
-            (so .leads v t h
-            (subst (λ (u : List Act). ActsDone v s (allActs (v .catalog) s (a - first) u (copiesIn x q)) (q .paid) t) (sym (left v h))
+        acting-fails t e number next calls v paid o h sound begins st =
+            whole calls v t paid o h sound begins st
+            (so .leads calls v t h
+            (subst (λ (u : List Act). ActsDone v s (allActs (v .catalog) s (a - first) u (copiesIn x q)) (q .paid) t) (sym (left calls v h))
             (then-fails v s (a - first) (planActs (v .catalog) s (a - first) (placedAt (v .acts) a .act) (copiesIn x q))
-            (allActs (v .catalog) s (suc (a - first)) (actsAt s (drop (suc a) (v .acts)))) (q .paid) r t (does v h (a - first)) e
+            (allActs (v .catalog) s (suc (a - first)) (actsAt s (drop (suc a) (v .acts)))) (q .paid) r t (does calls v h (a - first)) e
             (act-faults (v .catalog) s (a - first) (placedAt (v .acts) a .act) (copiesIn x q)) number
             (omega (arith, next, begins, so .begun)))))
 
     module _ (t : Acted) (number : t .number ≡ 0) (next : t .next ≡ a) (same : t .copies ≡ q) where
       -- no act is left where every further one stands behind the step
       ends :
-          (v : Sofar) →
+          (calls : List ℕ) (v : Sofar) →
           Holds x calls acts v →
           Sound v →
           first ≡ actsBefore s (v .acts) →
           ((i : ℕ) → a ≤ i → i < length (v .acts) → s < placedAt (v .acts) i .place) →
           Left v s (a - first) a (copiesIn x q) (q .paid) t
       unfolding allActs
-      ends v h sound begins past =
+      ends calls v h sound begins past =
           subst (λ (u : List Act). ActsDone v s (allActs (v .catalog) s (a - first) u (copiesIn x q)) (q .paid) t)
           (sym (at-none s a (v .acts) (λ i l b e. let z = past i l b in omega arith))) (
             number,
@@ -258,15 +258,15 @@ module _ (x : Seen) (calls acts : List ℕ) (p : Copies) (first s : ℕ) (pre : 
                   omega (arith, noted-act x calls acts v h i (omega (arith, so .within)) .place, so .here i (omega arith) l)
 
       -- all acts are done
-      pub acting-ends : x .acts ≤ a → RunsActs x p calls acts first s t
-      acting-ends l v paid o h sound begins st =
-          whole v t paid o h sound begins st
-          (so .leads v t h (ends v h sound begins (λ i b k. absurd (omega (arith, h .actCount)))))
+      pub acting-ends : x .acts ≤ a → RunsActs x p acts first s t
+      acting-ends l calls v paid o h sound begins st =
+          whole calls v t paid o h sound begins st
+          (so .leads calls v t h (ends calls v h sound begins (λ i b k. absurd (omega (arith, h .actCount)))))
 
       -- or the next one stands before a later step
-      pub acting-stops : a < x .acts → getD acts (3 * a) 0 ≢ s → RunsActs x p calls acts first s t
-      acting-stops l e v paid o h sound begins st =
-          whole v t paid o h sound begins st (so .leads v t h (ends v h sound begins behind))
+      pub acting-stops : a < x .acts → getD acts (3 * a) 0 ≢ s → RunsActs x p acts first s t
+      acting-stops l e calls v paid o h sound begins st =
+          whole calls v t paid o h sound begins st (so .leads calls v t h (ends calls v h sound begins behind))
         where
           here : s < placedAt (v .acts) a .place
           here =

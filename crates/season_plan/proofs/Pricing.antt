@@ -210,9 +210,10 @@ module _ (x : Seen) (calls acts : List ℕ) (pre : Priceable x calls acts) where
     stands v h = subst (λ (c : Catalog). Stands c p (copiesIn x p) (p .paid)) (h .catalog) (stands-ready x p (so .used))
 
     module _ (l : s < x .steps) where
-      pub pricing-acts : Actable x p calls acts a s
+      pub pricing-acts : Actable x p acts a s
       pricing-acts =
           record {
+            calls = calls;
             priceable = pre;
             ready = pricing-ready;
             begins = so .at (pre .text) (pre .holds) (pre .sound);
@@ -220,10 +221,10 @@ module _ (x : Seen) (calls acts : List ℕ) (pre : Priceable x calls acts) where
             paid = so .low;
           }
 
-      module _ (b : Acted) (ran : RunsActs x p calls acts a s b) (bound : ActsWithin x s b) where
+      module _ (b : Acted) (ran : RunsActs x p acts a s b) (bound : ActsWithin x s b) where
         -- the acts before the step, for a text that the slices hold
         did : (v : Sofar) → Holds x calls acts v → Sound v → ActsDone v s (actsOf v s (copiesIn x p)) (p .paid) b
-        did v h sound = ran v (p .paid) (copiesIn x p) h sound (so .at v h sound) (stands v h)
+        did v h sound = ran calls v (p .paid) (copiesIn x p) h sound (so .at v h sound) (stands v h)
 
         -- the step with the rest of the log
         unrolled :

@@ -139,7 +139,8 @@ abbrev pub most : ℕ → ℕ → ℕ
 most acts steps = 65535 * acts + 16776960 * steps
 
 -- what the acts before step s ask: they begin at act `first`, and the sum is far from the end of its word
-pub record Actable (x : Seen) (p : Copies) (calls acts : List ℕ) (first s : ℕ) : Type 0 where
+pub record Actable (x : Seen) (p : Copies) (acts : List ℕ) (first s : ℕ) : Type 0 where
+  pub calls : List ℕ
   pub priceable : Priceable x calls acts
   pub ready : Ready x p
   pub begins : first ≡ actsBefore s (priceable .text .acts)
@@ -147,9 +148,9 @@ pub record Actable (x : Seen) (p : Copies) (calls acts : List ℕ) (first s : �
   pub paid : p .paid ≤ most first s
 
 -- whatever text the slices hold, its acts before step s are done, or the first fault among them is told
-abbrev pub RunsActs : Seen → Copies → List ℕ → List ℕ → ℕ → ℕ → Acted → Type 0
-RunsActs x p calls acts first s r =
-    (v : Sofar) (paid : ℕ) (q : List Copy) →
+abbrev pub RunsActs : Seen → Copies → List ℕ → ℕ → ℕ → Acted → Type 0
+RunsActs x p acts first s r =
+    (calls : List ℕ) (v : Sofar) (paid : ℕ) (q : List Copy) →
     Holds x calls acts v →
     Sound v →
     first ≡ actsBefore s (v .acts) →

@@ -8,7 +8,7 @@ use lib.Dec.{ltb, eqb}
 use Rattle.landlord.specs.declared.Act.{Act}
 use Rattle.landlord.specs.declared.Refusal.{Refusal}
 use Rattle.landlord.specs.declared.Refusal.the-variants.{UnknownItem, NotHeld, AlreadyHeld, OverCapacity, RequestNotHeld}
-use Rattle.landlord.specs.Plan.{Plan, Fault, unknownItem, notHeld, alreadyHeld, requestNotHeld, overCapacity, faultNumber, Priced, costs, fault, price}
+use Rattle.landlord.specs.Plan.{Plan, Fault, unknownItem, notHeld, alreadyHeld, requestNotHeld, overCapacity, Priced, costs, fault, price}
 use Rattle.season_tables.specs.Tables.{Placed, Sofar}
 use Rattle.season_plan.specs.declared.Price.{Price}
 use Rattle.season_plan.specs.declared.Price.the-variants.{Cost, Refused}

@@ -95,9 +95,9 @@ fn act(seen: Seen, p: Copies, kind: u32, item: usize) -> Did
 }
 
 // The acts that stand before step `step`, from act `first` on.
-fn acts_before(seen: Seen, p: Copies, calls: &[u32], acts: &[u32], first: usize, step: u32) -> Acted
-    requires { ⌜ Actable seen p (now calls) (now acts) first step ⌝ }
-    ensures { λ r. ⌜ RunsActs seen p (now (calls .entry)) (now (acts .entry)) first step r ⌝ }
+fn acts_before(seen: Seen, p: Copies, acts: &[u32], first: usize, step: u32) -> Acted
+    requires { ⌜ Actable seen p (now acts) first step ⌝ }
+    ensures { λ r. ⌜ RunsActs seen p (now (acts .entry)) first step r ⌝ }
     ensures { λ r. ⌜ ActsWithin seen step r ⌝ }
 {
     let count = seen.acts;
@@ -235,7 +235,7 @@ pub fn price_plan(seen: Seen, calls: &[u32], acts: &[u32]) -> Price
     let mut a = 0;
     let mut s = 0;
     while s < steps {
-        let before = acts_before(seen, p, calls, acts, a, s as u32);
+        let before = acts_before(seen, p, acts, a, s as u32);
         a = before.next;
         let number = before.number;
         if number != 0 {
