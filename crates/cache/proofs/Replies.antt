@@ -32,39 +32,36 @@ foul-reply c call r d e =
     }
 
 -- an answer to a valid cache is all that is asked
-valid-reply : (c : Cache) (call : Call) (r : Reply) → Valid c → Answers c call r → Called c call r
-valid-reply c call r ok a = record { fine = λ again. a; foul = λ none. absurd (none ok) }
+pub answers-called : (c : Cache) (call : Call) (r : Reply) → Valid c → Answers c call r → Called c call r
+answers-called c call r ok a = record { fine = λ again. a; foul = λ none. absurd (none ok) }
 
 -- a refused call changes nothing
-pub refused-reply : (c : Cache) (call : Call) (n : ℕ) → Valid c → n ≡ refusalNow (view c) call → n ≢ 0 → Called c call (reply n c)
+pub refused-reply : (c : Cache) (call : Call) (n : ℕ) → Valid c → n ≡ refusalNow (view c) call → n ≢ 0 → Answers c call (reply n c)
 unfolding after
 refused-reply c call n ok e d =
-    valid-reply c call (reply n c) ok
-    (record { number = e; next = record { stands = sym stays; fields = ok .fields }; refused = λ z. refl })
+    record { number = e; next = record { stands = sym stays; fields = ok .fields }; refused = λ z. refl }
   where
     stays : after writeFirst (view c) call ≡ view c
     stays = rw (sym e, ne-eqb n 0 d)
 
 -- a call that is not refused moves the rule on
-taken-reply : (c r : Cache) (call : Call) → Valid c → 0 ≡ refusalNow (view c) call → Becomes (accepted writeFirst (view c) call) r → Called c call (reply 0 r)
+taken-reply : (c r : Cache) (call : Call) → 0 ≡ refusalNow (view c) call → Becomes (accepted writeFirst (view c) call) r → Answers c call (reply 0 r)
 unfolding after
-taken-reply c r call ok e h =
-    valid-reply c call (reply 0 r) ok
-    (record { number = e; next = subst (λ (z : Standing). Becomes z r) (sym goes) h; refused = λ z. absurd (z refl) })
+taken-reply c r call e h =
+    record { number = e; next = subst (λ (z : Standing). Becomes z r) (sym goes) h; refused = λ z. absurd (z refl) }
   where
     goes : after writeFirst (view c) call ≡ accepted writeFirst (view c) call
     goes = rw (sym e)
 
 pub step-reply :
     (c r : Cache) (kind i m : ℕ) →
-    Valid c →
     0 ≡ refusalNow (view c) (take kind i m) →
     Becomes (took writeFirst (view c) (stepOf kind i m)) r →
-    Called c (take kind i m) (reply 0 r)
-step-reply c r kind i m ok e h = taken-reply c r (take kind i m) ok e h
+    Answers c (take kind i m) (reply 0 r)
+step-reply c r kind i m e h = taken-reply c r (take kind i m) e h
 
 -- the closing: closed already, or open
-pub closed-reply : (c : Cache) → Valid c → c .closed ≡ true → Called c close (reply 9 c)
+pub closed-reply : (c : Cache) → Valid c → c .closed ≡ true → Answers c close (reply 9 c)
 closed-reply c ok e = refused-reply c close 9 ok (unfold refusalAt in rw e) (λ z. let y : _≡_ {A = ℕ} 9 0 = z in omega arith)
 
 -- a cache with its last field set: the closing's last store
@@ -122,12 +119,11 @@ closed-normal q n =
 -- the closing flushes, counts no step, and closes
 pub closing-reply :
     (c q : Cache) →
-    Valid c →
     c .closed ≡ false →
     Becomes (moved (view c) (flush (stateOf c)) (c .closed)) q →
-    Called c close (reply 0 (closedOf q))
-closing-reply c q ok e h =
-    taken-reply c (closedOf q) close ok (unfold refusalAt in rw e)
+    Answers c close (reply 0 (closedOf q))
+closing-reply c q e h =
+    taken-reply c (closedOf q) close (unfold refusalAt in rw e)
     (record { stands = ended ∙ ap shut (h .stands) ∙ same; fields = closed-normal q (h .fields) })
   where
     shut : Standing → Standing

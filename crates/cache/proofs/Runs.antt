@@ -16,17 +16,19 @@ use Rattle.landlord.specs.Catalog.{Catalog}
 use Rattle.landlord.specs.Calls.{Call, take, close, openingRefusal}
 use Rattle.landlord.proofs.Folds.{tab-length, tab-at}
 use Rattle.cache_state.specs.declared.Cache.{Cache}
+use Rattle.cache_state.specs.Valid.{Valid}
 use Rattle.cache_state.specs.Becomes.{Becomes}
 use Rattle.cache.specs.declared.Reply.{Reply}
-use Rattle.cache.specs.Contract.{Called, Opened, refusedOpening}
+use Rattle.cache.specs.Contract.{Answers, Opened, refusedOpening}
 use Rattle.cache.specs.Chain.{Follows, none, then, Chain, Season}
 use Rattle.cache.specs.Run.{callFrom, callAt, callsOf, RanCalls, Ran}
-use Rattle.cache.proofs.Season.{season-by-value}
+use Rattle.cache.proofs.Season.{answers-valid, season-by-value}
+use Rattle.cache.proofs.Replies.{answers-called}
 
-pub call-takes : (c : Cache) (which kind i m : ℕ) (r : Reply) → which ≡ 0 → Called c (take kind i m) r → Called c (callFrom which kind i m) r
+pub call-takes : (c : Cache) (which kind i m : ℕ) (r : Reply) → which ≡ 0 → Answers c (take kind i m) r → Answers c (callFrom which kind i m) r
 call-takes c which kind i m r e h = rw (eq-eqb which 0 e) h
 
-pub call-closes : (c : Cache) (which kind i m : ℕ) (r : Reply) → (which ≡ 0 → ⊥) → Called c close r → Called c (callFrom which kind i m) r
+pub call-closes : (c : Cache) (which kind i m : ℕ) (r : Reply) → (which ≡ 0 → ⊥) → Answers c close r → Answers c (callFrom which kind i m) r
 call-closes c which kind i m r e h = rw (ne-eqb which 0 e) h
 
 pub count-is : (xs : List ℕ) → length (callsOf xs) ≡ length xs / 4
@@ -50,26 +52,29 @@ sets-more : (l vs : List ℕ) (at v : ℕ) → sets l at (vs ++ (v ∷ [])) ≡ 
 sets-more l [] at v = ap (λ (n : ℕ). set l n v) (let e : at ≡ at + 0 = omega arith in e)
 sets-more l (w ∷ vs) at v = sets-more (set l at w) vs (suc at) v ∙ ap (λ (n : ℕ). set (sets (set l at w) (suc at) vs) n v) (let e : suc at + length vs ≡ at + suc (length vs) = omega arith in e)
 
--- after i calls: what is left to do from here leads to the answers from the start, and those so far are noted
+-- after i calls: the cache is valid, what is left to do from here leads to the answers from the start, and those so far are
+-- noted
 pub record Going (c : Cache) (calls : List Call) (before : List ℕ) (i : ℕ) (q : Cache) (out : List ℕ) : Type 0 where
+  pub valid : Valid q
   pub numbers : List ℕ
   pub count : length numbers ≡ i
   pub goes : (rest : List ℕ) (d : Cache) → Follows q (drop i calls) rest d → Follows c calls (numbers ++ rest) d
   pub noted : out ≡ sets before 0 numbers
 
-pub going-starts : (c : Cache) (calls : List Call) (before : List ℕ) → Going c calls before 0 c before
-going-starts c calls before = record { numbers = []; count = refl; goes = λ rest d f. f; noted = refl }
+pub going-starts : (c : Cache) (calls : List Call) (before : List ℕ) → Valid c → Going c calls before 0 c before
+going-starts c calls before ok = record { valid = ok; numbers = []; count = refl; goes = λ rest d f. f; noted = refl }
 
 pub going-on :
     (c q : Cache) (calls : List Call) (before out after : List ℕ) (i : ℕ) (call : Call) (r : Reply) →
     i < length calls →
     getD calls i close ≡ call →
-    Called q call r →
+    Answers q call r →
     after ≡ set out i (r .number) →
     Going c calls before i q out →
     Going c calls before (i + 1) (r .cache) after
 going-on c q calls before out after i call r l e h noted g =
     record {
+      valid = answers-valid q call r (g .valid) h;
       numbers = g .numbers ++ (r .number ∷ []);
       count = length-append (g .numbers) (r .number ∷ []) ∙ (let z : length (g .numbers) + 1 ≡ i + 1 = omega (arith, g .count) in z);
       goes = λ rest d f. subst (λ (z : List ℕ). Follows c calls z d) (sym (append-snoc (g .numbers) (r .number) rest)) (g .goes (r .number ∷ rest) d (steps rest d f));
@@ -80,7 +85,7 @@ going-on c q calls before out after i call r l e h noted g =
     left = drop-cons calls i close l ∙ (λ z. e z ∷ drop (sym (add-one i) z) calls)
 
     steps : (rest : List ℕ) (d : Cache) → Follows (r .cache) (drop (i + 1) calls) rest d → Follows q (drop i calls) (r .number ∷ rest) d
-    steps rest d f = subst (λ (z : List Call). Follows q z (r .number ∷ rest) d) (sym left) (then h f)
+    steps rest d f = subst (λ (z : List Call). Follows q z (r .number ∷ rest) d) (sym left) (then (answers-called q call r (g .valid) h) f)
 
 pub going-ends : (c q : Cache) (calls : List Call) (before out : List ℕ) (i : ℕ) → length calls ≤ i → Going c calls before i q out → RanCalls c calls before out q
 going-ends c q calls before out i l g =

@@ -30,10 +30,19 @@ use Rattle.cache.specs.Chain.{Follows, none, then, Chain, Answered, Clos
 pub becomes-valid : (v : Standing) (r : Cache) → StandingOk v → Becomes v r → Valid r
 becomes-valid v r ok h = record { fields = h .fields; rule = subst StandingOk (sym (h .stands)) ok }
 
+-- an accepted opening hands back a valid cache
+pub opened-valid : (k : ℕ) (cat : Catalog) (r : Reply) → Opened k cat r → r .number ≡ 0 → Valid (r .cache)
+opened-valid k cat r o e =
+    let ranges = opening-taken k cat (sym (o .number) ∙ e) in
+    becomes-valid (opened k cat) (r .cache) (ok-opened k cat (ranges .0) (ranges .1)) (o .taken e)
+
 -- a call on a valid cache hands back a valid cache
+pub answers-valid : (c : Cache) (call : Call) (r : Reply) → Valid c → Answers c call r → Valid (r .cache)
+answers-valid c call r ok h =
+    becomes-valid (after writeFirst (view c) call) (r .cache) (ok-after writeFirst (view c) call write-first-ok (ok .rule)) (h .next)
+
 pub called-valid : (c : Cache) (call : Call) (r : Reply) → Valid c → Called c call r → Valid (r .cache)
-called-valid c call r ok h =
-    becomes-valid (after writeFirst (view c) call) (r .cache) (ok-after writeFirst (view c) call write-first-ok (ok .rule)) (h .fine ok .next)
+called-valid c call r ok h = answers-valid c call r ok (h .fine ok)
 
 module _ (k : ℕ) (cat : Catalog) (good : CatalogOk cat) where
   -- where a list of calls leads from a cache that stands after a log
@@ -103,7 +112,7 @@ season-by-value k cat calls numbers d chain =
     let first : Cache = chain .first .cache in
     let ranges = opening-taken k cat (sym (chain .opening .number) ∙ chain .accepted) in
     let begun : Becomes (opened k cat) first = chain .opening .taken (chain .accepted) in
-    let so = leads k cat (ranges .1) noLog (log-allowed k cat []) (becomes-valid (opened k cat) first (ok-opened k cat (ranges .0) (ranges .1)) begun) (begun .stands) (chain .follows) in
+    let so = leads k cat (ranges .1) noLog (log-allowed k cat []) (opened-valid k cat (chain .first) (chain .opening) (chain .accepted)) (begun .stands) (chain .follows) in
     let answers : Answered k cat calls numbers = record { count = so .count; each = so .each } in
     record {
       answers = answers;

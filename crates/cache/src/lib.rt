@@ -2,7 +2,7 @@
 ghost use mathlib.Core.Path.{_≡_};
 ghost use Prim.Native.Nat.{_≤_};
 ghost use lib.ListN.{set};
-ghost use Rattle.cache.specs.Contract.{Passed, Called, Opened, catalogFrom, answerTo, CalledBy, OpenedBy};
+ghost use Rattle.cache.specs.Contract.{Passed, Answers, Called, Opened, catalogFrom, answerTo, CalledBy, OpenedBy};
 ghost use Rattle.cache.specs.Run.{callFrom, callsOf, RanCalls, Ran};
 ghost use Rattle.landlord.specs.Slot.{writeFirst};
 ghost use Rattle.landlord.specs.Figures.{took};
@@ -97,16 +97,11 @@ fn serve(c: Cache, kind: u32, item: u32, minutes: u32) -> Cache
     cache_serve::serve_write(room, i, minutes)
 }
 
-// A step by its numbers, on any cache: 17 if the cache is invalid, else as the table says. Refused, the cache comes back.
-pub fn take(c: Cache, kind: u32, item: u32, minutes: u32) -> Reply
-    ensures { λ r. ⌜ Called c (take kind item minutes) r ⌝ }
+// A step by its numbers, on a valid cache: as the table says. Refused, the cache comes back.
+fn take_valid(c: Cache, kind: u32, item: u32, minutes: u32) -> Reply
+    requires { ⌜ Valid c ⌝ }
+    ensures { λ r. ⌜ Answers c (take kind item minutes) r ⌝ }
 {
-    if !cache_state::valid(c) {
-        return Reply {
-            number: 17,
-            cache: c,
-        };
-    }
     let number = refused(c, kind, item, minutes);
     if number != 0 {
         return Reply {
@@ -120,9 +115,9 @@ pub fn take(c: Cache, kind: u32, item: u32, minutes: u32) -> Reply
     }
 }
 
-// The closing, on any cache: 17 if it is invalid, 9 if it is closed. It flushes, is no step, and closes.
-pub fn shut(c: Cache) -> Reply
-    ensures { λ r. ⌜ Called c close r ⌝ }
+// A step by its numbers, on any cache: 17 if the cache is invalid, else as the table says.
+pub fn take(c: Cache, kind: u32, item: u32, minutes: u32) -> Reply
+    ensures { λ r. ⌜ Called c (take kind item minutes) r ⌝ }
 {
     if !cache_state::valid(c) {
         return Reply {
@@ -130,6 +125,14 @@ pub fn shut(c: Cache) -> Reply
             cache: c,
         };
     }
+    take_valid(c, kind, item, minutes)
+}
+
+// The closing, on a valid cache: 9 if it is closed. It flushes, is no step, and closes.
+fn shut_valid(c: Cache) -> Reply
+    requires { ⌜ Valid c ⌝ }
+    ensures { λ r. ⌜ Answers c close r ⌝ }
+{
     if c.closed {
         return Reply {
             number: 9,
@@ -142,6 +145,19 @@ pub fn shut(c: Cache) -> Reply
         number: 0,
         cache: q,
     }
+}
+
+// The closing, on any cache: 17 if it is invalid, else as on a valid one.
+pub fn shut(c: Cache) -> Reply
+    ensures { λ r. ⌜ Called c close r ⌝ }
+{
+    if !cache_state::valid(c) {
+        return Reply {
+            number: 17,
+            cache: c,
+        };
+    }
+    shut_valid(c)
 }
 
 // Whether each of the first `n` items has 1 to 16 blocks.
@@ -337,14 +353,16 @@ impl Ledger {
     }
 }
 
-// A call from four numbers: 0 and then a step's kind, item and minutes; or another number, and it is the closing.
+// A call from four numbers, on a valid cache: 0 and then a step's kind, item and minutes; or another number, and it is the
+// closing.
 fn call(c: Cache, which: u32, kind: u32, item: u32, minutes: u32) -> Reply
-    ensures { λ r. ⌜ Called c (callFrom which kind item minutes) r ⌝ }
+    requires { ⌜ Valid c ⌝ }
+    ensures { λ r. ⌜ Answers c (callFrom which kind item minutes) r ⌝ }
 {
     if which == 0 {
-        return take(c, kind, item, minutes);
+        return take_valid(c, kind, item, minutes);
     }
-    shut(c)
+    shut_valid(c)
 }
 
 // Notes the answer to call `i`, if there is a place for it.
@@ -356,8 +374,10 @@ pub fn note(answers: &mut [u32], i: usize, number: u32)
     }
 }
 
-// Makes the calls that the numbers stand for, four to a call; a remainder is no call.
+// Makes the calls that the numbers stand for, four to a call; a remainder is no call. A call on a valid cache hands back a
+// valid one, so none of them tests it again.
 fn run_calls(c: Cache, calls: &[u32], answers: &mut [u32]) -> Cache
+    requires { ⌜ Valid c ⌝ }
     ensures { λ r. ⌜ RanCalls c (callsOf (now (calls .entry))) (now (answers .entry)) (now (answers .exit)) r ⌝ }
 {
     let count = calls.len() / 4;

@@ -2,6 +2,7 @@
 use Rattle.cache.specs.Run.{callsOf}
 use Rattle.cache.specs.Contract.{catalogFrom}
 use Rattle.cache.proofs.Runs.{run-refused, run-taken}
+use Rattle.cache.proofs.Season.{opened-valid}
 use borrow.Author.Needs.{needs}
 use Rattle.cache.proofs.run.Statement.{statement}
 use Rattle.cache.proofs.run.Tie as tie
@@ -19,7 +20,9 @@ returns c =
     run-refused (a .k) (catalogFrom (a .n) (a .blocks) (a .load) (a .write)) (callsOf (a .calls .now)) (a .answers .now) (c .before .before .«open» .result) (c .before .before .«open» .ensures) (c .if1 .taken)
 
 run-calls-requires : tie.Need-run-calls-requires
-run-calls-requires c κs = search needs
+run-calls-requires c κs =
+    let a = c .before .before .before .before .before .before .args in
+    opened-valid (a .k) (catalogFrom (a .n) (a .blocks) (a .load) (a .write)) (c .before .before .before .«open» .result) (c .before .before .before .«open» .ensures) (c .before .if1 .left)
 
 same-length : tie.Need-same-length
 same-length c = search needs

@@ -22,7 +22,7 @@ abbrev μ-loop : tie.MeasureT-loop
 μ-loop calls answers₀ count q₀ at₀ i₀ answers q at i = count - i
 
 loop-holds : tie.Need-loop-holds Inv-loop μ-loop
-loop-holds c = (omega arith, omega arith, refl, going-starts _ _ _)
+loop-holds c = (omega arith, omega arith, refl, going-starts _ _ _ (c .before .before .pre))
 
 mul-call : tie.Need-mul-call Inv-loop μ-loop
 mul-call c = search needs
@@ -58,7 +58,7 @@ shared-slice-read-call-4 : tie.Need-shared-slice-read-call-4 Inv-loop μ-loop
 shared-slice-read-call-4 c = omega arith
 
 call-requires : tie.Need-call-requires Inv-loop μ-loop
-call-requires c κs = search needs
+call-requires c κs = c .before .before .before .before .before .loop .inv .3 .valid
 
 note-requires : tie.Need-note-requires Inv-loop μ-loop
 note-requires c κs = search needs
