@@ -31,7 +31,7 @@ pub record GoingLent (b : List ℕ) (calls : List Call) (before : List ℕ) (i :
   pub going : Going (cacheOf b) calls before i (cacheOf now) out
 
 pub lent-starts : (b : List ℕ) (calls : List Call) (before : List ℕ) → ValidBytes b → GoingLent b calls before 0 b before
-lent-starts b calls before ok = record { valid = ok; going = going-starts (cacheOf b) calls before }
+lent-starts b calls before ok = record { valid = ok; going = going-starts (cacheOf b) calls before (ok .cache) }
 
 pub lent-on :
     (b now left : List ℕ) (calls : List Call) (before out after : List ℕ) (i : ℕ) (call : Call) (n : ℕ) →
@@ -44,7 +44,7 @@ pub lent-on :
 lent-on b now left calls before out after i call n l e h noted g =
     record {
       valid = h .fine (g .valid) .next .valid;
-      going = going-on (cacheOf b) (cacheOf now) calls before out after i call (reply n left) l e (lent-called now left call n (g .valid) h) noted (g .going);
+      going = going-on (cacheOf b) (cacheOf now) calls before out after i call (reply n left) l e (lent-called now left call n (g .valid) h .fine (g .valid .cache)) noted (g .going);
     }
 
 pub lent-ends : (b now : List ℕ) (calls : List Call) (before out : List ℕ) (i : ℕ) → length calls ≤ i → GoingLent b calls before i now out → RanLentCalls b calls before out now
