@@ -102,7 +102,7 @@ log-allowed k cat calls =
     (record { each = λ i b. absurd (let z : i < 0 = b in omega arith) })
 
 -- a step, as a call, means itself
-same-step : (s : Step) → stepOf (stepKind s) (stepItem s) (stepMinutes s) ≡ s
+pub same-step : (s : Step) → stepOf (stepKind s) (stepItem s) (stepMinutes s) ≡ s
 unfolding stepOf
 same-step (Read i) = refl
 same-step (Write i m) = refl

@@ -22,6 +22,7 @@ use Rattle.season_plan.specs.declared.Did.{Did}
 use Rattle.season_plan.specs.declared.Acted.{Acted}
 use Rattle.season_plan.specs.Plans.{actsAt, actsBefore}
 use Rattle.season_plan.specs.Copies.{copiesOf, catalogIn, Stands, Does, Ready, Known, Acts, faultAct, ActsDone, most, Actable, RunsActs}
+use Rattle.season_tables.proofs.Held.{count-is}
 use Rattle.season_plan.proofs.Marks.{catalog-length}
 use Rattle.season_plan.proofs.Places.{noted-act, act-again, sound-ordered, parted, parted-is, at-skip, at-here, at-none}
 use Rattle.season_plan.proofs.Costs.{Cheap, Faults, ofAct, fault-some, act-cheap, act-faults}
@@ -99,9 +100,6 @@ pub stands-ready :
     Stands (catalogIn x) p (copiesIn x p) (p .paid)
 stands-ready x p used = record { copies = ap (λ t. copiesOf t (p .marks)) (catalog-length x); used = used; sum = refl }
 
-pub held-length : (x : Seen) (calls acts : List ℕ) (v : Sofar) → Holds x calls acts v → length (v .catalog) ≡ x .n
-held-length x calls acts v h = ap length (sym (h .catalog)) ∙ catalog-length x
-
 module _ (x : Seen) (acts : List ℕ) (p : Copies) (first s : ℕ) (pre : Actable x p acts first s) where
   pub acting-starts : Acting x acts p first s p first
   acting-starts =
@@ -130,7 +128,7 @@ module _ (x : Seen) (acts : List ℕ) (p : Copies) (first s : ℕ) (pre : Actabl
       ActsDone v s (allActs (v .catalog) s 0 (actsAt s (v .acts)) o) paid t
   whole calls v t paid o h sound begins st so =
       let part = parted s (v .acts) (sound-ordered v sound) in
-      let these : copiesIn x p ≡ o = ap (λ n. copiesOf n (p .marks)) (sym (held-length x calls acts v h)) ∙ st .copies in
+      let these : copiesIn x p ≡ o = ap (λ n. copiesOf n (p .marks)) (sym (count-is x calls acts v h)) ∙ st .copies in
       let skip : actsAt s (drop first (v .acts)) ≡ actsAt s (v .acts) =
       at-skip s first (v .acts) (λ i l b e. let z = part .below i (omega (arith, begins)) in omega arith)
       in
@@ -153,7 +151,7 @@ module _ (x : Seen) (acts : List ℕ) (p : Copies) (first s : ℕ) (pre : Actabl
       acting-known =
           let text = pre .priceable .text in
           let h = pre .priceable .holds in
-          let n : length (text .catalog) ≡ x .n = held-length x (pre .calls) acts text h in
+          let n : length (text .catalog) ≡ x .n = count-is x (pre .calls) acts text h in
           let known : actItem (placedAt (text .acts) a .act) < length (text .catalog) = pre .priceable .sound .each a (omega (arith, h .actCount)) .known in
           record {
             ready = acting-ready;
@@ -210,7 +208,7 @@ module _ (x : Seen) (acts : List ℕ) (p : Copies) (first s : ℕ) (pre : Actabl
                 (allActs (v .catalog) s (suc (a - first)) (actsAt s (drop (suc a) (v .acts)))) (q .paid) r t (does calls v h (a - first)) e
                 (subst
                 (λ (n : ℕ). Left v s (suc (a - first)) (suc a) (copiesOf n (r .copies .marks)) (r .copies .paid) t)
-                (sym (held-length x calls acts v h))
+                (sym (count-is x calls acts v h))
                 (subst
                 (λ (n : ℕ). Left v s n (suc a) (copiesIn x (r .copies)) (r .copies .paid) t)
                 (let z : a + 1 - first ≡ suc (a - first) = omega (arith, so .begun) in z)

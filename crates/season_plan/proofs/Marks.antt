@@ -15,6 +15,7 @@ use Rattle.landlord.proofs.Folds.{tab-length, tab-at, tab-set}
 use Rattle.landlord.proofs.Sums.{sum-change}
 use Rattle.cache.specs.Contract.{catalogFrom}
 use Rattle.season_tables.specs.declared.Seen.{Seen}
+use Rattle.season_tables.proofs.Items.{catalog-length as from-length, catalog-at as from-at}
 use Rattle.season_plan.specs.Copies.{copyFrom, copiesOf, catalogIn}
 
 -- control came one way or the other
@@ -33,21 +34,17 @@ cond-most true c m l = l
 cond-most false c m l = omega arith
 
 pub catalog-length : (x : Seen) → length (catalogIn x) ≡ x .n
-unfolding catalogFrom
-catalog-length x = tab-length (x .n) _
+catalog-length x = from-length (x .n) (x .blocks) (x .load) (x .write)
 
 module _ (x : Seen) (i : ℕ) (l : i < x .n) where
   pub blocks-at : itemAt (catalogIn x) i .blocks ≡ getD (x .blocks) i 0
-  unfolding catalogFrom
-  blocks-at = ap (λ (t : Item). t .blocks) (tab-at (x .n) _ i _ l)
+  blocks-at = ap (λ (t : Item). t .blocks) (from-at (x .n) (x .blocks) (x .load) (x .write) i l)
 
   pub load-at : itemAt (catalogIn x) i .load ≡ getD (x .load) i 0
-  unfolding catalogFrom
-  load-at = ap (λ (t : Item). t .load) (tab-at (x .n) _ i _ l)
+  load-at = ap (λ (t : Item). t .load) (from-at (x .n) (x .blocks) (x .load) (x .write) i l)
 
   pub write-at : itemAt (catalogIn x) i .write ≡ getD (x .write) i 0
-  unfolding catalogFrom
-  write-at = ap (λ (t : Item). t .write) (tab-at (x .n) _ i _ l)
+  write-at = ap (λ (t : Item). t .write) (from-at (x .n) (x .blocks) (x .load) (x .write) i l)
 
 -- marks, as copies
 pub copy-none : (m : ℕ) → m ≡ 0 → copyFrom m ≡ noCopy

@@ -86,16 +86,10 @@ module _ (x : Seen) (calls acts : List ℕ) (v : Sofar) (h : Holds x calls acts 
         item = front calls (callNumbers (v .steps)) (4 * x .steps) (4 * s + 2) (h .stepsNoted) (omega arith) ∙ here .item;
       }
 
--- letters and values say which act and step it was
+-- the letter and the item say which act it was
 pub act-again : (a : Act) → actOf (actKind a) (actItem a) ≡ a
 act-again (Evict i) = refl
 act-again (Fetch i) = refl
-
-pub step-again : (s : Step) → stepOf (stepKind s) (stepItem s) (stepMinutes s) ≡ s
-unfolding stepOf
-step-again (Read i) = refl
-step-again (Write i m) = refl
-step-again Flush = refl
 
 pub step-kind : (s : Step) → inRange (stepKind s) 0 0 ≡ true
 step-kind (Read i) = refl

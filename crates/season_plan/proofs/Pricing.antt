@@ -30,10 +30,12 @@ use Rattle.season_plan.specs.declared.Acted.{Acted}
 use Rattle.season_plan.specs.declared.Price.the-variants.{Cost, Refused}
 use Rattle.season_plan.specs.Plans.{actsBefore, planOf, faultLine, faultRefusal, priceOf, answerTo}
 use Rattle.season_plan.specs.Copies.{copyFrom, copiesOf, catalogIn, Stands, Does, Ready, Servable, Serves, faultAct, ActsDone, refusalFor, Priceable, most, Actable, RunsActs, ActsWithin, PricedAs}
+use Rattle.landlord.proofs.Calls.{same-step}
+use Rattle.season_tables.proofs.Held.{count-is}
 use Rattle.season_plan.proofs.Marks.{catalog-length, copy-at, copy-none}
-use Rattle.season_plan.proofs.Places.{stepAt, noted-step, step-again, step-kind, parted-is}
+use Rattle.season_plan.proofs.Places.{stepAt, noted-step, step-kind, parted-is}
 use Rattle.season_plan.proofs.Costs.{Faults, ofAct, ofStep, fault-some, serve-cheap, acts-fault, serve-fault}
-use Rattle.season_plan.proofs.Acting.{copiesIn, held-length, stands-ready, did-ready}
+use Rattle.season_plan.proofs.Acting.{copiesIn, stands-ready, did-ready}
 
 -- the acts before step s, the step, and the log from step s on
 abbrev actsOf : Sofar → ℕ → List Copy → Done
@@ -194,7 +196,7 @@ module _ (x : Seen) (calls acts : List ℕ) (pre : Priceable x calls acts) where
       empty : (v : Sofar) → Holds x calls acts v → copiesIn x p ≡ tab (length (v .catalog)) (λ i. noCopy)
       empty v h =
           tab-eq (x .n) (λ i. copyFrom (getD (p .marks) i 0)) (λ i. noCopy) mark
-          ∙ ap (λ n. tab n (λ (i : ℕ). noCopy)) (sym (held-length x calls acts v h))
+          ∙ ap (λ n. tab n (λ (i : ℕ). noCopy)) (sym (count-is x calls acts v h))
 
   module _ (p : Copies) (a s : ℕ) (so : Pricing x calls acts p a s) where
     -- the sum is far from the end of its word
@@ -243,7 +245,7 @@ module _ (x : Seen) (calls acts : List ℕ) (pre : Priceable x calls acts) where
         pricing-act-fails line e at v h sound =
             act-faulty v s (actsOf v s (copiesIn x p)) (stepOn v s)
             (logFrom v (suc s)) (p .paid) line b (did v h sound) e
-            (acts-fault (v .catalog) s 0 (planOf (v .acts) s) (copiesIn x p)) (omega (arith, held-length x calls acts v h, h .stepCount))
+            (acts-fault (v .catalog) s 0 (planOf (v .acts) s) (copiesIn x p)) (omega (arith, count-is x calls acts v h, h .stepCount))
             ∙ ap (answerTo v) (unrolled v h sound)
 
         module _ (e : b .number ≡ 0) where
@@ -268,7 +270,7 @@ module _ (x : Seen) (calls acts : List ℕ) (pre : Priceable x calls acts) where
                 ready = record { few = h .few; catalog = catalog-ok; used = before-used; low = omega (arith, bound .paid e, bound .next, pre .fewActs, pre .fewSteps) };
                 known =
                     λ (z : getD calls (4 * s + 1) 0 ≢ 76).
-                    omega (arith, noted .item, held-length x calls acts v h, item-known (v .k) (v .catalog) st served (λ u. z (noted .kind ∙ u)));
+                    omega (arith, noted .item, count-is x calls acts v h, item-known (v .k) (v .catalog) st served (λ u. z (noted .kind ∙ u)));
                 place = omega (arith, noted .item, item-place (v .k) (v .catalog) st (pre .sound .catalog) served);
                 kinds = ap (λ t. inRange t 0 0) (noted .kind) ∙ step-kind st;
               }
@@ -282,7 +284,7 @@ module _ (x : Seen) (calls acts : List ℕ) (pre : Priceable x calls acts) where
                 let same : stepOf (getD calls (4 * s + 1) 0) (getD calls (4 * s + 2) 0) (stepMinutes st) ≡ st =
                 ap (λ t. stepOf t (getD calls (4 * s + 2) 0) (stepMinutes st)) (noted .kind)
                 ∙ ap (λ t. stepOf (stepKind st) t (stepMinutes st)) (noted .item)
-                ∙ step-again st
+                ∙ same-step st
                 in
                 subst (λ (n : ℕ). Stands (v .catalog) (b .copies) q c → Does (v .catalog) (planServes (v .catalog) n s st q) c r) (h .h)
                 (subst (λ (k : Catalog). Stands k (b .copies) q c → Does k (planServes k (x .h) s st q) c r) (h .catalog)
@@ -294,7 +296,7 @@ module _ (x : Seen) (calls acts : List ℕ) (pre : Priceable x calls acts) where
             pricing-step-fails line f at v h sound =
                 step-faulty v s (actsOf v s (copiesIn x p)) (stepOn v s)
                 (logFrom v (suc s)) (p .paid) line b r (did v h sound) e (serves v h) f
-                (serve-fault (v .catalog) (v .h) s (stepAt (v .steps) s)) (omega (arith, held-length x calls acts v h))
+                (serve-fault (v .catalog) (v .h) s (stepAt (v .steps) s)) (omega (arith, count-is x calls acts v h))
                 ∙ ap (answerTo v) (unrolled v h sound)
 
             -- the step is served
@@ -320,7 +322,7 @@ module _ (x : Seen) (calls acts : List ℕ) (pre : Priceable x calls acts) where
                       rw add-one
                       (ap
                       (λ n. pricedWith (r .copies .paid) (logFrom v (suc s) (copiesOf n (r .copies .marks))))
-                      (sym (held-length x calls acts v h))
+                      (sym (count-is x calls acts v h))
                       ∙ turn v s (actsOf v s (copiesIn x p)) (stepOn v s)
                       (logFrom v (suc s)) (p .paid) b r (did v h sound) e (serves v h) f
                       ∙ unrolled v h sound);

@@ -23,6 +23,7 @@ use Rattle.season_lines.specs.Fields.{before, split, fieldOf, fieldsOf}
 use Rattle.season_lines.specs.Lines.{lineIn}
 use Rattle.season_tables.specs.Tables.{Sofar, Led, on, stop, heading, sameBytes, isBlank, isSized, mayEnd, mustEnd, nowNamed, nextTable, withSizes, withItem, withStep, withAct, inTurn, takes, leads, atEnd, goesOn, readFrom}
 use Rattle.season_tables.specs.Holds.{wantsValues}
+use Rattle.season_tables.proofs.Leads.{leads-values}
 use Rattle.season_lines.proofs.Pieces.{before-le, before-take, split-last, split-more, split-some, fields-last, fields-more, line-step, line-act}
 
 -- ## The first line of what is left
@@ -62,20 +63,6 @@ no-feed n s v p h = rw (split-last 10 s h, ne-eqb (length (before 10 s)) 0 (λ e
 abbrev pub wantsHere : Sofar → List ℕ → Bool
 wantsHere v l = wantsValues (v .named) (v .table) (v .k) (length l)
 
-pub by-values :
-    (v : Sofar) (l : List ℕ) (n : ℕ) → wantsHere v l ≡ true → leads v l n ≡ takes v (lineIn (v .table) (fieldsOf l) n) n
-unfolding wantsValues leads
-by-values v l n h =
-    go (v .named) (cond (isBlank l) (mayEnd (v .table) (v .k)) false) (mustEnd (v .table) (v .k)) (on (nextTable v))
-    (stop (Malformed n)) (takes v (lineIn (v .table) (fieldsOf l) n) n)
-    (cond (sameBytes l (heading (v .table))) (on (nowNamed v)) (stop (Heading n))) h
-  where
-    go : (a b c : Bool) (x y z w : Led) → cond a (cond b false (not c)) false ≡ true → cond a (cond b x (cond c y z)) w ≡ z
-    go true true c x y z w e = absurd (false≢true e)
-    go true false true x y z w e = absurd (false≢true e)
-    go true false false x y z w e = refl
-    go false b c x y z w e = absurd (false≢true e)
-
 -- a line that is torn by its fields alone
 pub torn-line :
     (v : Sofar) (l : List ℕ) (n : ℕ) →
@@ -83,7 +70,7 @@ pub torn-line :
     lineIn (v .table) (fieldsOf l) n ≡ Refused (Malformed n) →
     leads v l n ≡ stop (Malformed n)
 unfolding takes
-torn-line v l n h e = by-values v l n h ∙ rw e
+torn-line v l n h e = leads-values v l n h ∙ rw e
 
 -- ## What a line that leads on adds
 
