@@ -1,21 +1,18 @@
 -- Laws of the exported functions: what each way through them says of the lent bytes. Assumes nothing.
 use mathlib.Core.Path.{_≡_, refl, sym, ap, subst, _∙_}
 use mathlib.Core.Logic.{_≢_}
-use mathlib.Core.Bool.{Bool, true, false, cond, _&&_, false≢true}
+use mathlib.Core.Bool.{Bool, false, false≢true}
 use mathlib.Core.List.{List}
 use Prim.Native.Nat.{ℕ, _+_, _*_, _/_, _%_, _^_, _≤_, _<_}
 use native.Mathlib.Omega.{arith}
 use native.Mathlib.Decide.{ℕ-discrete, decLe}
 use lib.ListN.{length, getD, set}
 use lib.Seq.{getD-set-same, getD-set-other}
-use lib.Dec.{eqb, leb}
 use borrow.Author.Tests.{eq-eqb, ne-eqb, le-leb, lt-leb}
-use Rattle.landlord.specs.Fold.{tab}
-use Rattle.landlord.specs.Catalog.{Catalog}
 use Rattle.landlord.specs.Slot.{writeFirst}
 use Rattle.landlord.specs.Figures.{Standing, opened}
 use Rattle.landlord.specs.Valid.{StandingOk}
-use Rattle.landlord.specs.Calls.{Call, openingRefusal, refusalNow, after}
+use Rattle.landlord.specs.Calls.{Call, openingRefusal, after}
 use Rattle.landlord.proofs.Folds.{tab-eq}
 use Rattle.landlord.proofs.Calls.{opening-taken}
 use Rattle.landlord.proofs.Valid.{ok-opened}
@@ -29,7 +26,7 @@ use Rattle.layout.proofs.Rounds.{round, length-bytesOf, flagged-bytesOf}
 use Rattle.cache.specs.declared.Reply.{Reply}
 use Rattle.cache.specs.Contract.{Called, Opened, EmptyPlace, catalogFrom}
 use Rattle.cache.proofs.Season.{becomes-valid, called-valid}
-use Rattle.recorder.specs.Lent.{ValidBytes, Readable, Settled, LentBecomes, AnswersLent, CalledLent, OpenedLent, catalogIn, sized, openingNumber}
+use Rattle.recorder.specs.Lent.{Readable, Settled, LentBecomes, CalledLent, OpenedLent, catalogIn, openingNumber}
 use Rattle.recorder.specs.Catalogs.{BlocksIn, CostsIn, LengthsAsked}
 
 -- bytes of no cache: 17, and untouched

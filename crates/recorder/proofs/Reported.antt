@@ -1,23 +1,21 @@
 -- Laws of the exported report: what each way through it says of the lent bytes. Assumes nothing.
 use mathlib.Core.Path.{_≡_, refl, sym, ap, subst, _∙_}
 use mathlib.Core.Bool.{Bool, true, false, cond, false≢true}
-use mathlib.Core.List.{List, _++_}
+use mathlib.Core.List.{List}
 use Prim.Native.Nat.{ℕ}
-use lib.ListN.{length, drop}
-use Rattle.landlord.specs.declared.Refusal.{Refusal}
-use Rattle.landlord.specs.declared.Refusal.the-variants.{ShortBuffer, InvalidState}
+use lib.ListN.{length}
+use Rattle.landlord.specs.declared.Refusal.the-variants.{ShortBuffer}
 use Rattle.landlord.specs.Types.{refusalNumber}
 use Rattle.validity.specs.Decided.{Decided}
 use Rattle.cache_state.specs.View.{view}
-use Rattle.cache_state.specs.Valid.{Valid}
-use Rattle.decimal.specs.Decimal.{fits, pageOf}
+use Rattle.decimal.specs.Decimal.{fits}
 use Rattle.layout.specs.Layout.{cacheOf}
 use Rattle.report.specs.declared.Rival.the-variants.{Absent}
 use Rattle.report.specs.declared.Written.{Written}
 use Rattle.report.specs.declared.Written.the-variants.{Text, Refused}
-use Rattle.report.specs.Report.{reportOf, wrote, Put, Reported}
-use Rattle.recorder.specs.Lent.{ValidBytes, Readable}
-use Rattle.recorder.specs.Reports.{PutLent, ReportedLent}
+use Rattle.report.specs.Report.{reportOf, wrote, Reported}
+use Rattle.recorder.specs.Lent.{Readable}
+use Rattle.recorder.specs.Reports.{ReportedLent}
 
 -- the number that a page answers, and what it leaves in the length's place
 abbrev numberIn : Written → ℕ

@@ -1,21 +1,17 @@
 -- Laws of running a list of calls on lent bytes. Assumes nothing.
-use mathlib.Core.Path.{_≡_, refl, sym, ap, subst, _∙_}
+use mathlib.Core.Path.{_≡_, refl, sym, subst, _∙_}
 use mathlib.Core.Logic.{_≢_}
-use mathlib.Core.List.{List, [], _∷_}
+use mathlib.Core.List.{List, []}
 use Prim.Native.Nat.{ℕ, _+_, _≤_, _<_}
-use native.Mathlib.Omega.{arith}
 use lib.ListN.{length, getD, set}
-use lib.Dec.{eqb}
 use borrow.Author.Tests.{eq-eqb, ne-eqb}
-use Rattle.landlord.specs.Catalog.{Catalog}
 use Rattle.landlord.specs.Calls.{Call, take, close}
 use Rattle.layout.specs.Layout.{cacheOf}
-use Rattle.cache.specs.Run.{callFrom, RanCalls}
+use Rattle.cache.specs.Run.{callFrom}
 use Rattle.cache.specs.Chain.{Season}
 use Rattle.cache.proofs.Season.{season-by-value}
 use Rattle.cache.proofs.Runs.{Going, going-starts, going-on, going-ends}
 use Rattle.recorder.specs.Lent.{ValidBytes, CalledLent, OpenedLent, catalogIn}
-use Rattle.recorder.specs.Chain.{SeasonLent}
 use Rattle.recorder.specs.Run.{RanLentCalls, RanLent}
 use Rattle.recorder.proofs.Season.{lent-called, lent-opened, reply}
 

@@ -1,21 +1,19 @@
 -- The season theorem for lent bytes, from that for calls by value: each call on the bytes is a call on the cache that they stand
 -- for. Assumes nothing.
-use mathlib.Core.Path.{_≡_, refl, sym, ap, _∙_}
+use mathlib.Core.Path.{_≡_, refl, ap}
 use mathlib.Core.Bool.{Bool, true, false, cond}
-use mathlib.Core.List.{List, [], _∷_}
-use Prim.Native.Nat.{ℕ, _+_}
+use mathlib.Core.List.{List}
+use Prim.Native.Nat.{ℕ}
 use native.Mathlib.Omega.{arith}
 use lib.ListN.{length}
 use lib.Dec.{eqb}
-use Rattle.landlord.specs.Catalog.{Catalog}
 use Rattle.landlord.specs.Calls.{Call, openingRefusal}
-use Rattle.cache_state.specs.declared.Cache.{Cache}
 use Rattle.layout.specs.Layout.{stateBytes, cacheOf}
 use Rattle.cache.specs.declared.Reply.{Reply}
 use Rattle.cache.specs.Contract.{Called, Opened}
-use Rattle.cache.specs.Chain.{Follows, Chain, Season}
+use Rattle.cache.specs.Chain.{Follows, Season}
 use Rattle.cache.proofs.Season.{season-by-value}
-use Rattle.recorder.specs.Lent.{ValidBytes, LentBecomes, CalledLent, OpenedLent, catalogIn, sized, openingNumber}
+use Rattle.recorder.specs.Lent.{ValidBytes, CalledLent, OpenedLent, catalogIn, sized, openingNumber}
 use Rattle.recorder.specs.Chain.{FollowsLent, none, then, ChainLent, SeasonLent}
 
 abbrev pub reply : ℕ → List ℕ → Reply

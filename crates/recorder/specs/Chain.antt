@@ -8,7 +8,7 @@ use Rattle.landlord.specs.Calls.{Call, logOf, ruleOver}
 use Rattle.cache_state.specs.View.{view}
 use Rattle.layout.specs.Layout.{cacheOf, number}
 use Rattle.cache.specs.Chain.{Answered, Closing, Bounded}
-use Rattle.recorder.specs.Lent.{ValidBytes, CalledLent, OpenedLent, catalogIn}
+use Rattle.recorder.specs.Lent.{ValidBytes, CalledLent, OpenedLent}
 
 -- from the bytes b, by these calls with these numbers as answers, to the bytes d
 pub data FollowsLent : List ℕ → List Call → List ℕ → List ℕ → Type 0 where

@@ -1,6 +1,6 @@
 -- A value line of each table, judged by its fields alone: its shape (1), then its ranges (3). Nothing here knows a catalogue, a
 -- capacity or a place among the tables. Paper 01, 'The text input' and 'When the library says no'. Assumes nothing.
-use mathlib.Core.Bool.{Bool, true, false, cond, _&&_, _||_}
+use mathlib.Core.Bool.{Bool, cond, _&&_, _||_}
 use mathlib.Core.List.{List}
 use Prim.Native.Nat.{ℕ}
 use lib.ListN.{length}

@@ -3,7 +3,7 @@ use mathlib.Core.Path.{_≡_, sym, ap, _∙_}
 use mathlib.Core.Logic.{_⊎_, inl, inr}
 use mathlib.Core.Bool.{Bool, true, false, cond}
 use mathlib.Core.List.{List}
-use Prim.Native.Nat.{ℕ, zero, suc, _+_, _*_, _-_, _≤_, _<_}
+use Prim.Native.Nat.{ℕ, zero, suc, _+_, _*_, _≤_, _<_}
 use native.Mathlib.Omega.{arith}
 use lib.ListN.{length, getD, set}
 use lib.Seq.{getD-set-same, getD-set-other}
@@ -13,7 +13,6 @@ use Rattle.landlord.specs.Catalog.{Item, Catalog, itemAt}
 use Rattle.landlord.specs.Plan.{Copy, noCopy, cleanCopy, dirtyCopy, has, copyAt, planUsed}
 use Rattle.landlord.proofs.Folds.{tab-length, tab-at, tab-set}
 use Rattle.landlord.proofs.Sums.{sum-change}
-use Rattle.cache.specs.Contract.{catalogFrom}
 use Rattle.season_tables.specs.declared.Seen.{Seen}
 use Rattle.season_tables.proofs.Items.{catalog-length as from-length, catalog-at as from-at}
 use Rattle.season_plan.specs.Copies.{copyFrom, copiesOf, catalogIn}

@@ -21,7 +21,7 @@ use Rattle.season_lines.specs.declared.Line.{Line}
 use Rattle.season_lines.specs.declared.Line.the-variants.{Sizes, Item as ItemLine, Step as StepLine, Act as ActLine, Refused}
 use Rattle.season_lines.specs.Fields.{before, split, fieldOf, fieldsOf}
 use Rattle.season_lines.specs.Lines.{lineIn}
-use Rattle.season_tables.specs.Tables.{Sofar, Led, on, stop, heading, sameBytes, isBlank, isSized, mayEnd, mustEnd, nowNamed, nextTable, withSizes, withItem, withStep, withAct, inTurn, takes, leads, atEnd, goesOn, readFrom}
+use Rattle.season_tables.specs.Tables.{Sofar, on, stop, heading, sameBytes, isBlank, isSized, mayEnd, mustEnd, nowNamed, nextTable, withSizes, withItem, withStep, withAct, inTurn, takes, leads, atEnd, goesOn, readFrom}
 use Rattle.season_tables.specs.Holds.{wantsValues}
 use Rattle.season_tables.proofs.Leads.{leads-values}
 use Rattle.season_lines.proofs.Pieces.{before-le, before-take, split-last, split-more, split-some, fields-last, fields-more, line-step, line-act}

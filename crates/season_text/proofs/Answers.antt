@@ -1,25 +1,21 @@
 -- Laws of `answer` and `output`: what each way through them says of the text. Assumes nothing.
 use mathlib.Core.Path.{_≡_, refl, sym, ap, subst, _∙_}
-use mathlib.Core.Bool.{Bool, true, false, cond}
 use mathlib.Core.List.{List}
 use Prim.Native.Nat.{ℕ, _+_, _*_, _-_, _≤_, _<_}
 use lib.ListN.{length}
-use lib.Dec.{leb}
 use native.Mathlib.Omega.{arith}
 use native.Mathlib.Nat.{mul-le-mul}
 use borrow.Author.Tests.{le-leb, lt-leb}
 use Rattle.landlord.specs.declared.Refusal.{Refusal}
-use Rattle.landlord.specs.declared.Refusal.the-variants.{InputTooLong, ShortBuffer}
+use Rattle.landlord.specs.declared.Refusal.the-variants.{InputTooLong}
 use Rattle.landlord.specs.Figures.{Standing, totalCost}
 use Rattle.landlord.specs.Plan.{Priced, costs, fault}
 use Rattle.cache_state.specs.declared.Cache.{Cache}
 use Rattle.cache_state.specs.View.{view}
 use Rattle.cache_state.specs.Becomes.{Becomes}
-use Rattle.decimal.specs.Decimal.{fits, wroteOf, pageOf}
-use Rattle.report.specs.declared.Rival.{Rival}
 use Rattle.report.specs.declared.Rival.the-variants.{Priced as Against}
 use Rattle.report.specs.declared.Written.{Written}
-use Rattle.report.specs.declared.Written.the-variants.{Text, Refused}
+use Rattle.report.specs.declared.Written.the-variants.{Refused}
 use Rattle.report.specs.Report.{reportOf, Put, RivalFits, longest}
 use Rattle.season_tables.specs.declared.Seen.{Seen}
 use Rattle.season_tables.specs.declared.Scanned.{Scanned}
@@ -32,9 +28,9 @@ use Rattle.season_scan.specs.Few.{Few}
 use Rattle.season_plan.specs.declared.Price.{Price}
 use Rattle.season_plan.specs.declared.Price.the-variants.{Cost, Refused as Faulty}
 use Rattle.season_plan.specs.Plans.{priceOf, answerTo}
-use Rattle.season_plan.specs.Copies.{Priceable, PricedAs, PriceSmall}
+use Rattle.season_plan.specs.Copies.{Priceable, PricedAs}
 use Rattle.season_text.specs.Answer.{Outcome, refused, reported, closedSeason, leftOf, rightOf, reportAgainst, priced, judged, outcomeOf, answerOn, pageWith, Answered, ReportFits}
-use Rattle.season_text.specs.Runs.{Closable, Closes, Comparable, Reportable, Reports, against}
+use Rattle.season_text.specs.Runs.{Closes, Comparable, Reportable, Reports, against}
 use Rattle.season_text.proofs.Season.{text-valid}
 use Rattle.season_tables.proofs.Sound.{accepted-sound}
 use Rattle.report.proofs.Longest.{no-longer}

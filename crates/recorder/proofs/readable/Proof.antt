@@ -1,5 +1,4 @@
 -- `recorder::readable` meets its contract. Assumes nothing.
-use native.Mathlib.Omega.{arith}
 use borrow.Author.Needs.{needs}
 use Rattle.recorder.proofs.Lents.{reads-so, reads-not}
 use Rattle.recorder.proofs.readable.Statement.{statement}

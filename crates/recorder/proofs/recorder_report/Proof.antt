@@ -1,5 +1,5 @@
 -- `recorder::recorder_report` meets its contract: each way out is a law of proofs/Reported.antt. Assumes nothing.
-use mathlib.Core.Path.{_≡_, sym, subst, _∙_}
+use mathlib.Core.Path.{sym, subst}
 use Prim.Native.Nat.{ℕ}
 use borrow.Author.Needs.{needs}
 use borrow.Author.Tests.{not-true, not-false}

@@ -1,5 +1,5 @@
 -- `recorder::recorder_step` meets its contract: each way out is a law of proofs/Lents.antt. Assumes nothing.
-use mathlib.Core.Path.{_≡_, sym, subst, _∙_}
+use mathlib.Core.Path.{subst}
 use borrow.Author.Needs.{needs}
 use borrow.Author.Tests.{not-true, not-false}
 use Rattle.landlord.specs.Calls.{take}

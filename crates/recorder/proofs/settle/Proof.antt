@@ -1,5 +1,4 @@
 -- `recorder::settle` meets its contract. Assumes nothing.
-use mathlib.Core.Path.{_≡_, refl, sym, _∙_}
 use borrow.Author.Needs.{needs}
 use Rattle.recorder.proofs.Lents.{settled-not, settled-so}
 use Rattle.recorder.proofs.settle.Statement.{statement}

@@ -1,5 +1,5 @@
 -- `season_text::answer` meets its contract. Assumes nothing.
-use mathlib.Core.Path.{_≡_, sym, subst}
+use mathlib.Core.Path.{subst}
 use borrow.Author.Needs.{needs}
 use denote.Ref
 use Rattle.season_plan.specs.declared.Price.{Price}

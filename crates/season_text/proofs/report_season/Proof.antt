@@ -1,5 +1,5 @@
 -- `season_text::report_season` meets its contract. Assumes nothing.
-use mathlib.Core.Path.{_≡_, sym, subst}
+use mathlib.Core.Path.{subst}
 use borrow.Author.Needs.{needs}
 use denote.Ref
 use Rattle.cache_state.specs.View.{view}
