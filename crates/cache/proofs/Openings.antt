@@ -1,6 +1,5 @@
 -- Laws of an opening: its tests, the copied arrays, and the empty cache against the rule's start. Assumes nothing.
 use mathlib.Core.Path.{_≡_, refl, sym, ap, subst, _∙_}
-use mathlib.Core.Logic.{_≢_}
 use mathlib.Core.Bool.{Bool, true, false, cond, _&&_, false≢true}
 use mathlib.Core.List.{List, []}
 use Prim.Native.Nat.{ℕ, zero, suc, _+_, _≤_, _<_, _/_, _%_, _^_}
@@ -22,10 +21,9 @@ use Rattle.landlord.proofs.Folds.{tab-length, tab-at, tab-eq}
 use Rattle.landlord.proofs.Calls.{opening-taken, opening-accepts}
 use Rattle.marks.specs.Marks.{bit, marked}
 use Rattle.cache_state.specs.declared.Cache.{Cache}
-use Rattle.cache_state.specs.View.{itemOf, slotOf, usageOf, catalogOf, slotsOf, usesOf, view, dirtyAt}
-use Rattle.cache_state.specs.Valid.{Normal, Valid, Blank, Emptied}
+use Rattle.cache_state.specs.View.{slotOf, usageOf, catalogOf, slotsOf, usesOf}
+use Rattle.cache_state.specs.Valid.{Valid, Blank, Emptied}
 use Rattle.cache_state.specs.Becomes.{Becomes, Decided}
-use Rattle.cache.specs.declared.Reply.{Reply}
 use Rattle.cache.proofs.Season.{becomes-valid}
 use Rattle.cache.specs.Contract.{EmptyPlace, Opened, catalogFrom, refusedOpening}
 use Rattle.cache.specs.Opening.{FirstOf, BlocksOk, Opens, emptyOf}

@@ -1,26 +1,21 @@
 -- Laws of running a list of calls: one call more, its answer noted. Assumes nothing.
 use mathlib.Core.Path.{_≡_, refl, sym, ap, subst, _∙_}
 use mathlib.Core.Logic.{_≢_}
-use mathlib.Core.Bool.{Bool, true, false, cond}
 use mathlib.Core.List.{List, [], _∷_, _++_, append-nil}
-use Prim.Native.Nat.{ℕ, zero, suc, _+_, _*_, _/_, _≤_, _<_}
+use Prim.Native.Nat.{ℕ, suc, _+_, _*_, _/_, _≤_, _<_}
 use native.Mathlib.Omega.{arith}
 use native.Mathlib.Numerals.{add-one}
-use native.Mathlib.Nat.{zero-add}
 use lib.ListN.{length, getD, drop, set, length-append, drop-of-length-le}
 use lib.Seq.{sets, drop-cons, append-snoc}
-use lib.Dec.{eqb}
 use borrow.Author.Tests.{eq-eqb, ne-eqb}
-use Rattle.landlord.specs.Fold.{tab}
 use Rattle.landlord.specs.Catalog.{Catalog}
-use Rattle.landlord.specs.Calls.{Call, take, close, openingRefusal}
+use Rattle.landlord.specs.Calls.{Call, take, close}
 use Rattle.landlord.proofs.Folds.{tab-length, tab-at}
 use Rattle.cache_state.specs.declared.Cache.{Cache}
 use Rattle.cache_state.specs.Valid.{Valid}
-use Rattle.cache_state.specs.Becomes.{Becomes}
 use Rattle.cache.specs.declared.Reply.{Reply}
-use Rattle.cache.specs.Contract.{Answers, Opened, refusedOpening}
-use Rattle.cache.specs.Chain.{Follows, none, then, Chain, Season}
+use Rattle.cache.specs.Contract.{Answers, Opened}
+use Rattle.cache.specs.Chain.{Follows, none, then}
 use Rattle.cache.specs.Run.{callFrom, callAt, callsOf, RanCalls, Ran}
 use Rattle.cache.proofs.Season.{answers-valid, season-by-value}
 use Rattle.cache.proofs.Replies.{answers-called}

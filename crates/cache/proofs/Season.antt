@@ -1,13 +1,13 @@
 -- The season theorem for calls by value: whatever the calls, the answers are those of the table, the cache stands where the
 -- rule stands over the log, and after a closing the total is the rule's and within the wear bound. Assumes nothing.
 use mathlib.Core.Path.{_≡_, refl, sym, ap, subst, _∙_}
-use mathlib.Core.Bool.{Bool, true, false, cond}
+use mathlib.Core.Bool.{Bool, true, cond}
 use mathlib.Core.List.{List, [], _∷_}
 use Prim.Native.Nat.{ℕ, zero, suc, _+_, _*_, _-_, _≤_, _<_}
 use native.Mathlib.Omega.{arith}
 use lib.ListN.{length, getD, take}
 use Rattle.landlord.specs.Fold.{fold}
-use Rattle.landlord.specs.Catalog.{Catalog, CapacityOk, CatalogOk}
+use Rattle.landlord.specs.Catalog.{Catalog, CatalogOk}
 use Rattle.landlord.specs.Slot.{writeFirst}
 use Rattle.landlord.specs.Figures.{Standing, totalCost, opened, ran, season}
 use Rattle.landlord.specs.Calls.{Call, close, Log, noLog, refusalNow, refusalIn, refusal, joins, logOf, ruleOver, after}

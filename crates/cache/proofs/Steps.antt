@@ -5,21 +5,19 @@ use mathlib.Core.Logic.{_≢_}
 use mathlib.Core.Bool.{Bool, true, false, cond, false≢true}
 use Prim.Native.Nat.{ℕ, _≤_, _<_}
 use native.Mathlib.Omega.{arith}
-use lib.ListN.{length, getD}
 use lib.Dec.{leb, ltb, eqb}
-use borrow.Author.Tests.{eq-eqb, ne-eqb, ltb-true, leb-true, leb-false, eqb-true}
+use borrow.Author.Tests.{eq-eqb, ne-eqb, ltb-true, leb-true, leb-false}
 use Rattle.landlord.specs.declared.Step.the-variants.{Read, Write, Flush}
 use Rattle.landlord.specs.Catalog.{itemAt}
 use Rattle.landlord.specs.Slot.{writeFirst}
 use Rattle.landlord.specs.Rule.{State, Moved, size, blocksAt, makeRoom, serveRead, serveWrite, step, joined}
 use Rattle.landlord.specs.Figures.{Standing, moved, took}
-use Rattle.landlord.specs.Calls.{take, stepOf, inRange, itemRefusal, refusalAt, refusalNow}
+use Rattle.landlord.specs.Calls.{stepOf, inRange, refusalAt}
 use Rattle.landlord.proofs.Slots.{write-first-ok}
 use Rattle.landlord.proofs.Keeps.{make-room}
-use Rattle.landlord.proofs.Valid.{Taking, Ready, room-ready, moved-joined}
+use Rattle.landlord.proofs.Valid.{Ready, room-ready, moved-joined}
 use Rattle.cache_state.specs.declared.Cache.{Cache}
 use Rattle.cache_state.specs.View.{catalogOf, stateOf, view}
-use Rattle.cache_state.specs.Valid.{Valid}
 use Rattle.cache_state.specs.Becomes.{Becomes}
 use Rattle.cache_state.proofs.Views.{size-is, blocks-is}
 use Rattle.cache_room.specs.Room.{Wanted}

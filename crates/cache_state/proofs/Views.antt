@@ -1,19 +1,17 @@
 -- Laws of `view`: the rule's slots, items and figures read off the fields of a cache. Assumes nothing.
 use mathlib.Core.Path.{_≡_, refl, sym, ap, _∙_}
 use mathlib.Core.Bool.{Bool, true, false, cond}
-use Prim.Native.Nat.{ℕ, _+_, _≤_, _<_}
-use native.Mathlib.Omega.{arith}
+use Prim.Native.Nat.{ℕ, _≤_, _<_}
 use lib.ListN.{length, getD}
-use Rattle.landlord.specs.Fold.{sumTo, tab}
+use Rattle.landlord.specs.Fold.{sumTo}
 use Rattle.landlord.specs.Catalog.{Item, itemAt, noItem}
-use Rattle.landlord.specs.Slot.{Slot, absent, held, isDirty, loadCredit, writeCredit}
+use Rattle.landlord.specs.Slot.{absent, held, isDirty, loadCredit, writeCredit}
 use Rattle.landlord.specs.Rule.{size, slotAt, blocksAt, used, heldCount}
-use Rattle.landlord.specs.Valid.{dirtyCount}
 use Rattle.landlord.specs.Figures.{useAt, noUse}
 use Rattle.landlord.proofs.Folds.{tab-length, tab-at, tab-past}
 use Rattle.landlord.proofs.Sums.{sum-eq}
 use Rattle.cache_state.specs.declared.Cache.{Cache}
-use Rattle.cache_state.specs.View.{itemOf, dirtyAt, slotFrom, slotOf, usageOf, catalogOf, slotsOf, usesOf, stateOf, figuresOf, view}
+use Rattle.cache_state.specs.View.{itemOf, dirtyAt, slotFrom, slotOf, usageOf, catalogOf, slotsOf, usesOf, stateOf, figuresOf}
 
 pub size-is : (c : Cache) → size (stateOf c) ≡ c .n
 unfolding catalogOf

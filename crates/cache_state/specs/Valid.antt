@@ -1,6 +1,6 @@
 -- Validity: the rule of paper 01 for a foul locker (refusal 17), a named field for each of its sentences. Assumes nothing.
 use mathlib.Core.Path.{_≡_}
-use mathlib.Core.Bool.{Bool, true, false}
+use mathlib.Core.Bool.{false}
 use Prim.Native.Nat.{ℕ, _≤_, _<_}
 use lib.ListN.{getD}
 use Rattle.landlord.specs.Valid.{StandingOk}

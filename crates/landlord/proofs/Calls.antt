@@ -1,14 +1,14 @@
 -- A list of calls against its log: the table lets the log through, every list of steps that the table lets through is the log
 -- of some calls, and the rule, asked call by call, stands where it stands over the log. Assumes nothing.
-use mathlib.Core.Path.{_≡_, refl, sym, ap, subst, _∙_}
+use mathlib.Core.Path.{_≡_, refl, sym, ap, _∙_}
 use mathlib.Core.Bool.{Bool, true, false, cond, _&&_, false≢true}
 use mathlib.Core.List.{List, [], _∷_, _++_, append-nil, map}
-use Prim.Native.Nat.{ℕ, zero, suc, _+_, _≤_, _<_}
+use Prim.Native.Nat.{ℕ, zero, suc, _<_}
 use native.Mathlib.Omega.{arith}
 use native.Mathlib.Decide.{ℕ-discrete}
 use lib.ListN.{length, getD, drop, length-append, List·getD-append}
 use lib.Seq.{getD-append-seam, append-snoc, split-at}
-use lib.Dec.{leb, eqb, ltb}
+use lib.Dec.{leb, eqb}
 use borrow.Author.Tests.{eqb-true, eq-eqb, leb-true, le-leb}
 use Rattle.landlord.specs.declared.Step.{Step}
 use Rattle.landlord.specs.declared.Step.the-variants.{Read, Write, Flush}
@@ -16,11 +16,11 @@ use Rattle.landlord.specs.Types.{stepKind, stepItem, stepMinutes}
 use Rattle.landlord.specs.Fold.{fold}
 use Rattle.landlord.specs.Catalog.{Catalog, Item, ItemOk, CatalogOk, CapacityOk, itemAt}
 use Rattle.landlord.specs.Slot.{Split}
-use Rattle.landlord.specs.Figures.{Standing, opened, took, closes, ran, season}
-use Rattle.landlord.specs.Calls.{Call, take, close, Log, noLog, callOf, stepOf, itemInRange, allInRange, openingRefusal, inRange, itemRefusal, refusalAt, refusalIn, refusal, refusalNow, logged, joins, logOf, ruleOver, accepted, after}
+use Rattle.landlord.specs.Figures.{Standing, opened, took, ran, season}
+use Rattle.landlord.specs.Calls.{Call, take, close, Log, noLog, callOf, stepOf, itemInRange, allInRange, openingRefusal, itemRefusal, refusalAt, refusalIn, refusal, refusalNow, logged, joins, logOf, ruleOver, accepted, after}
 use Rattle.landlord.specs.Claims.{SplitOk, Allowed}
 use Rattle.landlord.proofs.Folds.{either, fold-append, fold-more}
-use Rattle.landlord.proofs.Logs.{Stands, AllServed, all-served, ran-stands, closes-stands}
+use Rattle.landlord.proofs.Logs.{Stands, all-served, ran-stands, closes-stands}
 
 -- A call of a known kind in range is answered as the step that it means: values that a step lacks are not looked at.
 pub means :

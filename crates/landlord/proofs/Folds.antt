@@ -1,7 +1,7 @@
 -- Laws of the lists and folds of specs/Fold.antt: a table read at a place, tables that agree, the best of a range, a fold
 -- over two lists joined. Assumes nothing.
 use mathlib.Core.Path.{_≡_, refl, sym, ap, _∙_}
-use mathlib.Core.Logic.{_≢_, _⊎_, inl, inr}
+use mathlib.Core.Logic.{_≢_}
 use mathlib.Core.Bool.{Bool, true, false, cond, false≢true}
 use mathlib.Core.List.{List, [], _∷_, _++_}
 use Prim.Native.Nat.{ℕ, zero, suc, _+_, _≤_, _<_}
@@ -12,7 +12,7 @@ use native.Mathlib.Omega.{arith}
 use native.Mathlib.Decide.{ℕ-discrete}
 use lib.ListN.{length, getD, set, List·getD-eq-default, length-set}
 use lib.Seq.{ext-getD, getD-set-same, getD-set-other}
-use Rattle.landlord.specs.Fold.{sumTo, tab, tabFrom, bestTo, fold}
+use Rattle.landlord.specs.Fold.{tab, tabFrom, bestTo, fold}
 
 -- what holds of both branches of a test, of each where the test comes out so, holds of the choice
 pub either : {A : Type 0} (P : A → Type 0) (t : Bool) (x y : A) → (t ≡ true → P x) → (t ≡ false → P y) → P (cond t x y)

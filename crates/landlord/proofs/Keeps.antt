@@ -1,23 +1,22 @@
 -- What the rule keeps, for every split of a loss in multiples of the item's blocks: the victim is of least rank, ranks divide
 -- exactly, making room ends and leaves room, and each step keeps `Kept` (specs/Claims.antt). Assumes nothing.
-use mathlib.Core.Path.{_≡_, refl, sym, ap, subst, _∙_}
+use mathlib.Core.Path.{_≡_, refl, sym, ap, _∙_}
 use mathlib.Core.Logic.{_≢_}
 use mathlib.Core.Bool.{Bool, true, false, cond, false≢true}
-use mathlib.Core.List.{List, [], _∷_, _++_}
-use Prim.Native.Nat.{ℕ, zero, suc, _+_, _*_, _-_, _/_, _≤_, _<_, _∣_}
-use native.Mathlib.Nat.{dvd-add, dvd-mul-right, div-mul-cancel, mul-le-mul-left, le-of-eq}
+use Prim.Native.Nat.{ℕ, zero, suc, _+_, _*_, _≤_, _<_}
+use native.Mathlib.Nat.{dvd-add, dvd-mul-right, div-mul-cancel, mul-le-mul-left}
 use native.Mathlib.Decide.{ℕ-discrete}
 use native.Mathlib.Omega.{arith}
-use lib.ListN.{length, getD, set, length-set}
+use lib.ListN.{length, length-set}
 use lib.Seq.{getD-set-same, getD-set-other}
-use lib.Dec.{leb, eqb, ltb}
+use lib.Dec.{leb}
 use borrow.Author.Tests.{eq-eqb, ne-eqb, leb-true, leb-false}
 use Rattle.landlord.specs.declared.Step.{Step}
 use Rattle.landlord.specs.declared.Step.the-variants.{Read, Write, Flush}
-use Rattle.landlord.specs.Fold.{sumTo, tab}
-use Rattle.landlord.specs.Catalog.{Catalog, Item, ItemOk, CatalogOk, itemAt, full, unit}
-use Rattle.landlord.specs.Slot.{Slot, absent, held, isDirty, loadCredit, writeCredit, Split, lose, brought, refilled, written, flushed}
-use Rattle.landlord.specs.Rule.{State, size, slotAt, blocksAt, used, heldCount, rank, victim, evictItem, evict, evictFor, makeRoom, Moved, stay, joined, put, readSlot, serveRead, serveWrite, flush, step, emptied}
+use Rattle.landlord.specs.Fold.{sumTo}
+use Rattle.landlord.specs.Catalog.{Catalog, Item, CatalogOk, itemAt, full}
+use Rattle.landlord.specs.Slot.{Slot, absent, held, loadCredit, writeCredit, Split, lose, written, flushed}
+use Rattle.landlord.specs.Rule.{State, size, slotAt, blocksAt, used, heldCount, rank, victim, evictItem, evict, evictFor, makeRoom, Moved, stay, joined, put, readSlot, flush, step, emptied}
 use Rattle.landlord.specs.Claims.{SplitOk, SlotKept, Kept, Least}
 use Rattle.landlord.proofs.Sums.{sum-zero, sum-none, sum-eq, sum-change}
 use Rattle.landlord.proofs.Folds.{tab-length, tab-at, Best, nobody, somebody, best-is}

@@ -1,24 +1,22 @@
 -- Laws of logs: what the table lets through can be served; what a log's events add up to; where the rule stands after a log
 -- that the table lets through; and a list of calls against its log. Assumes nothing.
-use mathlib.Core.Path.{_≡_, refl, sym, ap, _∙_}
+use mathlib.Core.Path.{_≡_, refl, _∙_}
 use mathlib.Core.Bool.{Bool, true, false, cond}
-use mathlib.Core.List.{List, [], _∷_, _++_, append-assoc, map}
+use mathlib.Core.List.{List, [], _∷_, _++_}
 use Prim.Native.Nat.{ℕ, zero, suc, _+_, _≤_, _<_}
 use native.Mathlib.Omega.{arith}
-use lib.ListN.{length, getD, length-append}
-use lib.Dec.{leb, eqb, ltb}
+use lib.ListN.{length, getD}
+use lib.Dec.{leb, ltb}
 use borrow.Author.Tests.{ltb-true, leb-true}
 use Rattle.landlord.specs.declared.Step.{Step}
 use Rattle.landlord.specs.declared.Step.the-variants.{Read, Write, Flush}
-use Rattle.landlord.specs.Types.{stepKind, stepItem, stepMinutes}
 use Rattle.landlord.specs.Fold.{fold, sumTo}
 use Rattle.landlord.specs.Catalog.{Catalog, CatalogOk, itemAt}
 use Rattle.landlord.specs.Slot.{Split, held, isDirty}
-use Rattle.landlord.specs.Rule.{State, Event, hit, loaded, evicted, wroteBack, wrote, landed, Moved, stay, joined, evict, victim, makeRoom, found, slotAt, writeBacks, flush, step, size, blocksAt}
-use Rattle.landlord.specs.Figures.{Totals, Figures, Standing, plusTotals, adds, tally, opened, moved, took, closes, ran, season}
-use Rattle.landlord.specs.Calls.{Call, take, close, Log, noLog, callOf, stepOf, inRange, refusalAt, refusalIn, refusalNow, logged, joins, logOf, ruleOver, accepted, after}
+use Rattle.landlord.specs.Rule.{State, Event, hit, loaded, evicted, wroteBack, wrote, Moved, evict, victim, makeRoom, found, slotAt, writeBacks, flush, step, size, blocksAt}
+use Rattle.landlord.specs.Figures.{Totals, Figures, Standing, plusTotals, adds, tally, opened, took, closes, ran}
+use Rattle.landlord.specs.Calls.{callOf, stepOf, inRange, refusalAt}
 use Rattle.landlord.specs.Claims.{SplitOk, Kept, Allowed}
-use Rattle.landlord.proofs.Folds.{fold-append}
 use Rattle.landlord.proofs.Sums.{sum-zero}
 use Rattle.landlord.proofs.Keeps.{Evicting, enough, more, Room, make-room, Served, step-kept, step-catalog, flush-keeps, flush-catalog, empty-kept}
 

@@ -2,12 +2,12 @@
 -- of every such game holds of them. Assumes nothing.
 use mathlib.Core.Path.{_≡_, refl, sym, ap, subst, _∙_}
 use mathlib.Core.Logic.{_≢_}
-use mathlib.Core.Bool.{Bool, true, false, cond, false≢true}
-use mathlib.Core.List.{List, [], _∷_, _++_}
-use Prim.Native.Nat.{ℕ, zero, suc, _+_, _*_, _-_, _≤_, _<_, _∣_}
+use mathlib.Core.Bool.{Bool, true, false, cond}
+use mathlib.Core.List.{List, [], _∷_}
+use Prim.Native.Nat.{ℕ, suc, _+_, _*_, _-_, _≤_, _<_}
 use native.Mathlib.Nat.{dvd-mul-right, add-zero, zero-add, add-assoc}
 use native.Mathlib.Omega.{arith}
-use lib.ListN.{length, getD, set, length-set}
+use lib.ListN.{length, set, length-set}
 use lib.Seq.{getD-set-same, getD-set-other}
 use lib.Dec.{leb, ltb}
 use borrow.Author.Tests.{ltb-true, leb-true}
@@ -18,19 +18,19 @@ use Rattle.landlord.specs.declared.Act.the-variants.{Evict, Fetch}
 use Rattle.landlord.specs.Fold.{fold, sumTo, tab}
 use Rattle.landlord.specs.Catalog.{Catalog, CatalogOk, itemAt, unit, full}
 use Rattle.landlord.specs.Slot.{Slot, absent, clean, dirty, held, isDirty, loadCredit, writeCredit, Split, lose, brought, refilled, written, flushed}
-use Rattle.landlord.specs.Rule.{State, Event, hit, loaded, evicted, wroteBack, wrote, landed, Moved, size, slotAt, blocksAt, used, rank, victim, evictItem, evict, makeRoom, put, found, readSlot, serveRead, serveWrite, writeBacks, flush, step}
-use Rattle.landlord.specs.Figures.{Totals, Figures, Standing, adds, tally, totalCost, opened, moved, took, closes, ran, season}
+use Rattle.landlord.specs.Rule.{State, Event, hit, loaded, evicted, wrote, Moved, size, slotAt, blocksAt, used, rank, victim, evictItem, evict, makeRoom, put, found, flush, step}
+use Rattle.landlord.specs.Figures.{Totals, Standing, adds, totalCost, opened, moved, took, closes, ran, season}
 use Rattle.landlord.specs.Plan.{Plan, Copy, noCopy, cleanCopy, dirtyCopy, has, isChanged, cleaned, copyAt, planUsed, owed, Done, done, faulty, Priced, costs, fault, planActs, andPaid, andThen, allActs, planServes, pricedWith, priceThen, priceFrom, price}
 use Rattle.landlord.specs.Claims.{SplitOk, SlotKept, Kept, Least, Allowed, WearBound, SharpBound}
 use Rattle.landlord.proofs.Folds.{either, tab-at, tab-length}
 use Rattle.landlord.proofs.Slots.{Lost, lose-lost, read-held, flush-held}
 use Rattle.landlord.proofs.Sums.{sum-eq}
 use Rattle.landlord.proofs.Potential
-use Rattle.landlord.proofs.Keeps.{Evicting, enough, more, Room, make-room, Served, rank-whole, bears-rank, evicted-slot, other-slot, evict-catalog, evict-kept, still-absent, put-same, put-other, flush-slot, flush-catalog}
+use Rattle.landlord.proofs.Keeps.{Evicting, enough, more, Room, make-room, Served, rank-whole, bears-rank, evicted-slot, other-slot, evict-catalog, evict-kept, still-absent, put-same, put-other, flush-slot}
 use Rattle.landlord.proofs.Logs.{eventSum, eventSum-none, eventSum-one, event-append, write-backs-sum, tally-part, AllServed, all-served, Stands, opened-stands, took-stands, closes-stands, ran-stands}
-use Rattle.landlord.proofs.Potential.{Both, both, Terms, Charged, heldBlocks, planBlocks, writeback, planWriteback, wasRead, takes}
+use Rattle.landlord.proofs.Potential.{Both, both, Terms, Charged, heldBlocks, wasRead, takes}
 use Rattle.landlord.proofs.Moves
-use Rattle.landlord.proofs.Moves.{Position, over, Paid, Upd, Eviction, Move, Run, Good, Inv, Fresh, PlanClean, Sized}
+use Rattle.landlord.proofs.Moves.{Position, over, Paid, Upd, Eviction, Move, Run, Fresh, PlanClean, Sized}
 
 -- a slot of the cache and a copy of the plan, as one item of the game
 abbrev joint : Slot → Copy → Both

@@ -1,7 +1,7 @@
 -- What the rule pays and counts: a table of what each event adds, and the sums over a log from an empty cache.
 -- Paper 01, 'The step rule' and the report's names. Assumes nothing.
 use mathlib.Core.Bool.{Bool, true, false, cond}
-use mathlib.Core.List.{List, [], _∷_}
+use mathlib.Core.List.{List}
 use Prim.Native.Nat.{ℕ, _+_, _/_}
 use lib.ListN.{length, getD}
 use lib.Dec.{eqb}

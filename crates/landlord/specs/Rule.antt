@@ -9,7 +9,7 @@ use lib.Dec.{leb, ltb, eqb}
 use Rattle.landlord.specs.declared.Step.{Step}
 use Rattle.landlord.specs.declared.Step.the-variants.{Read, Write, Flush}
 use Rattle.landlord.specs.Fold.{sumTo, tab, bestTo}
-use Rattle.landlord.specs.Catalog.{Catalog, Item, itemAt, full}
+use Rattle.landlord.specs.Catalog.{Catalog, itemAt, full}
 use Rattle.landlord.specs.Slot.{Slot, absent, held, isDirty, loadCredit, writeCredit, Split, lose, brought, refilled, written, flushed}
 
 -- the rule's state: the catalog, and a slot for each item of it

@@ -2,7 +2,7 @@
 -- That an item not held has no credit, and a clean one no write credit, cannot be written otherwise here.
 -- Assumes nothing.
 use mathlib.Core.Bool.{Bool, true, false}
-use Prim.Native.Nat.{ℕ, _+_, _-_, _≤_, min}
+use Prim.Native.Nat.{ℕ, _-_, min}
 
 -- one of the locker's places: empty; held clean with a load credit; held dirty with a load and a write credit
 pub data Slot : Type 0 where

@@ -8,7 +8,7 @@ use Rattle.landlord.specs.Fold.{sumTo}
 use Rattle.landlord.specs.Catalog.{CapacityOk}
 use Rattle.landlord.specs.Slot.{isDirty}
 use Rattle.landlord.specs.Rule.{State, size, slotAt, heldCount}
-use Rattle.landlord.specs.Figures.{Totals, Figures, Standing, useAt}
+use Rattle.landlord.specs.Figures.{Standing, useAt}
 use Rattle.landlord.specs.Claims.{Kept}
 
 -- how many items are dirty

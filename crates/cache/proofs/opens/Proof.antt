@@ -1,7 +1,6 @@
 -- `cache::opens` meets its contract. Assumes nothing.
 use native.Mathlib.Omega.{arith}
 use borrow.Author.Needs.{needs}
-use Rattle.cache.specs.Opening.{Opens}
 use Rattle.cache.proofs.Openings.{decided-no, opens-so}
 use Rattle.cache.proofs.opens.Statement.{statement}
 use Rattle.cache.proofs.opens.Tie as tie

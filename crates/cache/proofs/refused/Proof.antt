@@ -7,7 +7,7 @@ use Rattle.cache.proofs.refused.Tie as tie
 use Rattle.cache.proofs.refused.Reads as reads
 use Rattle.cache.proofs.refused.Lts as lts
 use Rattle.cache.proofs.in_range.Reads as in-range-reads
-use Rattle.cache.proofs.Table.{table-closed, table-full, table-range, Ranged, table-flush, table-unknown, table-large, table-none}
+use Rattle.cache.proofs.Table.{table-closed, table-full, table-range, table-flush, table-unknown, table-large, table-none}
 
 returns : tie.Need-returns
 returns c =

@@ -1,6 +1,6 @@
 -- `cache::run_calls` meets its contract: what is left to do leads to the answers from the start. Assumes nothing.
 use mathlib.Core.Path.{_≡_, refl, ap, _∙_}
-use Prim.Native.Nat.{ℕ, _≤_, _*_, _/_, _-_}
+use Prim.Native.Nat.{_≤_, _*_, _/_, _-_}
 use native.Mathlib.Omega.{arith}
 use borrow.Author.Needs.{needs}
 use lib.ListN.{length}

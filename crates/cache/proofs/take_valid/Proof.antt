@@ -1,5 +1,5 @@
 -- `cache::take_valid` meets its contract: each reply is a law of proofs/Replies.antt. Assumes nothing.
-use mathlib.Core.Path.{_≡_, sym, _∙_}
+use mathlib.Core.Path.{sym, _∙_}
 use Rattle.cache.proofs.Replies.{refused-reply, step-reply}
 use Rattle.cache.proofs.take_valid.Statement.{statement}
 use Rattle.cache.proofs.take_valid.Tie as tie
