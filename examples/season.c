@@ -1,4 +1,5 @@
-/* Paper 01's whole example on a lent state: five steps and the closing, with the figures read from the layout. */
+/* Paper 01's whole example on a lent state: five steps and the closing, with the figures read from the layout, and
+ * the report. */
 #include <inttypes.h>
 #include <stdio.h>
 
@@ -32,5 +33,9 @@ int main(void) {
     show("R 0", recorder_step(state, sizeof state, RECORDER_READ, 0, 0), state);
     show("L", recorder_step(state, sizeof state, RECORDER_FLUSH, 0, 0), state);
     show("close", recorder_close(state, sizeof state), state);
+
+    static uint8_t page[RECORDER_REPORT_BYTES];
+    size_t length = 0;
+    if (recorder_report(state, sizeof state, page, sizeof page, &length) == RECORDER_TAKEN) fwrite(page, 1, length, stdout);
     return 0;
 }
