@@ -31,7 +31,7 @@ slice-aggregate-run : tie.Need-slice-aggregate-run
 slice-aggregate-run c =
     let a = c .before .before .before .before .before .args in
     let end = 4 * a .seen .steps in
-    sym (length-take-le (end + 4) (set (a .calls .now) end 1) (simp length-set (omega arith)))
+    sym (length-take-le (end + 4) (set (a .calls .now) end _) (simp length-set (omega arith)))
 
 slice-aggregate-run-2 : tie.Need-slice-aggregate-run-2
 slice-aggregate-run-2 c = search needs
