@@ -3,3 +3,4 @@ pub mod Season
 pub mod Closing
 pub mod Answers
 pub mod Prints
+pub mod Accepted

@@ -1,15 +1,17 @@
--- What is claimed of every accepted text (proved in proofs/Season.antt). Paper 01: "The steps of an accepted text, with its closing,
+-- What is claimed of every accepted text (proved in proofs/Season.antt and proofs/Accepted.antt). Paper 01: "The steps of an accepted text, with its closing,
 -- are such a list." Assumes nothing.
 use mathlib.Core.Path.{_≡_}
 use mathlib.Core.List.{List, [], _∷_, _++_, map}
 use Prim.Native.Nat.{ℕ, _≤_, _<_}
 use lib.ListN.{length, getD, take}
+use Rattle.landlord.specs.Plan.{costs}
 use Rattle.landlord.specs.Calls.{Call, close, callOf, openingRefusal, refusal}
 use Rattle.cache_state.specs.declared.Cache.{Cache}
 use Rattle.cache_state.specs.View.{view}
 use Rattle.cache.specs.Chain.{Chain}
-use Rattle.season_tables.specs.Tables.{Sofar}
-use Rattle.season_text.specs.Answer.{closedSeason, leftOf, rightOf}
+use Rattle.season_tables.specs.Tables.{Sofar, on, readingOf}
+use Rattle.season_plan.specs.Plans.{priceOf}
+use Rattle.season_text.specs.Answer.{closedSeason, leftOf, rightOf, reportAgainst}
 
 -- the calls made of its steps, and one closing
 abbrev pub callsIn : Sofar → List Call
@@ -25,3 +27,13 @@ pub record AllAccepted (v : Sofar) : Type 0 where
 pub record Compared (v : Sofar) (cost : ℕ) : Type 0 where
   pub figures : (numbers : List ℕ) (d : Cache) → Chain (v .k) (v .catalog) (callsIn v) numbers d → view d ≡ closedSeason v
   pub bound : leftOf v ≤ rightOf v cost
+
+-- What a report stands for: the text was accepted and its plan costs so much, the report is of these, and both claims hold of them.
+pub record Accepted (s t : List ℕ) : Type 0 where
+  pub text : Sofar
+  pub cost : ℕ
+  pub reads : readingOf s ≡ on text
+  pub price : priceOf text ≡ costs cost
+  pub report : t ≡ reportAgainst text cost
+  pub calls : AllAccepted text
+  pub compared : Compared text cost
