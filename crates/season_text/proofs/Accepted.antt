@@ -1,5 +1,5 @@
 -- Every report that is given is that of an accepted text, of which the claims hold. Assumes nothing.
-use mathlib.Core.Path.{_≡_, refl, sym, ap, subst, _∙_}
+use mathlib.Core.Path.{_≡_, refl, sym, ap, subst}
 use mathlib.Core.Bool.{Bool, true, false, cond}
 use mathlib.Core.List.{List, []}
 use Prim.Native.Nat.{ℕ, _≤_}
@@ -12,7 +12,7 @@ use Rattle.landlord.specs.Plan.{Priced, costs, fault}
 use Rattle.season_tables.specs.Tables.{Sofar, Led, on, stop, readingOf}
 use Rattle.season_tables.proofs.Sound.{accepted-sound}
 use Rattle.season_plan.specs.Plans.{priceOf}
-use Rattle.season_text.specs.Answer.{Outcome, refused, reported, reportAgainst, priced, judged, outcomeOf}
+use Rattle.season_text.specs.Answer.{Outcome, refused, reported, priced, judged, outcomeOf}
 use Rattle.season_text.specs.Claims.{Accepted}
 use Rattle.season_text.proofs.Season.{calls-accepted, text-compared}
 
