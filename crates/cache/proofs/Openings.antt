@@ -20,7 +20,7 @@ use Rattle.landlord.specs.Calls.{openingRefusal, allInRange}
 use Rattle.landlord.proofs.Folds.{tab-length, tab-at, tab-eq}
 use Rattle.landlord.proofs.Calls.{opening-taken, opening-accepts}
 use Rattle.marks.specs.Marks.{bit, marked}
-use Rattle.cache_state.specs.declared.Cache.{Cache}
+use Rattle.cache_state.specs.Cache.{Cache}
 use Rattle.cache_state.specs.View.{slotOf, usageOf, catalogOf, slotsOf, usesOf}
 use Rattle.cache_state.specs.Valid.{Valid, Blank, Emptied}
 use Rattle.cache_state.specs.Becomes.{Becomes, Decided}

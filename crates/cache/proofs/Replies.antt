@@ -11,7 +11,7 @@ use Rattle.landlord.specs.Slot.{writeFirst}
 use Rattle.landlord.specs.Rule.{flush}
 use Rattle.landlord.specs.Figures.{Standing, moved, took, closes}
 use Rattle.landlord.specs.Calls.{Call, take, close, callOf, stepOf, refusalAt, refusalNow, accepted, after}
-use Rattle.cache_state.specs.declared.Cache.{Cache}
+use Rattle.cache_state.specs.Cache.{Cache}
 use Rattle.cache_state.specs.View.{catalogOf, slotsOf, usesOf, stateOf, view}
 use Rattle.cache_state.specs.Valid.{Valid, Normal}
 use Rattle.cache_state.specs.Becomes.{Becomes, Decided}

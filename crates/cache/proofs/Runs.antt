@@ -11,7 +11,7 @@ use borrow.Author.Tests.{eq-eqb, ne-eqb}
 use Rattle.landlord.specs.Catalog.{Catalog}
 use Rattle.landlord.specs.Calls.{Call, take, close}
 use Rattle.landlord.proofs.Folds.{tab-length, tab-at}
-use Rattle.cache_state.specs.declared.Cache.{Cache}
+use Rattle.cache_state.specs.Cache.{Cache}
 use Rattle.cache_state.specs.Valid.{Valid}
 use Rattle.cache.specs.declared.Reply.{Reply}
 use Rattle.cache.specs.Contract.{Answers, Opened}

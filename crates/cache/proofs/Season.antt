@@ -17,7 +17,7 @@ use Rattle.landlord.proofs.Slots.{write-first-ok}
 use Rattle.landlord.proofs.Calls.{log-allowed, joins-either, logged-allowed, same-refusal, one-call, opening-taken, closing-ends}
 use Rattle.landlord.proofs.Valid.{ok-opened, ok-after}
 use Rattle.landlord.proofs.Wear.{wear-bound}
-use Rattle.cache_state.specs.declared.Cache.{Cache}
+use Rattle.cache_state.specs.Cache.{Cache}
 use Rattle.cache_state.specs.View.{view}
 use Rattle.cache_state.specs.Valid.{Valid}
 use Rattle.cache_state.specs.Becomes.{Becomes}

@@ -16,7 +16,7 @@ use Rattle.landlord.specs.Calls.{stepOf, inRange, refusalAt}
 use Rattle.landlord.proofs.Slots.{write-first-ok}
 use Rattle.landlord.proofs.Keeps.{make-room}
 use Rattle.landlord.proofs.Valid.{Ready, room-ready, moved-joined}
-use Rattle.cache_state.specs.declared.Cache.{Cache}
+use Rattle.cache_state.specs.Cache.{Cache}
 use Rattle.cache_state.specs.View.{catalogOf, stateOf, view}
 use Rattle.cache_state.specs.Becomes.{Becomes}
 use Rattle.cache_state.proofs.Views.{size-is, blocks-is}

@@ -9,7 +9,7 @@ use Rattle.landlord.specs.Slot.{writeFirst}
 use Rattle.landlord.specs.Figures.{season, totalCost}
 use Rattle.landlord.specs.Plan.{Plan, price, costs}
 use Rattle.landlord.specs.Calls.{Call, close, logOf, refusal, ruleOver}
-use Rattle.cache_state.specs.declared.Cache.{Cache}
+use Rattle.cache_state.specs.Cache.{Cache}
 use Rattle.cache_state.specs.View.{view}
 use Rattle.cache_state.specs.Valid.{Valid}
 use Rattle.cache.specs.declared.Reply.{Reply}

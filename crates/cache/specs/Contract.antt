@@ -11,7 +11,7 @@ use Rattle.landlord.specs.Slot.{writeFirst}
 use Rattle.landlord.specs.Rule.{emptied}
 use Rattle.landlord.specs.Figures.{Standing, nothing, opened}
 use Rattle.landlord.specs.Calls.{Call, take, openingRefusal, refusalNow, after}
-use Rattle.cache_state.specs.declared.Cache.{Cache}
+use Rattle.cache_state.specs.Cache.{Cache}
 use Rattle.cache_state.specs.View.{dirtyAt, view}
 use Rattle.cache_state.specs.Valid.{Valid}
 use Rattle.cache_state.specs.Becomes.{Becomes}

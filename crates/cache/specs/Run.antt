@@ -10,7 +10,7 @@ use lib.Dec.{eqb}
 use Rattle.landlord.specs.Fold.{tab}
 use Rattle.landlord.specs.Catalog.{Catalog}
 use Rattle.landlord.specs.Calls.{Call, take, close, openingRefusal}
-use Rattle.cache_state.specs.declared.Cache.{Cache}
+use Rattle.cache_state.specs.Cache.{Cache}
 use Rattle.cache_state.specs.Becomes.{Becomes}
 use Rattle.cache.specs.declared.Reply.{Reply}
 use Rattle.cache.specs.Contract.{refusedOpening}

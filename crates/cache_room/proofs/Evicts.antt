@@ -14,7 +14,7 @@ use Rattle.landlord.proofs.Folds.{tab-eq}
 use Rattle.landlord.proofs.Keeps.{victim-least}
 use Rattle.landlord.proofs.Valid.{line-writebacks}
 use Rattle.marks.specs.Marks.{marks}
-use Rattle.cache_state.specs.declared.Cache.{Cache}
+use Rattle.cache_state.specs.Cache.{Cache}
 use Rattle.cache_state.specs.View.{dirtyAt, slotOf, catalogOf, slotsOf, usesOf, stateOf, figuresOf, view}
 use Rattle.cache_state.specs.Valid.{Normal, Valid}
 use Rattle.cache_state.specs.Becomes.{Becomes}

@@ -14,7 +14,7 @@ use Rattle.landlord.specs.Valid.{StandingOk}
 use Rattle.landlord.proofs.Slots.{write-first-ok}
 use Rattle.landlord.proofs.Keeps.{victim-least, evict-count, evict-catalog}
 use Rattle.landlord.proofs.Valid.{ok-evict, moved-joined}
-use Rattle.cache_state.specs.declared.Cache.{Cache}
+use Rattle.cache_state.specs.Cache.{Cache}
 use Rattle.cache_state.specs.View.{stateOf, view}
 use Rattle.cache_state.specs.Valid.{Valid}
 use Rattle.cache_state.specs.Becomes.{Becomes}

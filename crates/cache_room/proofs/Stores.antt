@@ -19,7 +19,7 @@ use Rattle.landlord.specs.Figures.{totalsOf, plusTotals, adds, Use, useOf, plus
 use Rattle.landlord.proofs.Folds.{tab-eq}
 use Rattle.marks.specs.Marks.{marked, marks}
 use Rattle.marks.proofs.Laws.{marked-set-same, marked-set-other}
-use Rattle.cache_state.specs.declared.Cache.{Cache}
+use Rattle.cache_state.specs.Cache.{Cache}
 use Rattle.cache_state.specs.View.{dirtyAt, slotFrom, slotOf, usageOf, catalogOf, slotsOf, usesOf, stateOf, countsOf, figuresOf, view}
 use Rattle.cache_state.specs.Valid.{Blank, Emptied, Normal}
 use Rattle.cache_state.proofs.Views.{size-is, item-is, use-is}

@@ -12,7 +12,7 @@ use Rattle.landlord.specs.Catalog.{ItemOk, itemAt}
 use Rattle.landlord.specs.Slot.{Slot, held, isDirty, loadCredit, writeCredit}
 use Rattle.landlord.specs.Rule.{size, slotAt, blocksAt, rank, goesBefore, victim}
 use Rattle.landlord.specs.Claims.{SlotKept}
-use Rattle.cache_state.specs.declared.Cache.{Cache}
+use Rattle.cache_state.specs.Cache.{Cache}
 use Rattle.cache_state.specs.View.{dirtyAt, stateOf}
 use Rattle.cache_state.specs.Valid.{Normal, Valid}
 use Rattle.cache_state.proofs.Views.{size-is, slot-is, slot-past, blocks-is, held-is, from-dirty, from-load, from-write}

@@ -8,10 +8,12 @@ use Rattle.landlord.specs.Catalog.{full}
 use Rattle.landlord.specs.Rule.{used}
 use Rattle.landlord.specs.Figures.{totalsOf}
 use Rattle.marks.specs.Marks.{marks}
-use Rattle.cache_state.specs.declared.Cache.{Cache}
+use Rattle.cache_state.specs.Cache.{Cache}
 use Rattle.cache_state.specs.View.{stateOf}
-use Rattle.cache_state.specs.Valid.{Valid}
+use Rattle.cache_state.specs.Valid.{Normal, Valid}
 pub use Rattle.cache_state.specs.With.{withSlots, withFigures}
+use Rattle.layout.specs.Layout.{cacheOf}
+use Rattle.layout.specs.Stands.{Readable, ValidBytes, ValidAt}
 use Rattle.cache_room.specs.Stores.{storeTo}
 
 -- no credit is greater than this
@@ -83,3 +85,33 @@ pub record Countable (c : Cache) (v : ℕ) : Type 0 where
   pub writebacks : c .writebacks ≤ 1000000
   pub itemWritebacks : getD (c .itemwritebacks) v 0 ≤ 1000000
   pub writeCost : c .writecost ≤ 65535 * 1000000
+
+-- ---- the same of the bytes of a state
+
+-- bytes of n items that can be charged; what is not held has no credit
+pub record ChargeableAt (b : List ℕ) (n m : ℕ) : Type 0 where
+  pub reads : Readable b
+  pub count : n ≡ cacheOf b .n
+  pub fields : Normal (cacheOf b)
+  pub rank : m ≤ mostCredit + mostCredit
+
+-- item v is dropped
+pub record DroppedAt (b : List ℕ) (v : ℕ) (left : List ℕ) : Type 0 where
+  pub reads : Readable left
+  pub cache : Dropped (cacheOf b) v (cacheOf left)
+
+-- the eviction of item v can be counted
+pub record CountableAt (b : List ℕ) (v : ℕ) : Type 0 where
+  pub reads : Readable b
+  pub counts : Countable (cacheOf b) v
+
+-- valid bytes of n items of which something is held
+pub record CrowdedAt (b : List ℕ) (n : ℕ) : Type 0 where
+  pub valid : ValidAt b n
+  pub some : 1 ≤ used (stateOf (cacheOf b))
+
+-- valid bytes, and an item that such a cache can hold
+pub record WantedAt (b : List ℕ) (i : ℕ) : Type 0 where
+  pub valid : ValidBytes b
+  pub known : i < cacheOf b .n
+  pub fits : getD (cacheOf b .blocks) i 0 ≤ cacheOf b .k

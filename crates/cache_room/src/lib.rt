@@ -1,18 +1,14 @@
-// Room for an item: the victim, its eviction, and evictions until the item fits.
+// Room for an item, in place on the state's bytes: the victim, its eviction, and evictions until the item fits.
 ghost use Prim.Native.Nat.{_+_, _-_, _/_, _≤_, _<_};
 ghost use mathlib.Core.Path.{_≡_};
-ghost use mathlib.Core.Bool.{cond, true, false};
-ghost use lib.Dec.{ltb};
+ghost use lib.ListN.{getD};
 ghost use Rattle.landlord.specs.Slot.{writeFirst};
-ghost use Rattle.landlord.specs.Rule.{used, victim, evict, makeRoom};
+ghost use Rattle.landlord.specs.Rule.{victim, evict, makeRoom};
 ghost use Rattle.landlord.specs.Figures.{moved};
-ghost use Rattle.cache_state.specs.declared.Cache.{Cache};
 ghost use Rattle.cache_state.specs.View.{view, stateOf};
-ghost use Rattle.cache_state.specs.Valid.{Valid};
-ghost use Rattle.cache_state.specs.Becomes.{Becomes};
-ghost use Rattle.cache_room.specs.Room.{Ranked, Chargeable, Dropped, Countable, Crowded, Wanted, chargedOf, countedOf};
-use cache_state::Cache;
-use cache_state::used;
+ghost use Rattle.layout.specs.Layout.{cacheOf};
+ghost use Rattle.layout.specs.Stands.{Stands, Readable, ValidAt, BecomesAt};
+ghost use Rattle.cache_room.specs.Room.{Ranked, ChargeableAt, DroppedAt, CountableAt, CrowdedAt, WantedAt, chargedOf, countedOf};
 
 // The credits of an item a block: what its place in the cache is still worth. Credits are multiples of the blocks, so nothing is
 // rounded.
@@ -23,30 +19,28 @@ fn rank(load: u64, write: u64, blocks: u8) -> u64
     (load + write) / (blocks as u64)
 }
 
-// Whether an item goes before the best so far: it is held, and there is none so far or its rank is less. An equal rank does not,
-// so that the lowest number stays.
-fn goes_before(held: bool, none: bool, rank: u64, least: u64) -> bool
-    ensures { λ r. ⌜ r ≡ cond held (cond none true (ltb rank least)) false ⌝ }
+// The held item of least rank, the lowest number first; the count of items if none is held. An equal rank does not go before the best
+// so far, so that the lowest number stays.
+pub fn victim(b: &[u8], n: usize) -> usize
+    requires { ⌜ ValidAt (now b) n ⌝ }
+    ensures { λ r. ⌜ r ≡ victim (stateOf (cacheOf (now (b .entry)))) ⌝ }
 {
-    held && (none || rank < least)
-}
-
-// The held item of least rank, the lowest number first; the count of items if none is held.
-pub fn victim(c: Cache) -> usize
-    requires { ⌜ Valid c ⌝ }
-    ensures { λ r. ⌜ r ≡ victim (stateOf c) ⌝ }
-{
-    let n = c.n;
     let mut best = n;
     let mut least: u64 = 0;
     let mut i = 0;
     while i < n {
-        let here = rank(c.loadcredit[i], c.writecredit[i], c.blocks[i]);
-        if goes_before(c.held[i], best == n, here, least) {
-            best = i;
-            least = here;
+        if layout::held(b, i) {
+            let here = rank(
+                layout::load_credit(b, i),
+                layout::write_credit(b, i),
+                layout::blocks(b, i),
+            );
+            if best == n || here < least {
+                best = i;
+                least = here;
+            }
         }
-        i = i + 1;
+        i += 1;
     }
     best
 }
@@ -58,86 +52,88 @@ fn left(credit: u64, loss: u64) -> u64
     if credit > loss { credit - loss } else { 0 }
 }
 
-// Each item loses `rank` for each of its blocks, from its write credit first and from its load credit when that is used up.
-// An item that is not held has no credit and loses nothing.
-fn charge(c: Cache, rank: u64) -> Cache
-    requires { ⌜ Chargeable c rank ⌝ }
-    ensures { λ r. ⌜ r ≡ chargedOf c rank (c .n) ⌝ }
+// Each held item loses `rank` for each of its blocks, from its write credit first and from its load credit when that is used up.
+// An item that is not held has no credit to lose.
+fn charge(b: &mut [u8], n: usize, rank: u64)
+    requires { ⌜ ChargeableAt (now b) n rank ⌝ }
+    ensures { λ _. ⌜ Stands (now (b .exit)) (chargedOf (cacheOf (now (b .entry))) rank n) ⌝ }
 {
-    let n = c.n;
-    let mut q = c;
     let mut i = 0;
     while i < n {
-        let loss = (c.blocks[i] as u64) * rank;
-        let write = c.writecredit[i];
-        q.writecredit[i] = left(write, loss);
-        q.loadcredit[i] = left(c.loadcredit[i], left(loss, write));
-        i = i + 1;
+        if layout::held(b, i) {
+            let loss = (layout::blocks(b, i) as u64) * rank;
+            let write = layout::write_credit(b, i);
+            let load = layout::load_credit(b, i);
+            layout::put_write_credit(b, i, left(write, loss));
+            layout::put_load_credit(b, i, left(load, left(loss, write)));
+        }
+        i += 1;
     }
-    q
 }
 
 // Item `v` is dropped: its place is empty, clean and without credit.
-fn drop_item(c: Cache, v: usize) -> Cache
-    requires { ⌜ v < 256 ⌝ }
-    ensures { λ r. ⌜ Dropped c v r ⌝ }
+fn drop_item(b: &mut [u8], v: usize)
+    requires { ⌜ Readable (now b) × (v < 256) ⌝ }
+    ensures { λ _. ⌜ DroppedAt (now (b .entry)) v (now (b .exit)) ⌝ }
 {
-    let mut q = c;
-    q.held[v] = false;
-    q.loadcredit[v] = 0;
-    q.writecredit[v] = 0;
-    let words = c.dirty;
-    let rest = marks::unmark(words, v);
-    q.dirty = rest;
-    q
+    let words = layout::dirty(b);
+    layout::put_held(b, v, false);
+    layout::put_load_credit(b, v, 0);
+    layout::put_write_credit(b, v, 0);
+    layout::put_dirty(b, marks::unmark(words, v));
 }
 
 // The eviction of item `v` is counted. A dirty item is written back before it goes, and that is paid for.
-fn count(c: Cache, v: usize, dirty: bool) -> Cache
-    requires { ⌜ Countable c v ⌝ }
-    ensures { λ r. ⌜ r ≡ countedOf c v dirty ⌝ }
+fn count(b: &mut [u8], v: usize, dirty: bool)
+    requires { ⌜ CountableAt (now b) v ⌝ }
+    ensures { λ _. ⌜ Stands (now (b .exit)) (countedOf (cacheOf (now (b .entry))) v dirty) ⌝ }
 {
-    let mut q = c;
-    q.evictions = c.evictions + 1;
+    // Everything is read before anything is stored.
+    let evictions = layout::evictions(b);
+    let dirties = layout::dirty_evictions(b);
+    let writebacks = layout::writebacks(b);
+    let own = layout::item_writebacks(b, v);
+    let paid = layout::write_cost(b);
+    let price = layout::item_write_cost(b, v) as u64;
+    layout::put_evictions(b, evictions + 1);
     if dirty {
-        q.dirtyevictions = c.dirtyevictions + 1;
-        q.writebacks = c.writebacks + 1;
-        q.itemwritebacks[v] = c.itemwritebacks[v] + 1;
-        q.writecost = c.writecost + (c.write[v] as u64);
+        layout::put_dirty_evictions(b, dirties + 1);
+        layout::put_writebacks(b, writebacks + 1);
+        layout::put_item_writebacks(b, v, own + 1);
+        layout::put_write_cost(b, paid + price);
     }
-    q
 }
 
-// Evicts the held item of least rank, at the cost of that rank to each block of the others. Its own credits, which are its
-// blocks × that rank, are used up by the same charge.
-pub fn evict(c: Cache) -> Cache
-    requires { ⌜ Crowded c ⌝ }
-    ensures { λ r. ⌜ Becomes (moved (view c) (evict writeFirst (stateOf c)) (c .closed)) r ⌝ }
+// Evicts the held item of least rank, at the cost of that rank to each block of the others, and answers how many blocks that frees.
+// Its own credits, which are its blocks × that rank, are used up by the same charge.
+pub fn evict(b: &mut [u8], n: usize) -> u8
+    requires { ⌜ CrowdedAt (now b) n ⌝ }
+    ensures { λ r. ⌜ r ≡ getD (cacheOf (now (b .entry)) .blocks) (victim (stateOf (cacheOf (now (b .entry))))) 0 ⌝ }
+    ensures { λ _. ⌜ BecomesAt (moved (view (cacheOf (now (b .entry)))) (evict writeFirst (stateOf (cacheOf (now (b .entry))))) (cacheOf (now (b .entry)) .closed)) (now (b .exit)) ⌝ }
 {
-    let v = victim(c);
-    let load = c.loadcredit[v];
-    let write = c.writecredit[v];
-    let least = rank(load, write, c.blocks[v]);
-    let words = c.dirty;
-    let dirty = marks::is_marked(words, v);
-    let charged = charge(c, least);
-    let dropped = drop_item(charged, v);
-    count(dropped, v, dirty)
+    let v = victim(b, n);
+    let blocks = layout::blocks(b, v);
+    let least = rank(layout::load_credit(b, v), layout::write_credit(b, v), blocks);
+    let dirty = marks::is_marked(layout::dirty(b), v);
+    charge(b, n, least);
+    drop_item(b, v);
+    count(b, v, dirty);
+    blocks
 }
 
 // Makes room for item `i`, if it is not held: the item of least rank goes, until the free blocks are enough.
-pub fn make_room(c: Cache, i: usize) -> Cache
-    requires { ⌜ Wanted c i ⌝ }
-    ensures { λ r. ⌜ Becomes (moved (view c) (makeRoom writeFirst (c .k) i (stateOf c)) (c .closed)) r ⌝ }
+pub fn make_room(b: &mut [u8], i: usize)
+    requires { ⌜ WantedAt (now b) i ⌝ }
+    ensures { λ _. ⌜ BecomesAt (moved (view (cacheOf (now (b .entry)))) (makeRoom writeFirst (cacheOf (now (b .entry)) .k) i (stateOf (cacheOf (now (b .entry))))) (cacheOf (now (b .entry)) .closed)) (now (b .exit)) ⌝ }
 {
-    if c.held[i] {
-        return c;
+    if layout::held(b, i) {
+        return;
     }
-    let k = c.k;
-    let blocks = c.blocks[i] as u32;
-    let mut q = c;
-    while used(q) + blocks > k {
-        q = evict(q);
+    let n = layout::count(b);
+    let k = layout::capacity(b);
+    let blocks = layout::blocks(b, i) as u32;
+    let mut used = cache_check::used(b, n);
+    while used + blocks > k {
+        used -= evict(b, n) as u32;
     }
-    q
 }

@@ -8,7 +8,7 @@ use Rattle.landlord.specs.Fold.{sumTo}
 use Rattle.landlord.specs.Catalog.{ItemOk}
 use Rattle.landlord.specs.Figures.{Use, useAt}
 use Rattle.landlord.specs.Rule.{size}
-use Rattle.cache_state.specs.declared.Cache.{Cache}
+use Rattle.cache_state.specs.Cache.{Cache}
 use Rattle.cache_state.specs.View.{itemOf, stateOf, figuresOf}
 use Rattle.cache_state.specs.Valid.{Valid}
 use Rattle.cache_state.proofs.Views.{size-is, item-is, use-is}

@@ -15,7 +15,7 @@ use Rattle.landlord.specs.Fold.{tab, fold}
 use Rattle.landlord.specs.Rule.{Event, size, put}
 use Rattle.landlord.specs.Figures.{Use, useOf, usage, isAbout, plusTotals, plusUse, noUse, adds, tally, moved}
 use Rattle.landlord.proofs.Folds.{tab-set, tab-eq}
-use Rattle.cache_state.specs.declared.Cache.{Cache}
+use Rattle.cache_state.specs.Cache.{Cache}
 use Rattle.cache_state.specs.View.{dirtyAt, slotFrom, slotOf, usageOf, catalogOf, slotsOf, usesOf, stateOf, countsOf, figuresOf, view}
 use Rattle.cache_state.specs.Valid.{Blank, Emptied, Normal}
 use Rattle.cache_state.proofs.Views.{size-is, use-is}

@@ -16,7 +16,7 @@ use Rattle.landlord.specs.Figures.{Standing, plusTotals, adds, moved}
 use Rattle.landlord.specs.Valid.{StandingOk}
 use Rattle.marks.specs.Marks.{marks, firstSet}
 use Rattle.marks.proofs.Laws.{marked-set-same, marked-set-other, NextMark, next-is}
-use Rattle.cache_state.specs.declared.Cache.{Cache}
+use Rattle.cache_state.specs.Cache.{Cache}
 use Rattle.cache_state.specs.View.{dirtyAt, slotFrom, slotOf, usageOf, catalogOf, slotsOf, usesOf, stateOf, countsOf, view}
 use Rattle.cache_state.specs.Valid.{Blank, Emptied, Normal, Valid}
 use Rattle.cache_state.specs.Becomes.{Becomes}

@@ -18,7 +18,7 @@ use Rattle.landlord.proofs.Slots.{read-held}
 use Rattle.landlord.proofs.Keeps.{put-same}
 use Rattle.marks.specs.Marks.{marks}
 use Rattle.marks.proofs.Laws.{marked-set-same, marked-set-other}
-use Rattle.cache_state.specs.declared.Cache.{Cache}
+use Rattle.cache_state.specs.Cache.{Cache}
 use Rattle.cache_state.specs.View.{dirtyAt, slotFrom, slotOf, usageOf, catalogOf, stateOf, countsOf, figuresOf, view}
 use Rattle.cache_state.specs.Valid.{Normal}
 use Rattle.cache_state.specs.Becomes.{Becomes}

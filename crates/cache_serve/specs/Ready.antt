@@ -1,8 +1,11 @@
 -- What a caller must have shown before a step is counted or an item's fields are stored. Assumes nothing.
+use mathlib.Core.List.{List}
 use Prim.Native.Nat.{ℕ, _*_, _<_, _≤_}
 use lib.ListN.{getD}
-use Rattle.cache_state.specs.declared.Cache.{Cache}
+use Rattle.cache_state.specs.Cache.{Cache}
 use Rattle.cache_state.specs.Valid.{Valid}
+use Rattle.layout.specs.Layout.{cacheOf}
+use Rattle.layout.specs.Stands.{Readable, ValidBytes}
 
 -- one step more can be counted: "at most 1,000,000"
 pub record Steppable (c : Cache) : Type 0 where
@@ -28,3 +31,22 @@ pub record Flushable (c : Cache) (i : ℕ) : Type 0 where
   pub total : c .writebacks ≤ 1000256
   pub own : getD (c .itemwritebacks) i 0 ≤ 1000256
   pub cost : c .writecost ≤ 65535 * 1000256
+
+-- ---- the same of the bytes of a state
+
+pub record SteppableAt (b : List ℕ) : Type 0 where
+  pub valid : ValidBytes b
+  pub room : cacheOf b .steps < 1000000
+
+pub record ServableAt (b : List ℕ) (i : ℕ) : Type 0 where
+  pub valid : ValidBytes b
+  pub item : i < cacheOf b .n
+  pub room : cacheOf b .steps < 1000000
+
+pub record WritableAt (b : List ℕ) (i minutes : ℕ) : Type 0 where
+  pub reads : Readable b
+  pub counts : Writable (cacheOf b) i minutes
+
+pub record FlushableAt (b : List ℕ) (i : ℕ) : Type 0 where
+  pub reads : Readable b
+  pub counts : Flushable (cacheOf b) i

@@ -3,13 +3,15 @@ use mathlib.Core.Path.{_≡_}
 use mathlib.Core.Bool.{true, false}
 use mathlib.Core.List.{List}
 use Prim.Native.Nat.{ℕ, _+_}
-use lib.ListN.{length, getD, set}
+use lib.ListN.{getD, set}
 use Rattle.landlord.specs.Catalog.{full}
 use Rattle.landlord.specs.Figures.{totalsOf, tenthsOf}
 use Rattle.marks.specs.Marks.{marks}
-use Rattle.cache_state.specs.declared.Cache.{Cache}
+use Rattle.cache_state.specs.Cache.{Cache}
 use Rattle.cache_state.specs.View.{countsOf}
 pub use Rattle.cache_state.specs.With.{withSlots, withFigures}
+use Rattle.layout.specs.Layout.{cacheOf}
+use Rattle.layout.specs.Stands.{Readable}
 
 -- a hit counted: one step, one hit
 abbrev pub hitOf : Cache → Cache
@@ -43,29 +45,26 @@ wroteOf c i marked =
     (totalsOf (c .steps) (c .hits) (c .loads) (c .loadcost) (c .evictions) (c .dirtyevictions)
     (c .writebacks + 1) (c .writecost + getD (c .write) i 0) (c .flushes))
 
--- a landing counted: one step, one flush
-abbrev pub landedOf : Cache → Cache
-landedOf c =
+-- a flush of the log counted: one step, one flush
+abbrev pub flushedOf : Cache → Cache
+flushedOf c =
     withFigures c (c .tenths) (c .itemloads) (c .itemwritebacks)
     (totalsOf (c .steps + 1) (c .hits) (c .loads) (c .loadcost) (c .evictions) (c .dirtyevictions) (c .writebacks) (c .writecost) (c .flushes + 1))
 
--- every array of a cache has a place for each of the 256 numbers, so that a store finds its place
-pub record Sizes (c : Cache) : Type 0 where
-  pub held : length (c .held) ≡ 256
-  pub loadCredit : length (c .loadcredit) ≡ 256
-  pub writeCredit : length (c .writecredit) ≡ 256
-  pub tenths : length (c .tenths) ≡ 256
-  pub loads : length (c .itemloads) ≡ 256
-  pub writebacks : length (c .itemwritebacks) ≡ 256
-
--- A store that sets or clears a mark: which words hold the marks is left to crate marks. That every place exists is said too,
--- since a caller does not see it of a cache that a call handed back.
+-- A store that sets or clears a mark: which words hold the marks is left to crate marks.
 pub record Wrote (c : Cache) (i minutes : ℕ) (r : Cache) : Type 0 where
-  pub sizes : Sizes c
   pub store : r ≡ writtenOf c i minutes (r .dirty)
   pub mark : marks (r .dirty) ≡ set (marks (c .dirty)) i true
 
 pub record WroteBack (c : Cache) (i : ℕ) (r : Cache) : Type 0 where
-  pub sizes : Sizes c
   pub store : r ≡ wroteOf c i (r .dirty)
   pub mark : marks (r .dirty) ≡ set (marks (c .dirty)) i false
+
+-- the same of the bytes of a state
+pub record WroteAt (b : List ℕ) (i minutes : ℕ) (left : List ℕ) : Type 0 where
+  pub reads : Readable left
+  pub cache : Wrote (cacheOf b) i minutes (cacheOf left)
+
+pub record WroteBackAt (b : List ℕ) (i : ℕ) (left : List ℕ) : Type 0 where
+  pub reads : Readable left
+  pub cache : WroteBack (cacheOf b) i (cacheOf left)

@@ -1,6 +1,6 @@
-// Serving a request, and flushing: what a step of the rule does once there is room for its item.
-// The small functions store the fields of one item and count what happened to it; specs/Stores.antt says which cache each hands
-// back. The public ones say where the rule stands after it.
+// Serving a request, and flushing, in place on the state's bytes: what a step of the rule does once there is room for its item.
+// The small functions store the fields of one item and count what happened to it; specs/Stores.antt says which cache the bytes are
+// then. The public ones say where the rule stands after it.
 ghost use Prim.Native.Nat.{_<_, _≤_};
 ghost use mathlib.Core.Path.{_≡_};
 ghost use Rattle.landlord.specs.declared.Step.the-variants.{Flush};
@@ -9,11 +9,10 @@ ghost use Rattle.landlord.specs.Slot.{writeFirst};
 ghost use Rattle.landlord.specs.Rule.{serveRead, serveWrite, flush, step};
 ghost use Rattle.landlord.specs.Figures.{tenthsOf, moved};
 ghost use Rattle.cache_state.specs.View.{stateOf, view};
-ghost use Rattle.cache_state.specs.Valid.{Valid};
-ghost use Rattle.cache_state.specs.Becomes.{Becomes};
-ghost use Rattle.cache_serve.specs.Stores.{hitOf, loadedOf, refilledOf, landedOf, Wrote, WroteBack};
-ghost use Rattle.cache_serve.specs.Ready.{Steppable, Servable, Writable, Flushable};
-use cache_state::Cache;
+ghost use Rattle.layout.specs.Layout.{cacheOf};
+ghost use Rattle.layout.specs.Stands.{Stands, Readable, ValidBytes, BecomesAt};
+ghost use Rattle.cache_serve.specs.Stores.{hitOf, loadedOf, refilledOf, flushedOf, WroteAt, WroteBackAt};
+ghost use Rattle.cache_serve.specs.Ready.{SteppableAt, ServableAt, WritableAt, FlushableAt};
 
 // A cost as it is added to a sum of costs.
 fn cost(price: u16) -> u64
@@ -38,122 +37,128 @@ fn whole_tenths(minutes: u32) -> u32
 }
 
 // A request for an item that is held.
-fn count_hit(c: Cache) -> Cache
-    requires { ⌜ Steppable c ⌝ }
-    ensures { λ r. ⌜ r ≡ hitOf c ⌝ }
+fn count_hit(b: &mut [u8])
+    requires { ⌜ SteppableAt (now b) ⌝ }
+    ensures { λ _. ⌜ Stands (now (b .exit)) (hitOf (cacheOf (now (b .entry)))) ⌝ }
 {
-    let mut q = c;
-    q.steps = c.steps + 1;
-    q.hits = c.hits + 1;
-    q
+    let steps = layout::steps(b);
+    let hits = layout::hits(b);
+    layout::put_steps(b, steps + 1);
+    layout::put_hits(b, hits + 1);
 }
 
 // A request for an item that is not held: it is loaded, and its load cost paid. What is not held has no mark and no credit, so
 // the item comes in clean, with write credit 0, and there is nothing to clear.
-fn load_item(c: Cache, i: usize) -> Cache
-    requires { ⌜ Servable c i ⌝ }
-    ensures { λ r. ⌜ r ≡ loadedOf c i ⌝ }
+fn load_item(b: &mut [u8], i: usize)
+    requires { ⌜ ServableAt (now b) i ⌝ }
+    ensures { λ _. ⌜ Stands (now (b .exit)) (loadedOf (cacheOf (now (b .entry))) i) ⌝ }
 {
-    let mut q = c;
-    q.held[i] = true;
-    q.itemloads[i] = c.itemloads[i] + 1;
-    q.steps = c.steps + 1;
-    q.loads = c.loads + 1;
-    q.loadcost = c.loadcost + cost(c.load[i]);
-    q
+    let own = layout::item_loads(b, i);
+    let steps = layout::steps(b);
+    let loads = layout::loads(b);
+    let paid = layout::load_cost(b);
+    let price = cost(layout::item_load_cost(b, i));
+    layout::put_held(b, i, true);
+    layout::put_item_loads(b, i, own + 1);
+    layout::put_steps(b, steps + 1);
+    layout::put_loads(b, loads + 1);
+    layout::put_load_cost(b, paid + price);
 }
 
 // Any request fills the item's load credit.
-fn refill(c: Cache, i: usize) -> Cache
-    requires { ⌜ i < 256 ⌝ }
-    ensures { λ r. ⌜ r ≡ refilledOf c i ⌝ }
+fn refill(b: &mut [u8], i: usize)
+    requires { ⌜ Readable (now b) × (i < 256) ⌝ }
+    ensures { λ _. ⌜ Stands (now (b .exit)) (refilledOf (cacheOf (now (b .entry))) i) ⌝ }
 {
-    let mut q = c;
-    q.loadcredit[i] = shares(c.load[i]);
-    q
+    let credit = shares(layout::item_load_cost(b, i));
+    layout::put_load_credit(b, i, credit);
 }
 
 // A write also makes the item dirty, fills its write credit, and counts the tenths of an hour that it took.
-fn count_write(c: Cache, i: usize, minutes: u32) -> Cache
-    requires { ⌜ Writable c i minutes ⌝ }
-    ensures { λ r. ⌜ Wrote c i minutes r ⌝ }
+fn count_write(b: &mut [u8], i: usize, minutes: u32)
+    requires { ⌜ WritableAt (now b) i minutes ⌝ }
+    ensures { λ _. ⌜ WroteAt (now (b .entry)) i minutes (now (b .exit)) ⌝ }
 {
-    let mut q = c;
-    let marked = c.dirty;
-    q.dirty = marks::mark(marked, i);
-    q.writecredit[i] = shares(c.write[i]);
-    q.tenths[i] = c.tenths[i] + whole_tenths(minutes);
-    q
+    let words = layout::dirty(b);
+    let credit = shares(layout::item_write_cost(b, i));
+    let tenths = layout::tenths(b, i);
+    layout::put_dirty(b, marks::mark(words, i));
+    layout::put_write_credit(b, i, credit);
+    layout::put_tenths(b, i, tenths + whole_tenths(minutes));
 }
 
 // A dirty item is written back: it pays its write cost, loses its write credit, and is clean. Its load credit remains.
-fn write_back(c: Cache, i: usize) -> Cache
-    requires { ⌜ Flushable c i ⌝ }
-    ensures { λ r. ⌜ WroteBack c i r ⌝ }
+fn write_back(b: &mut [u8], i: usize)
+    requires { ⌜ FlushableAt (now b) i ⌝ }
+    ensures { λ _. ⌜ WroteBackAt (now (b .entry)) i (now (b .exit)) ⌝ }
 {
-    let mut q = c;
-    let marked = c.dirty;
-    q.dirty = marks::unmark(marked, i);
-    q.writecredit[i] = 0;
-    q.itemwritebacks[i] = c.itemwritebacks[i] + 1;
-    q.writebacks = c.writebacks + 1;
-    q.writecost = c.writecost + cost(c.write[i]);
-    q
+    let words = layout::dirty(b);
+    let own = layout::item_writebacks(b, i);
+    let writebacks = layout::writebacks(b);
+    let paid = layout::write_cost(b);
+    let price = cost(layout::item_write_cost(b, i));
+    layout::put_dirty(b, marks::unmark(words, i));
+    layout::put_write_credit(b, i, 0);
+    layout::put_item_writebacks(b, i, own + 1);
+    layout::put_writebacks(b, writebacks + 1);
+    layout::put_write_cost(b, paid + price);
 }
 
-// A landing is a step and a flush; what it writes back is counted by itself.
-fn count_landing(c: Cache) -> Cache
-    requires { ⌜ Steppable c ⌝ }
-    ensures { λ r. ⌜ r ≡ landedOf c ⌝ }
+// A flush in the log is a step; what it writes back is counted by itself.
+fn count_flush(b: &mut [u8])
+    requires { ⌜ SteppableAt (now b) ⌝ }
+    ensures { λ _. ⌜ Stands (now (b .exit)) (flushedOf (cacheOf (now (b .entry)))) ⌝ }
 {
-    let mut q = c;
-    q.steps = c.steps + 1;
-    q.flushes = c.flushes + 1;
-    q
+    let steps = layout::steps(b);
+    let flushes = layout::flushes(b);
+    layout::put_steps(b, steps + 1);
+    layout::put_flushes(b, flushes + 1);
 }
 
 // A read of item `i`, for which there is room if it is not held.
-pub fn serve_read(c: Cache, i: usize) -> Cache
-    requires { ⌜ Servable c i ⌝ }
-    ensures { λ r. ⌜ Becomes (moved (view c) (serveRead i (stateOf c)) (c .closed)) r ⌝ }
+pub fn serve_read(b: &mut [u8], i: usize)
+    requires { ⌜ ServableAt (now b) i ⌝ }
+    ensures { λ _. ⌜ BecomesAt (moved (view (cacheOf (now (b .entry)))) (serveRead i (stateOf (cacheOf (now (b .entry))))) (cacheOf (now (b .entry)) .closed)) (now (b .exit)) ⌝ }
 {
-    if c.held[i] {
-        return refill(count_hit(c), i);
+    if layout::held(b, i) {
+        count_hit(b);
+    } else {
+        load_item(b, i);
     }
-    refill(load_item(c, i), i)
+    refill(b, i);
 }
 
 // A write of item `i`: a read, and then the write.
-pub fn serve_write(c: Cache, i: usize, minutes: u32) -> Cache
-    requires { ⌜ Servable c i × minutes ≤ 1440 ⌝ }
-    ensures { λ r. ⌜ Becomes (moved (view c) (serveWrite i minutes (stateOf c)) (c .closed)) r ⌝ }
+pub fn serve_write(b: &mut [u8], i: usize, minutes: u32)
+    requires { ⌜ ServableAt (now b) i × (minutes ≤ 1440) ⌝ }
+    ensures { λ _. ⌜ BecomesAt (moved (view (cacheOf (now (b .entry)))) (serveWrite i minutes (stateOf (cacheOf (now (b .entry))))) (cacheOf (now (b .entry)) .closed)) (now (b .exit)) ⌝ }
 {
-    count_write(serve_read(c, i), i, minutes)
+    serve_read(b, i);
+    count_write(b, i, minutes);
 }
 
 // Every dirty item is written back, from the lowest number on.
-pub fn flush(c: Cache) -> Cache
-    requires { ⌜ Valid c ⌝ }
-    ensures { λ r. ⌜ Becomes (moved (view c) (flush (stateOf c)) (c .closed)) r ⌝ }
+pub fn flush(b: &mut [u8])
+    requires { ⌜ ValidBytes (now b) ⌝ }
+    ensures { λ _. ⌜ BecomesAt (moved (view (cacheOf (now (b .entry)))) (flush (stateOf (cacheOf (now (b .entry))))) (cacheOf (now (b .entry)) .closed)) (now (b .exit)) ⌝ }
 {
-    let mut q = c;
     // Below `at` every item is clean.
     let mut at = 0;
     loop {
-        let marked = q.dirty;
-        let i = marks::next(marked, at);
+        let i = marks::next(layout::dirty(b), at);
         if i >= 256 {
-            return q;
+            return;
         }
-        q = write_back(q, i);
+        write_back(b, i);
         at = i + 1;
     }
 }
 
-// A landing.
-pub fn land(c: Cache) -> Cache
-    requires { ⌜ Steppable c ⌝ }
-    ensures { λ r. ⌜ Becomes (moved (view c) (step writeFirst (c .k) Flush (stateOf c)) (c .closed)) r ⌝ }
+// A flush in the log: counted as a step, then done.
+pub fn flush_step(b: &mut [u8])
+    requires { ⌜ SteppableAt (now b) ⌝ }
+    ensures { λ _. ⌜ BecomesAt (moved (view (cacheOf (now (b .entry)))) (step writeFirst (cacheOf (now (b .entry)) .k) Flush (stateOf (cacheOf (now (b .entry))))) (cacheOf (now (b .entry)) .closed)) (now (b .exit)) ⌝ }
 {
-    flush(count_landing(c))
+    count_flush(b);
+    flush(b);
 }

@@ -17,7 +17,7 @@ use Rattle.landlord.specs.Claims.{SlotKept}
 use Rattle.landlord.specs.Valid.{dirtyCount, StandingOk}
 use Rattle.landlord.proofs.Sums.{sum-eq}
 use Rattle.marks.specs.Marks.{marked, tabFrom, marks, countSet}
-use Rattle.cache_state.specs.declared.Cache.{Cache}
+use Rattle.cache_state.specs.Cache.{Cache}
 use Rattle.cache_state.specs.View.{itemOf, dirtyAt, catalogOf, stateOf, countsOf, figuresOf, view}
 use Rattle.cache_state.specs.Valid.{Blank, Normal, Valid}
 use Rattle.validity.specs.Tests.{CountsOk}

@@ -14,7 +14,7 @@ use Rattle.landlord.specs.Rule.{size, slotAt}
 use Rattle.landlord.specs.Figures.{Standing, Use, useAt}
 use Rattle.marks.specs.Marks.{marks}
 use Rattle.marks.proofs.Laws.{length-marks, marked-at, marks-tell}
-use Rattle.cache_state.specs.declared.Cache.{Cache}
+use Rattle.cache_state.specs.Cache.{Cache}
 use Rattle.cache_state.specs.View.{itemOf, usageOf, stateOf, view}
 use Rattle.cache_state.specs.Valid.{Normal, Valid}
 use Rattle.cache_state.specs.Becomes.{Becomes}

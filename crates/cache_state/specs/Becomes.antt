@@ -2,7 +2,7 @@
 use mathlib.Core.Path.{_≡_}
 use Rattle.landlord.specs.Figures.{Standing}
 pub use Rattle.validity.specs.Decided.{Decided}
-use Rattle.cache_state.specs.declared.Cache.{Cache}
+use Rattle.cache_state.specs.Cache.{Cache}
 use Rattle.cache_state.specs.View.{view}
 use Rattle.cache_state.specs.Valid.{Normal}
 

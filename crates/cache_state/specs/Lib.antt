@@ -1,3 +1,4 @@
+pub mod Cache
 pub mod View
 pub mod Valid
 pub mod Becomes

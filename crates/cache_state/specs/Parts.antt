@@ -7,7 +7,7 @@ use Rattle.landlord.specs.Fold.{sumTo}
 use Rattle.landlord.specs.Rule.{used, heldCount}
 use Rattle.marks.specs.Marks.{marks, countSet}
 use Rattle.validity.specs.Tests.{Nothing, EntryOk, SumsOk}
-use Rattle.cache_state.specs.declared.Cache.{Cache}
+use Rattle.cache_state.specs.Cache.{Cache}
 use Rattle.cache_state.specs.Valid.{Blank}
 use Rattle.cache_state.specs.View.{dirtyAt, stateOf}
 

@@ -9,7 +9,7 @@ use Rattle.landlord.specs.Slot.{Slot, absent, clean, dirty}
 use Rattle.landlord.specs.Rule.{State}
 use Rattle.landlord.specs.Figures.{Totals, Use, Figures, Standing, totalsOf, useOf}
 use Rattle.marks.specs.Marks.{marked}
-use Rattle.cache_state.specs.declared.Cache.{Cache}
+use Rattle.cache_state.specs.Cache.{Cache}
 
 -- item i of the catalog
 abbrev pub itemOf : Cache → ℕ → Item

@@ -10,7 +10,7 @@ use lib.ListN.{length, take, drop, getD, length-drop}
 use lib.Seq.{take-all, getD-drop}
 use Rattle.fields.specs.LittleEndian.{Below, le, un, run, unrun, flags, unflags}
 use Rattle.fields.proofs.Laws.{length-unrun, length-unflags, un-front, un-take-lt, below-drop, rejoin, le-back, unrun-lt, unrun-run, run-back, flags-lt, unflags-flags, flag-byte, flags-back}
-use Rattle.cache_state.specs.declared.Cache.{Cache}
+use Rattle.cache_state.specs.Cache.{Cache}
 use Rattle.layout.specs.Layout.{stateBytes, joined, rows, bytesOf, cacheOf, flag, Flagged, Whole, Fits}
 use Rattle.layout.proofs.Rows.{Packed, end, number, numbers, marks, packed-length, packed-below, reach}
 

@@ -9,7 +9,7 @@ use lib.ListN.{length, take, drop, getD}
 use lib.Seq.{sets, drop-drop}
 use Rattle.fields.specs.LittleEndian.{le, un, run, unrun}
 use Rattle.fields.proofs.Laws.{sets-all}
-use Rattle.cache_state.specs.declared.Cache.{Cache}
+use Rattle.cache_state.specs.Cache.{Cache}
 use Rattle.layout.specs.Layout.{stateBytes, joined, stored, flag, rows, bytesOf, Whole}
 use Rattle.layout.proofs.Rows.{end, number, packed-stored}
 use Rattle.layout.proofs.Rounds.{packed, length-whole}

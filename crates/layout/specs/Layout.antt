@@ -1,19 +1,22 @@
--- The fixed layout of a cache: 8,792 bytes, numbers with the low byte first, no byte to spare. `rows` has each field with its place and
--- `bytesOf` their bytes; `cacheOf` reads each field at its place; `Fits` says which caches the layout has room for, and `Flagged` which
--- bytes are those of a cache. proofs/Rounds.antt shows that the rows lie end to end, and that `bytesOf` and `cacheOf` undo each other.
--- Assumes nothing.
+-- The fixed layout of a state: 8,792 bytes, numbers with the low byte first, no byte to spare. At the head stands the number of this
+-- layout; it is no field of a cache. `rows` has each field with its place and `bytesOf` their bytes; `cacheOf` reads each field at its
+-- place; `Fits` says which caches the layout has room for, and `Allowed` which bytes are those of a cache. proofs/Rounds.antt shows
+-- that the rows lie end to end, and that `bytesOf` and `cacheOf` undo each other. Assumes nothing.
 use mathlib.Core.Path.{_≡_}
 use mathlib.Core.List.{List, [], _∷_, _++_}
 use mathlib.Core.Bool.{Bool, cond, not}
 use Prim.Native.Nat.{ℕ, _+_, _^_, _<_}
 use lib.Dec.{eqb}
 use lib.ListN.{length, take, drop, getD}
-use lib.Seq.{sets}
 use Rattle.fields.specs.LittleEndian.{Below, le, un, run, unrun, flags, unflags}
-use Rattle.cache_state.specs.declared.Cache.{Cache}
+use Rattle.cache_state.specs.Cache.{Cache}
 
 abbrev pub stateBytes : ℕ
 stateBytes = 8792
+
+-- the number of this layout: it rises with every change, so that a state stored by another version is never misread
+abbrev pub format : ℕ
+format = 1
 
 -- a field in its place: where it stands, and its bytes
 abbrev pub Row : Type 0
@@ -24,40 +27,108 @@ abbrev pub joined : List Row → List ℕ
 joined [] = []
 joined (r ∷ rs) = r .1 ++ joined rs
 
--- rows stored into bytes, each at its place
-abbrev pub stored : List ℕ → List Row → List ℕ
-stored b [] = b
-stored b (r ∷ rs) = stored (sets b (r .0) (r .1)) rs
-
 -- a yes or no as a number
 abbrev pub flag : Bool → ℕ
 flag f = cond f 1 0
 
--- the fields of a cache
+-- ---- where each field stands
+
+abbrev pub atFormat : ℕ
+atFormat = 0
+
+abbrev pub atCapacity : ℕ
+atCapacity = 4
+
+abbrev pub atCount : ℕ
+atCount = 8
+
+abbrev pub atClosed : ℕ
+atClosed = 10
+
+abbrev pub atSteps : ℕ
+atSteps = 12
+
+abbrev pub atHits : ℕ
+atHits = 16
+
+abbrev pub atLoads : ℕ
+atLoads = 20
+
+abbrev pub atEvictions : ℕ
+atEvictions = 24
+
+abbrev pub atDirtyEvictions : ℕ
+atDirtyEvictions = 28
+
+abbrev pub atWritebacks : ℕ
+atWritebacks = 32
+
+abbrev pub atFlushes : ℕ
+atFlushes = 36
+
+abbrev pub atLoadCost : ℕ
+atLoadCost = 40
+
+abbrev pub atWriteCost : ℕ
+atWriteCost = 48
+
+abbrev pub atDirty : ℕ
+atDirty = 56
+
+abbrev pub atLoadCredits : ℕ
+atLoadCredits = 88
+
+abbrev pub atWriteCredits : ℕ
+atWriteCredits = 2136
+
+abbrev pub atTenths : ℕ
+atTenths = 4184
+
+abbrev pub atItemLoads : ℕ
+atItemLoads = 5208
+
+abbrev pub atItemWritebacks : ℕ
+atItemWritebacks = 6232
+
+abbrev pub atItemLoadCosts : ℕ
+atItemLoadCosts = 7256
+
+abbrev pub atItemWriteCosts : ℕ
+atItemWriteCosts = 7768
+
+abbrev pub atBlocks : ℕ
+atBlocks = 8280
+
+abbrev pub atHeld : ℕ
+atHeld = 8536
+
+-- ---- the fields of a cache, behind the number of the layout
+
 unfoldable pub rows : Cache → List Row
 rows c =
-    (0, le 4 (c .k))
-    ∷ (4, le 4 (c .n))
-    ∷ (8, le 4 (c .steps))
-    ∷ (12, le 4 (c .hits))
-    ∷ (16, le 4 (c .loads))
-    ∷ (20, le 4 (c .evictions))
-    ∷ (24, le 4 (c .dirtyevictions))
-    ∷ (28, le 4 (c .writebacks))
-    ∷ (32, le 4 (c .flushes))
-    ∷ (36, le 4 (flag (c .closed)))
-    ∷ (40, le 8 (c .loadcost))
-    ∷ (48, le 8 (c .writecost))
-    ∷ (56, run 8 (c .dirty))
-    ∷ (88, run 8 (c .loadcredit))
-    ∷ (2136, run 8 (c .writecredit))
-    ∷ (4184, run 4 (c .tenths))
-    ∷ (5208, run 4 (c .itemloads))
-    ∷ (6232, run 4 (c .itemwritebacks))
-    ∷ (7256, run 2 (c .load))
-    ∷ (7768, run 2 (c .write))
-    ∷ (8280, run 1 (c .blocks))
-    ∷ (8536, flags (c .held))
+    (atFormat, le 4 format)
+    ∷ (atCapacity, le 4 (c .k))
+    ∷ (atCount, le 2 (c .n))
+    ∷ (atClosed, le 2 (flag (c .closed)))
+    ∷ (atSteps, le 4 (c .steps))
+    ∷ (atHits, le 4 (c .hits))
+    ∷ (atLoads, le 4 (c .loads))
+    ∷ (atEvictions, le 4 (c .evictions))
+    ∷ (atDirtyEvictions, le 4 (c .dirtyevictions))
+    ∷ (atWritebacks, le 4 (c .writebacks))
+    ∷ (atFlushes, le 4 (c .flushes))
+    ∷ (atLoadCost, le 8 (c .loadcost))
+    ∷ (atWriteCost, le 8 (c .writecost))
+    ∷ (atDirty, run 8 (c .dirty))
+    ∷ (atLoadCredits, run 8 (c .loadcredit))
+    ∷ (atWriteCredits, run 8 (c .writecredit))
+    ∷ (atTenths, run 4 (c .tenths))
+    ∷ (atItemLoads, run 4 (c .itemloads))
+    ∷ (atItemWritebacks, run 4 (c .itemwritebacks))
+    ∷ (atItemLoadCosts, run 2 (c .load))
+    ∷ (atItemWriteCosts, run 2 (c .write))
+    ∷ (atBlocks, run 1 (c .blocks))
+    ∷ (atHeld, flags (c .held))
     ∷ []
 
 -- the bytes of a cache
@@ -75,34 +146,35 @@ numbers b at n w = unrun w n (drop at b)
 -- the cache that bytes stand for, each field read at its place
 abbrev pub cacheOf : List ℕ → Cache
 cacheOf b = record {
-  k = number b 0 4;
-  n = number b 4 4;
-  steps = number b 8 4;
-  hits = number b 12 4;
-  loads = number b 16 4;
-  evictions = number b 20 4;
-  dirtyevictions = number b 24 4;
-  writebacks = number b 28 4;
-  flushes = number b 32 4;
-  closed = not (eqb (number b 36 4) 0);
-  loadcost = number b 40 8;
-  writecost = number b 48 8;
-  dirty = numbers b 56 4 8;
-  loadcredit = numbers b 88 256 8;
-  writecredit = numbers b 2136 256 8;
-  tenths = numbers b 4184 256 4;
-  itemloads = numbers b 5208 256 4;
-  itemwritebacks = numbers b 6232 256 4;
-  load = numbers b 7256 256 2;
-  write = numbers b 7768 256 2;
-  blocks = numbers b 8280 256 1;
-  held = unflags 256 (drop 8536 b);
+  k = number b atCapacity 4;
+  n = number b atCount 2;
+  closed = not (eqb (number b atClosed 2) 0);
+  steps = number b atSteps 4;
+  hits = number b atHits 4;
+  loads = number b atLoads 4;
+  evictions = number b atEvictions 4;
+  dirtyevictions = number b atDirtyEvictions 4;
+  writebacks = number b atWritebacks 4;
+  flushes = number b atFlushes 4;
+  loadcost = number b atLoadCost 8;
+  writecost = number b atWriteCost 8;
+  dirty = numbers b atDirty 4 8;
+  loadcredit = numbers b atLoadCredits 256 8;
+  writecredit = numbers b atWriteCredits 256 8;
+  tenths = numbers b atTenths 256 4;
+  itemloads = numbers b atItemLoads 256 4;
+  itemwritebacks = numbers b atItemWritebacks 256 4;
+  load = numbers b atItemLoadCosts 256 2;
+  write = numbers b atItemWriteCosts 256 2;
+  blocks = numbers b atBlocks 256 1;
+  held = unflags 256 (drop atHeld b);
 }
 
--- every flag of the bytes is 0 or 1: the cache's own, and each item's
-pub record Flagged (b : List ℕ) : Type 0 where
-  pub closed : number b 36 4 < 2
-  pub held : (i : ℕ) → i < 256 → getD b (8536 + i) 0 < 2
+-- "every field has a value its layout allows": the number of the layout is this one's, and each flag is 0 or 1
+pub record Allowed (b : List ℕ) : Type 0 where
+  pub format : number b atFormat 4 ≡ format
+  pub closed : number b atClosed 2 < 2
+  pub held : (i : ℕ) → i < 256 → getD b (atHeld + i) 0 < 2
 
 -- every array has all its places
 pub record Whole (c : Cache) : Type 0 where
@@ -121,7 +193,7 @@ pub record Whole (c : Cache) : Type 0 where
 pub record Fits (c : Cache) : Type 0 where
   pub whole : Whole c
   pub k : c .k < 2 ^ 32
-  pub n : c .n < 2 ^ 32
+  pub n : c .n < 2 ^ 16
   pub steps : c .steps < 2 ^ 32
   pub hits : c .hits < 2 ^ 32
   pub loads : c .loads < 2 ^ 32

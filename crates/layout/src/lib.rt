@@ -1,188 +1,433 @@
-// The fixed layout of a cache in 8,792 lent bytes: stored, read back, and the test that every flag is 0 or 1.
-//
-// specs/Layout.antt has each field's place and width. Neighbouring fields are stored together, a few at a time.
+// The state's bytes: a getter and a setter for each field, at the places of the table `rows` (specs/Layout.antt). Each asks that the
+// bytes are as many as a state has and an item's number below 256; a setter, that they are the bytes of some cache. A getter says the
+// field of the cache that the bytes stand for, a setter which cache they are then.
 ghost use mathlib.Core.Path.{_≡_};
-ghost use mathlib.Core.List.{[], _∷_};
-ghost use Prim.Native.Nat.{_^_, _<_};
-ghost use lib.ListN.{length};
-ghost use Rattle.fields.specs.LittleEndian.{le, run, flags};
+ghost use Prim.Native.Nat.{_<_, _≤_};
+ghost use lib.ListN.{length, getD};
+ghost use mathlib.Core.Bool.{false};
+ghost use Rattle.cache_state.specs.With.{withCapacity, withCount, withClosed, withSteps, withHits, withLoads, withEvictions, withDirtyEvictions, withWritebacks, withFlushes, withLoadCost, withWriteCost, withDirty, withLoadCredit, withWriteCredit, withTenths, withItemLoads, withItemWritebacks, withItemLoadCost, withItemWriteCost, withBlocks, withHeld};
 ghost use Rattle.cache_state.specs.Becomes.{Decided};
-ghost use Rattle.layout.specs.Layout.{stateBytes, stored, flag, bytesOf, numbers, cacheOf, Flagged, Fits};
-use cache_state::Cache;
+ghost use Rattle.layout.specs.Layout.{stateBytes, cacheOf, Allowed};
+ghost use Rattle.layout.specs.Stands.{Stands, Readable, FlagsWithin, cleared};
 
-// ---- storing
+// The bytes of a state, and the number of this layout.
+pub const STATE_BYTES: usize = 8792;
 
-// Stores the capacity, the size of the catalog and the counts of steps, hits and loads: the bytes 0 to 19.
-fn put_head(b: &mut [u8], k: u32, n: usize, steps: u32, hits: u32, loads: u32)
+pub const FORMAT: u64 = 1;
+
+// Where each field stands.
+pub const AT_FORMAT: usize = 0;
+
+pub const AT_CAPACITY: usize = 4;
+
+pub const AT_COUNT: usize = 8;
+
+pub const AT_CLOSED: usize = 10;
+
+pub const AT_STEPS: usize = 12;
+
+pub const AT_HITS: usize = 16;
+
+pub const AT_LOADS: usize = 20;
+
+pub const AT_EVICTIONS: usize = 24;
+
+pub const AT_DIRTY_EVICTIONS: usize = 28;
+
+pub const AT_WRITEBACKS: usize = 32;
+
+pub const AT_FLUSHES: usize = 36;
+
+pub const AT_LOAD_COST: usize = 40;
+
+pub const AT_WRITE_COST: usize = 48;
+
+pub const AT_DIRTY: usize = 56;
+
+pub const AT_LOAD_CREDITS: usize = 88;
+
+pub const AT_WRITE_CREDITS: usize = 2136;
+
+pub const AT_TENTHS: usize = 4184;
+
+pub const AT_ITEM_LOADS: usize = 5208;
+
+pub const AT_ITEM_WRITEBACKS: usize = 6232;
+
+pub const AT_ITEM_LOAD_COSTS: usize = 7256;
+
+pub const AT_ITEM_WRITE_COSTS: usize = 7768;
+
+pub const AT_BLOCKS: usize = 8280;
+
+pub const AT_HELD: usize = 8536;
+
+// ---- the capacity, the count of items and the totals
+
+// The capacity in blocks.
+pub fn capacity(b: &[u8]) -> u32
     requires { ⌜ length (now b) ≡ stateBytes ⌝ }
-    ensures { λ _. ⌜ now (b .exit) ≡ stored (now (b .entry)) ((0, le 4 k) ∷ (4, le 4 n) ∷ (8, le 4 steps) ∷ (12, le 4 hits) ∷ (16, le 4 loads) ∷ []) ⌝ }
+    ensures { λ r. ⌜ r ≡ cacheOf (now (b .entry)) .k ⌝ }
 {
-    fields::put(b, 0, 4, k as u64);
-    fields::put(b, 4, 4, n as u64);
-    fields::put(b, 8, 4, steps as u64);
-    fields::put(b, 12, 4, hits as u64);
-    fields::put(b, 16, 4, loads as u64);
+    fields::get(b, AT_CAPACITY, 4) as u32
 }
 
-// Stores the other counts, and whether the cache is closed: the bytes 20 to 39.
-fn put_totals(
-    b: &mut [u8],
-    evictions: u32,
-    dirtyevictions: u32,
-    writebacks: u32,
-    flushes: u32,
-    closed: bool,
-)
-    requires { ⌜ length (now b) ≡ stateBytes ⌝ }
-    ensures { λ _. ⌜ now (b .exit) ≡ stored (now (b .entry)) ((20, le 4 evictions) ∷ (24, le 4 dirtyevictions) ∷ (28, le 4 writebacks) ∷ (32, le 4 flushes) ∷ (36, le 4 (flag closed)) ∷ []) ⌝ }
+pub fn put_capacity(b: &mut [u8], v: u32)
+    requires { ⌜ Readable (now b) ⌝ }
+    ensures { λ _. ⌜ Stands (now (b .exit)) (withCapacity (cacheOf (now (b .entry))) v) ⌝ }
 {
-    fields::put(b, 20, 4, evictions as u64);
-    fields::put(b, 24, 4, dirtyevictions as u64);
-    fields::put(b, 28, 4, writebacks as u64);
-    fields::put(b, 32, 4, flushes as u64);
-    fields::put(b, 36, 4, closed as u64);
+    fields::put(b, AT_CAPACITY, 4, v as u64);
 }
 
-// Stores the two costs and the dirty marks: the bytes 40 to 87.
-fn put_costs(b: &mut [u8], loadcost: u64, writecost: u64, dirty: [u64; 4])
+// How many items the catalog has.
+pub fn count(b: &[u8]) -> usize
     requires { ⌜ length (now b) ≡ stateBytes ⌝ }
-    ensures { λ _. ⌜ now (b .exit) ≡ stored (now (b .entry)) ((40, le 8 loadcost) ∷ (48, le 8 writecost) ∷ (56, run 8 dirty) ∷ []) ⌝ }
+    ensures { λ r. ⌜ (r ≡ cacheOf (now (b .entry)) .n) × (r < 65536) ⌝ }
 {
-    fields::put(b, 40, 8, loadcost);
-    fields::put(b, 48, 8, writecost);
-    fields::put(b, 56, 8, dirty[0]);
-    fields::put(b, 64, 8, dirty[1]);
-    fields::put(b, 72, 8, dirty[2]);
-    fields::put(b, 80, 8, dirty[3]);
+    fields::get(b, AT_COUNT, 2) as usize
 }
 
-// Stores the credits: the bytes 88 to 4183.
-fn put_credits<'a>(b: &mut [u8], load: &'a [u64; 256], write: &'a [u64; 256])
-    requires { ⌜ length (now b) ≡ stateBytes ⌝ }
-    ensures { λ _. ⌜ now (b .exit) ≡ stored (now (b .entry)) ((88, run 8 (now (load .entry))) ∷ (2136, run 8 (now (write .entry))) ∷ []) ⌝ }
+pub fn put_count(b: &mut [u8], v: usize)
+    requires { ⌜ Readable (now b) × (v < 65536) ⌝ }
+    ensures { λ _. ⌜ Stands (now (b .exit)) (withCount (cacheOf (now (b .entry))) v) ⌝ }
 {
-    fields::put_run8(b, 88, load);
-    fields::put_run8(b, 2136, write);
+    fields::put(b, AT_COUNT, 2, v as u64);
 }
 
-// Stores what the report says of each item: the bytes 4184 to 7255.
-fn put_uses<'a>(
-    b: &mut [u8],
-    tenths: &'a [u32; 256],
-    loads: &'a [u32; 256],
-    writebacks: &'a [u32; 256],
-)
+pub fn steps(b: &[u8]) -> u32
     requires { ⌜ length (now b) ≡ stateBytes ⌝ }
-    ensures { λ _. ⌜ now (b .exit) ≡ stored (now (b .entry)) ((4184, run 4 (now (tenths .entry))) ∷ (5208, run 4 (now (loads .entry))) ∷ (6232, run 4 (now (writebacks .entry))) ∷ []) ⌝ }
+    ensures { λ r. ⌜ r ≡ cacheOf (now (b .entry)) .steps ⌝ }
 {
-    fields::put_run4(b, 4184, tenths);
-    fields::put_run4(b, 5208, loads);
-    fields::put_run4(b, 6232, writebacks);
+    fields::get(b, AT_STEPS, 4) as u32
 }
 
-// Stores the catalog, and which items are held: the bytes 7256 to 8791.
-fn put_catalog<'a>(
-    b: &mut [u8],
-    load: &'a [u16; 256],
-    write: &'a [u16; 256],
-    blocks: &'a [u8; 256],
-    held: &'a [bool; 256],
-)
-    requires { ⌜ length (now b) ≡ stateBytes ⌝ }
-    ensures { λ _. ⌜ now (b .exit) ≡ stored (now (b .entry)) ((7256, run 2 (now (load .entry))) ∷ (7768, run 2 (now (write .entry))) ∷ (8280, run 1 (now (blocks .entry))) ∷ (8536, flags (now (held .entry))) ∷ []) ⌝ }
+pub fn put_steps(b: &mut [u8], v: u32)
+    requires { ⌜ Readable (now b) ⌝ }
+    ensures { λ _. ⌜ Stands (now (b .exit)) (withSteps (cacheOf (now (b .entry))) v) ⌝ }
 {
-    fields::put_run2(b, 7256, load);
-    fields::put_run2(b, 7768, write);
-    fields::put_run1(b, 8280, blocks);
-    fields::put_flags(b, 8536, held);
+    fields::put(b, AT_STEPS, 4, v as u64);
 }
 
-// Stores the cache over all of `b`. Of `n` the four low bytes are stored, so a cache that is to be read back has to fit.
-pub fn encode(c: Cache, b: &mut [u8])
+pub fn hits(b: &[u8]) -> u32
     requires { ⌜ length (now b) ≡ stateBytes ⌝ }
-    ensures { λ _. ⌜ now (b .exit) ≡ bytesOf c ⌝ }
+    ensures { λ r. ⌜ r ≡ cacheOf (now (b .entry)) .hits ⌝ }
 {
-    put_head(b, c.k, c.n, c.steps, c.hits, c.loads);
-    put_totals(
-        b,
-        c.evictions,
-        c.dirtyevictions,
-        c.writebacks,
-        c.flushes,
-        c.closed,
-    );
-    let dirty = c.dirty;
-    put_costs(b, c.loadcost, c.writecost, dirty);
-    put_credits(b, &c.loadcredit, &c.writecredit);
-    put_uses(b, &c.tenths, &c.itemloads, &c.itemwritebacks);
-    put_catalog(b, &c.load, &c.write, &c.blocks, &c.held);
+    fields::get(b, AT_HITS, 4) as u32
 }
 
-// ---- reading
+pub fn put_hits(b: &mut [u8], v: u32)
+    requires { ⌜ Readable (now b) ⌝ }
+    ensures { λ _. ⌜ Stands (now (b .exit)) (withHits (cacheOf (now (b .entry))) v) ⌝ }
+{
+    fields::put(b, AT_HITS, 4, v as u64);
+}
 
-// The dirty marks: the bytes 56 to 87.
-fn get_dirty(b: &[u8]) -> [u64; 4]
+pub fn loads(b: &[u8]) -> u32
     requires { ⌜ length (now b) ≡ stateBytes ⌝ }
-    ensures { λ r. ⌜ r ≡ numbers (now (b .entry)) 56 4 8 ⌝ }
+    ensures { λ r. ⌜ r ≡ cacheOf (now (b .entry)) .loads ⌝ }
+{
+    fields::get(b, AT_LOADS, 4) as u32
+}
+
+pub fn put_loads(b: &mut [u8], v: u32)
+    requires { ⌜ Readable (now b) ⌝ }
+    ensures { λ _. ⌜ Stands (now (b .exit)) (withLoads (cacheOf (now (b .entry))) v) ⌝ }
+{
+    fields::put(b, AT_LOADS, 4, v as u64);
+}
+
+pub fn evictions(b: &[u8]) -> u32
+    requires { ⌜ length (now b) ≡ stateBytes ⌝ }
+    ensures { λ r. ⌜ r ≡ cacheOf (now (b .entry)) .evictions ⌝ }
+{
+    fields::get(b, AT_EVICTIONS, 4) as u32
+}
+
+pub fn put_evictions(b: &mut [u8], v: u32)
+    requires { ⌜ Readable (now b) ⌝ }
+    ensures { λ _. ⌜ Stands (now (b .exit)) (withEvictions (cacheOf (now (b .entry))) v) ⌝ }
+{
+    fields::put(b, AT_EVICTIONS, 4, v as u64);
+}
+
+pub fn dirty_evictions(b: &[u8]) -> u32
+    requires { ⌜ length (now b) ≡ stateBytes ⌝ }
+    ensures { λ r. ⌜ r ≡ cacheOf (now (b .entry)) .dirtyevictions ⌝ }
+{
+    fields::get(b, AT_DIRTY_EVICTIONS, 4) as u32
+}
+
+pub fn put_dirty_evictions(b: &mut [u8], v: u32)
+    requires { ⌜ Readable (now b) ⌝ }
+    ensures { λ _. ⌜ Stands (now (b .exit)) (withDirtyEvictions (cacheOf (now (b .entry))) v) ⌝ }
+{
+    fields::put(b, AT_DIRTY_EVICTIONS, 4, v as u64);
+}
+
+pub fn writebacks(b: &[u8]) -> u32
+    requires { ⌜ length (now b) ≡ stateBytes ⌝ }
+    ensures { λ r. ⌜ r ≡ cacheOf (now (b .entry)) .writebacks ⌝ }
+{
+    fields::get(b, AT_WRITEBACKS, 4) as u32
+}
+
+pub fn put_writebacks(b: &mut [u8], v: u32)
+    requires { ⌜ Readable (now b) ⌝ }
+    ensures { λ _. ⌜ Stands (now (b .exit)) (withWritebacks (cacheOf (now (b .entry))) v) ⌝ }
+{
+    fields::put(b, AT_WRITEBACKS, 4, v as u64);
+}
+
+pub fn flushes(b: &[u8]) -> u32
+    requires { ⌜ length (now b) ≡ stateBytes ⌝ }
+    ensures { λ r. ⌜ r ≡ cacheOf (now (b .entry)) .flushes ⌝ }
+{
+    fields::get(b, AT_FLUSHES, 4) as u32
+}
+
+pub fn put_flushes(b: &mut [u8], v: u32)
+    requires { ⌜ Readable (now b) ⌝ }
+    ensures { λ _. ⌜ Stands (now (b .exit)) (withFlushes (cacheOf (now (b .entry))) v) ⌝ }
+{
+    fields::put(b, AT_FLUSHES, 4, v as u64);
+}
+
+// The load costs paid.
+pub fn load_cost(b: &[u8]) -> u64
+    requires { ⌜ length (now b) ≡ stateBytes ⌝ }
+    ensures { λ r. ⌜ r ≡ cacheOf (now (b .entry)) .loadcost ⌝ }
+{
+    fields::get(b, AT_LOAD_COST, 8)
+}
+
+pub fn put_load_cost(b: &mut [u8], v: u64)
+    requires { ⌜ Readable (now b) ⌝ }
+    ensures { λ _. ⌜ Stands (now (b .exit)) (withLoadCost (cacheOf (now (b .entry))) v) ⌝ }
+{
+    fields::put(b, AT_LOAD_COST, 8, v);
+}
+
+// The write costs paid.
+pub fn write_cost(b: &[u8]) -> u64
+    requires { ⌜ length (now b) ≡ stateBytes ⌝ }
+    ensures { λ r. ⌜ r ≡ cacheOf (now (b .entry)) .writecost ⌝ }
+{
+    fields::get(b, AT_WRITE_COST, 8)
+}
+
+pub fn put_write_cost(b: &mut [u8], v: u64)
+    requires { ⌜ Readable (now b) ⌝ }
+    ensures { λ _. ⌜ Stands (now (b .exit)) (withWriteCost (cacheOf (now (b .entry))) v) ⌝ }
+{
+    fields::put(b, AT_WRITE_COST, 8, v);
+}
+
+// Whether the log is closed.
+pub fn closed(b: &[u8]) -> bool
+    requires { ⌜ length (now b) ≡ stateBytes ⌝ }
+    ensures { λ r. ⌜ r ≡ cacheOf (now (b .entry)) .closed ⌝ }
+{
+    fields::get(b, AT_CLOSED, 2) != 0
+}
+
+pub fn put_closed(b: &mut [u8], f: bool)
+    requires { ⌜ Readable (now b) ⌝ }
+    ensures { λ _. ⌜ Stands (now (b .exit)) (withClosed (cacheOf (now (b .entry))) f) ⌝ }
+{
+    fields::put(b, AT_CLOSED, 2, f as u64);
+}
+
+// ---- the dirty marks, in four words
+
+pub fn dirty(b: &[u8]) -> [u64; 4]
+    requires { ⌜ length (now b) ≡ stateBytes ⌝ }
+    ensures { λ r. ⌜ r ≡ cacheOf (now (b .entry)) .dirty ⌝ }
 {
     [
-        fields::get(b, 56, 8),
-        fields::get(b, 64, 8),
-        fields::get(b, 72, 8),
-        fields::get(b, 80, 8),
+        fields::get(b, AT_DIRTY, 8),
+        fields::get(b, AT_DIRTY + 8, 8),
+        fields::get(b, AT_DIRTY + 16, 8),
+        fields::get(b, AT_DIRTY + 24, 8),
     ]
 }
 
-// The cache that the bytes stand for. A flag is read as set unless its number is 0.
-pub fn decode(b: &[u8]) -> Cache
-    requires { ⌜ length (now b) ≡ stateBytes ⌝ }
-    ensures { λ r. ⌜ r ≡ cacheOf (now (b .entry)) ⌝ }
+pub fn put_dirty(b: &mut [u8], words: [u64; 4])
+    requires { ⌜ Readable (now b) ⌝ }
+    ensures { λ _. ⌜ Stands (now (b .exit)) (withDirty (cacheOf (now (b .entry))) words) ⌝ }
 {
-    Cache {
-        k: fields::get(b, 0, 4) as u32,
-        n: fields::get(b, 4, 4) as usize,
-        steps: fields::get(b, 8, 4) as u32,
-        hits: fields::get(b, 12, 4) as u32,
-        loads: fields::get(b, 16, 4) as u32,
-        evictions: fields::get(b, 20, 4) as u32,
-        dirtyevictions: fields::get(b, 24, 4) as u32,
-        writebacks: fields::get(b, 28, 4) as u32,
-        flushes: fields::get(b, 32, 4) as u32,
-        closed: fields::get(b, 36, 4) != 0,
-        loadcost: fields::get(b, 40, 8),
-        writecost: fields::get(b, 48, 8),
-        dirty: get_dirty(b),
-        loadcredit: fields::get_run8(b, 88),
-        writecredit: fields::get_run8(b, 2136),
-        tenths: fields::get_run4(b, 4184),
-        itemloads: fields::get_run4(b, 5208),
-        itemwritebacks: fields::get_run4(b, 6232),
-        load: fields::get_run2(b, 7256),
-        write: fields::get_run2(b, 7768),
-        blocks: fields::get_run1(b, 8280),
-        held: fields::get_flags(b, 8536),
-    }
+    fields::put(b, AT_DIRTY, 8, words[0]);
+    fields::put(b, AT_DIRTY + 8, 8, words[1]);
+    fields::put(b, AT_DIRTY + 16, 8, words[2]);
+    fields::put(b, AT_DIRTY + 24, 8, words[3]);
 }
 
-// Whether every flag of the bytes is 0 or 1.
-pub fn flagged(b: &[u8]) -> bool
-    requires { ⌜ length (now b) ≡ stateBytes ⌝ }
-    ensures { λ r. ⌜ Decided (Flagged (now (b .entry))) r ⌝ }
+// ---- an item's fields
+
+pub fn blocks(b: &[u8], i: usize) -> u8
+    requires { ⌜ (length (now b) ≡ stateBytes) × (i < 256) ⌝ }
+    ensures { λ r. ⌜ r ≡ getD (cacheOf (now (b .entry)) .blocks) i 0 ⌝ }
 {
-    if 1 < fields::get(b, 36, 4) {
-        return false;
-    }
+    fields::get(b, AT_BLOCKS + i, 1) as u8
+}
+
+pub fn put_blocks(b: &mut [u8], i: usize, v: u8)
+    requires { ⌜ Readable (now b) × (i < 256) ⌝ }
+    ensures { λ _. ⌜ Stands (now (b .exit)) (withBlocks (cacheOf (now (b .entry))) i v) ⌝ }
+{
+    fields::put(b, AT_BLOCKS + i, 1, v as u64);
+}
+
+pub fn item_load_cost(b: &[u8], i: usize) -> u16
+    requires { ⌜ (length (now b) ≡ stateBytes) × (i < 256) ⌝ }
+    ensures { λ r. ⌜ r ≡ getD (cacheOf (now (b .entry)) .load) i 0 ⌝ }
+{
+    fields::get(b, AT_ITEM_LOAD_COSTS + i * 2, 2) as u16
+}
+
+pub fn put_item_load_cost(b: &mut [u8], i: usize, v: u16)
+    requires { ⌜ Readable (now b) × (i < 256) ⌝ }
+    ensures { λ _. ⌜ Stands (now (b .exit)) (withItemLoadCost (cacheOf (now (b .entry))) i v) ⌝ }
+{
+    fields::put(b, AT_ITEM_LOAD_COSTS + i * 2, 2, v as u64);
+}
+
+pub fn item_write_cost(b: &[u8], i: usize) -> u16
+    requires { ⌜ (length (now b) ≡ stateBytes) × (i < 256) ⌝ }
+    ensures { λ r. ⌜ r ≡ getD (cacheOf (now (b .entry)) .write) i 0 ⌝ }
+{
+    fields::get(b, AT_ITEM_WRITE_COSTS + i * 2, 2) as u16
+}
+
+pub fn put_item_write_cost(b: &mut [u8], i: usize, v: u16)
+    requires { ⌜ Readable (now b) × (i < 256) ⌝ }
+    ensures { λ _. ⌜ Stands (now (b .exit)) (withItemWriteCost (cacheOf (now (b .entry))) i v) ⌝ }
+{
+    fields::put(b, AT_ITEM_WRITE_COSTS + i * 2, 2, v as u64);
+}
+
+pub fn load_credit(b: &[u8], i: usize) -> u64
+    requires { ⌜ (length (now b) ≡ stateBytes) × (i < 256) ⌝ }
+    ensures { λ r. ⌜ r ≡ getD (cacheOf (now (b .entry)) .loadcredit) i 0 ⌝ }
+{
+    fields::get(b, AT_LOAD_CREDITS + i * 8, 8)
+}
+
+pub fn put_load_credit(b: &mut [u8], i: usize, v: u64)
+    requires { ⌜ Readable (now b) × (i < 256) ⌝ }
+    ensures { λ _. ⌜ Stands (now (b .exit)) (withLoadCredit (cacheOf (now (b .entry))) i v) ⌝ }
+{
+    fields::put(b, AT_LOAD_CREDITS + i * 8, 8, v);
+}
+
+pub fn write_credit(b: &[u8], i: usize) -> u64
+    requires { ⌜ (length (now b) ≡ stateBytes) × (i < 256) ⌝ }
+    ensures { λ r. ⌜ r ≡ getD (cacheOf (now (b .entry)) .writecredit) i 0 ⌝ }
+{
+    fields::get(b, AT_WRITE_CREDITS + i * 8, 8)
+}
+
+pub fn put_write_credit(b: &mut [u8], i: usize, v: u64)
+    requires { ⌜ Readable (now b) × (i < 256) ⌝ }
+    ensures { λ _. ⌜ Stands (now (b .exit)) (withWriteCredit (cacheOf (now (b .entry))) i v) ⌝ }
+{
+    fields::put(b, AT_WRITE_CREDITS + i * 8, 8, v);
+}
+
+pub fn tenths(b: &[u8], i: usize) -> u32
+    requires { ⌜ (length (now b) ≡ stateBytes) × (i < 256) ⌝ }
+    ensures { λ r. ⌜ r ≡ getD (cacheOf (now (b .entry)) .tenths) i 0 ⌝ }
+{
+    fields::get(b, AT_TENTHS + i * 4, 4) as u32
+}
+
+pub fn put_tenths(b: &mut [u8], i: usize, v: u32)
+    requires { ⌜ Readable (now b) × (i < 256) ⌝ }
+    ensures { λ _. ⌜ Stands (now (b .exit)) (withTenths (cacheOf (now (b .entry))) i v) ⌝ }
+{
+    fields::put(b, AT_TENTHS + i * 4, 4, v as u64);
+}
+
+pub fn item_loads(b: &[u8], i: usize) -> u32
+    requires { ⌜ (length (now b) ≡ stateBytes) × (i < 256) ⌝ }
+    ensures { λ r. ⌜ r ≡ getD (cacheOf (now (b .entry)) .itemloads) i 0 ⌝ }
+{
+    fields::get(b, AT_ITEM_LOADS + i * 4, 4) as u32
+}
+
+pub fn put_item_loads(b: &mut [u8], i: usize, v: u32)
+    requires { ⌜ Readable (now b) × (i < 256) ⌝ }
+    ensures { λ _. ⌜ Stands (now (b .exit)) (withItemLoads (cacheOf (now (b .entry))) i v) ⌝ }
+{
+    fields::put(b, AT_ITEM_LOADS + i * 4, 4, v as u64);
+}
+
+pub fn item_writebacks(b: &[u8], i: usize) -> u32
+    requires { ⌜ (length (now b) ≡ stateBytes) × (i < 256) ⌝ }
+    ensures { λ r. ⌜ r ≡ getD (cacheOf (now (b .entry)) .itemwritebacks) i 0 ⌝ }
+{
+    fields::get(b, AT_ITEM_WRITEBACKS + i * 4, 4) as u32
+}
+
+pub fn put_item_writebacks(b: &mut [u8], i: usize, v: u32)
+    requires { ⌜ Readable (now b) × (i < 256) ⌝ }
+    ensures { λ _. ⌜ Stands (now (b .exit)) (withItemWritebacks (cacheOf (now (b .entry))) i v) ⌝ }
+{
+    fields::put(b, AT_ITEM_WRITEBACKS + i * 4, 4, v as u64);
+}
+
+pub fn held(b: &[u8], i: usize) -> bool
+    requires { ⌜ (length (now b) ≡ stateBytes) × (i < 256) ⌝ }
+    ensures { λ r. ⌜ r ≡ getD (cacheOf (now (b .entry)) .held) i false ⌝ }
+{
+    b[AT_HELD + i] != 0
+}
+
+pub fn put_held(b: &mut [u8], i: usize, f: bool)
+    requires { ⌜ Readable (now b) × (i < 256) ⌝ }
+    ensures { λ _. ⌜ Stands (now (b .exit)) (withHeld (cacheOf (now (b .entry))) i f) ⌝ }
+{
+    fields::put(b, AT_HELD + i, 1, f as u64);
+}
+
+// ---- all of them
+
+// Every number becomes 0 and every flag false, behind the number of the layout.
+pub fn clear(b: &mut [u8])
+    requires { ⌜ length (now b) ≡ stateBytes ⌝ }
+    ensures { λ _. ⌜ Stands (now (b .exit)) cleared ⌝ }
+{
     let mut i = 0;
-    while i < 256 {
-        if 1 < b[8536 + i] {
-            return false;
-        }
+    while i < b.len() {
+        b[i] = 0;
         i += 1;
     }
-    true
+    fields::put(b, AT_FORMAT, 4, FORMAT);
 }
 
-// Tells a proof that a cache by value has room in the layout: its types leave only `n` to be shown. It does nothing when it runs.
-pub fn fitting(c: Cache)
-    ensures { λ _. ⌜ (c .n < 2 ^ 32 → Fits c) ⌝ }
-{}
+// Whether every byte from one place to another is at most a flag's 1. One test at the end, so that the loop goes by vectors.
+fn flags_ok(b: &[u8], from: usize, to: usize) -> bool
+    requires { ⌜ (from ≤ to) × (to ≤ length (now b)) ⌝ }
+    ensures { λ r. ⌜ Decided (FlagsWithin (now (b .entry)) from to) r ⌝ }
+{
+    let mut all: u8 = 0;
+    let mut i = from;
+    while i < to {
+        all = all | b[i];
+        i += 1;
+    }
+    all < 2
+}
+
+// Whether every field has a value that the layout allows.
+pub fn allowed(b: &[u8]) -> bool
+    requires { ⌜ length (now b) ≡ stateBytes ⌝ }
+    ensures { λ r. ⌜ Decided (Allowed (now (b .entry))) r ⌝ }
+{
+    if fields::get(b, AT_FORMAT, 4) != FORMAT {
+        return false;
+    }
+    if 1 < fields::get(b, AT_CLOSED, 2) {
+        return false;
+    }
+    flags_ok(b, AT_HELD, AT_HELD + 256)
+}

@@ -17,7 +17,7 @@ use Rattle.landlord.proofs.Folds.{tab-eq}
 use Rattle.landlord.proofs.Calls.{opening-taken}
 use Rattle.landlord.proofs.Valid.{ok-opened}
 use Rattle.validity.specs.Decided.{Decided}
-use Rattle.cache_state.specs.declared.Cache.{Cache}
+use Rattle.cache_state.specs.Cache.{Cache}
 use Rattle.cache_state.specs.View.{view}
 use Rattle.cache_state.specs.Valid.{Valid}
 use Rattle.cache_state.specs.Becomes.{Becomes}

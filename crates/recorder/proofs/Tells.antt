@@ -5,7 +5,7 @@ use mathlib.Core.List.{List}
 use Prim.Native.Nat.{ℕ}
 use Rattle.fields.specs.LittleEndian.{Below}
 use Rattle.landlord.specs.Figures.{Standing}
-use Rattle.cache_state.specs.declared.Cache.{Cache}
+use Rattle.cache_state.specs.Cache.{Cache}
 use Rattle.cache_state.proofs.Tells.{Sizes, tells}
 use Rattle.layout.specs.Layout.{bytesOf, cacheOf, Fits}
 use Rattle.layout.proofs.Rounds.{back, fits}

@@ -16,7 +16,7 @@ use Rattle.landlord.specs.declared.Refusal.{Refusal}
 use Rattle.landlord.specs.declared.Refusal.the-variants.{ShortBuffer, InvalidState}
 use Rattle.landlord.specs.Types.{refusalNumber, refusalLine}
 use Rattle.landlord.specs.Figures.{Use, noUse, Standing}
-use Rattle.cache_state.specs.declared.Cache.{Cache}
+use Rattle.cache_state.specs.Cache.{Cache}
 use Rattle.cache_state.specs.View.{usageOf, usesOf, view}
 use Rattle.cache_state.specs.Valid.{Valid}
 use Rattle.cache_state.proofs.Views.{uses-length, use-is}

@@ -13,7 +13,7 @@ use Rattle.landlord.specs.Types.{refusalNumber, refusalLine}
 use Rattle.landlord.specs.Rule.{size}
 use Rattle.landlord.specs.Figures.{Use, useAt}
 use Rattle.landlord.proofs.Sums.{sum-term}
-use Rattle.cache_state.specs.declared.Cache.{Cache}
+use Rattle.cache_state.specs.Cache.{Cache}
 use Rattle.cache_state.specs.View.{usageOf, usesOf, stateOf, figuresOf, view}
 use Rattle.cache_state.specs.Valid.{Valid}
 use Rattle.cache_state.proofs.Views.{size-is, use-is}

@@ -10,7 +10,7 @@ use Rattle.landlord.specs.declared.Refusal.{Refusal}
 use Rattle.landlord.specs.declared.Refusal.the-variants.{ShortBuffer, InvalidState}
 use Rattle.landlord.specs.Types.{refusalNumber, refusalLine}
 use Rattle.landlord.specs.Figures.{Use, Standing, totalCost}
-use Rattle.cache_state.specs.declared.Cache.{Cache}
+use Rattle.cache_state.specs.Cache.{Cache}
 use Rattle.cache_state.specs.View.{view}
 use Rattle.cache_state.specs.Valid.{Valid}
 use Rattle.report.specs.declared.Rival.{Rival}

@@ -10,7 +10,7 @@ use Rattle.landlord.specs.declared.Refusal.{Refusal}
 use Rattle.landlord.specs.declared.Refusal.the-variants.{InputTooLong}
 use Rattle.landlord.specs.Figures.{Standing, totalCost}
 use Rattle.landlord.specs.Plan.{Priced, costs, fault}
-use Rattle.cache_state.specs.declared.Cache.{Cache}
+use Rattle.cache_state.specs.Cache.{Cache}
 use Rattle.cache_state.specs.View.{view}
 use Rattle.cache_state.specs.Becomes.{Becomes}
 use Rattle.report.specs.declared.Rival.the-variants.{Priced as Against}

@@ -24,7 +24,7 @@ use Rattle.landlord.proofs.Calls.{allowed-logged, opening-accepts}
 use Rattle.landlord.proofs.Wear.{wear-bound}
 use Rattle.landlord.specs.Valid.{StandingOk}
 use Rattle.landlord.proofs.Valid.{ok-over}
-use Rattle.cache_state.specs.declared.Cache.{Cache}
+use Rattle.cache_state.specs.Cache.{Cache}
 use Rattle.cache_state.specs.View.{view}
 use Rattle.cache_state.specs.Valid.{Valid}
 use Rattle.cache_state.specs.Becomes.{Becomes}

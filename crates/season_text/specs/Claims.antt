@@ -6,7 +6,7 @@ use Prim.Native.Nat.{ℕ, _≤_, _<_}
 use lib.ListN.{length, getD, take}
 use Rattle.landlord.specs.Plan.{costs}
 use Rattle.landlord.specs.Calls.{Call, close, callOf, openingRefusal, refusal}
-use Rattle.cache_state.specs.declared.Cache.{Cache}
+use Rattle.cache_state.specs.Cache.{Cache}
 use Rattle.cache_state.specs.View.{view}
 use Rattle.cache.specs.Chain.{Chain}
 use Rattle.season_tables.specs.Tables.{Sofar, on, readingOf}

@@ -3,7 +3,7 @@ use Prim.Native.Nat.{ℕ, _+_, _≤_, _<_}
 use native.Mathlib.Omega.{arith}
 use borrow.Author.Needs.{needs}
 use lib.ListN.{getD}
-use Rattle.cache_state.specs.declared.Cache.{Cache}
+use Rattle.cache_state.specs.Cache.{Cache}
 use Rattle.cache_room.specs.Room.{mostCredit, Ranked}
 use Rattle.cache_room.proofs.Views.{ranked, rank-bound}
 use Rattle.cache_room.proofs.Stores.{Sizes}

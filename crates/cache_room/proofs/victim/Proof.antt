@@ -3,7 +3,7 @@ use borrow.Author.Needs.{needs}
 use mathlib.Core.Logic.{⊎-elim}
 use Prim.Native.Nat.{_-_}
 use native.Mathlib.Omega.{arith}
-use Rattle.cache_state.specs.declared.Cache.{Cache}
+use Rattle.cache_state.specs.Cache.{Cache}
 use Rattle.cache_room.proofs.Views.{Choosing, Turn, choosing-starts, choosing-takes, choosing-keeps, choosing-ends, ranked}
 use Rattle.cache_room.proofs.victim.Statement.{statement}
 use Rattle.cache_room.proofs.victim.Tie as tie

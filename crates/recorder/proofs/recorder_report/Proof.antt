@@ -4,7 +4,7 @@ use Prim.Native.Nat.{ℕ}
 use borrow.Author.Needs.{needs}
 use borrow.Author.Tests.{not-true, not-false}
 use denote.Ref
-use Rattle.cache_state.specs.declared.Cache.{Cache}
+use Rattle.cache_state.specs.Cache.{Cache}
 use Rattle.report.specs.declared.Rival.the-variants.{Absent}
 use Rattle.report.specs.declared.Written.the-variants.{Text, Refused}
 use Rattle.report.specs.Report.{Reported}

@@ -3,7 +3,7 @@ use mathlib.Core.Path.{subst}
 use borrow.Author.Needs.{needs}
 use borrow.Author.Tests.{not-true, not-false}
 use Rattle.landlord.specs.Calls.{take}
-use Rattle.cache_state.specs.declared.Cache.{Cache}
+use Rattle.cache_state.specs.Cache.{Cache}
 use Rattle.cache.specs.Contract.{Called}
 use Rattle.recorder.proofs.Lents.{unreadable, lent-settled}
 use Rattle.recorder.proofs.recorder_step.Statement.{statement}

@@ -1,0 +1,256 @@
+// The check of a state that is handed in, paper 01's refusal 17: decided on the bytes, in one pass. It takes any bytes: the loops over
+// the items run only where the catalog has at most 256 of them, and the tests of one item, of the totals and of the sums are those of
+// the crate `validity`.
+ghost use mathlib.Core.Path.{_≡_};
+ghost use mathlib.Core.Bool.{cond};
+ghost use Prim.Native.Nat.{_+_, _*_, _≤_, _<_};
+ghost use lib.ListN.{length, getD};
+ghost use Rattle.landlord.specs.Fold.{sumTo};
+ghost use Rattle.landlord.specs.Rule.{used, heldCount};
+ghost use Rattle.validity.specs.Decided.{Decided};
+ghost use Rattle.validity.specs.Tests.{CountsOk};
+ghost use Rattle.cache_state.specs.View.{stateOf, countsOf};
+ghost use Rattle.cache_state.specs.Valid.{Valid};
+ghost use Rattle.cache_state.specs.Parts.{PastOk, EntriesOk, SumsOf};
+ghost use Rattle.layout.specs.Layout.{stateBytes, cacheOf, numbers};
+ghost use Rattle.layout.specs.Stands.{ValidBytes};
+ghost use Rattle.cache_check.specs.Blanks.{Zeros, BlankRun, BlankFlags, RunAt, Counted};
+
+// Whether every byte from one place to another is 0. One test at the end, so that the loop goes by vectors.
+fn zeros(b: &[u8], from: usize, to: usize) -> bool
+    requires { ⌜ (from ≤ to) × (to ≤ length (now b)) ⌝ }
+    ensures { λ r. ⌜ Decided (Zeros (now (b .entry)) from to) r ⌝ }
+{
+    let mut all: u8 = 0;
+    let mut i = from;
+    while i < to {
+        all = all | b[i];
+        i += 1;
+    }
+    all == 0
+}
+
+// Whether the numbers past the first `n` of the 256 of `w` bytes at a place are 0.
+fn run_blank(b: &[u8], at: usize, w: usize, n: usize) -> bool
+    requires { ⌜ RunAt (now b) at w n ⌝ }
+    ensures { λ r. ⌜ Decided (BlankRun (now (b .entry)) at w n) r ⌝ }
+{
+    zeros(b, at + n * w, at + 256 * w)
+}
+
+// Whether the flags past the first `n` of the 256 at a place are false.
+fn flags_blank(b: &[u8], at: usize, n: usize) -> bool
+    requires { ⌜ RunAt (now b) at 1 n ⌝ }
+    ensures { λ r. ⌜ Decided (BlankFlags (now (b .entry)) at n) r ⌝ }
+{
+    zeros(b, at + n, at + 256)
+}
+
+// Whether every place past the catalog is blank.
+fn past_ok(b: &[u8], n: usize) -> bool
+    requires { ⌜ Counted (now b) n ⌝ }
+    ensures { λ r. ⌜ Decided (PastOk (cacheOf (now (b .entry)))) r ⌝ }
+{
+    if !run_blank(b, layout::AT_LOAD_CREDITS, 8, n) {
+        return false;
+    }
+    if !run_blank(b, layout::AT_WRITE_CREDITS, 8, n) {
+        return false;
+    }
+    if !run_blank(b, layout::AT_TENTHS, 4, n) {
+        return false;
+    }
+    if !run_blank(b, layout::AT_ITEM_LOADS, 4, n) {
+        return false;
+    }
+    if !run_blank(b, layout::AT_ITEM_WRITEBACKS, 4, n) {
+        return false;
+    }
+    if !run_blank(b, layout::AT_ITEM_LOAD_COSTS, 2, n) {
+        return false;
+    }
+    if !run_blank(b, layout::AT_ITEM_WRITE_COSTS, 2, n) {
+        return false;
+    }
+    if !run_blank(b, layout::AT_BLOCKS, 1, n) {
+        return false;
+    }
+    if !flags_blank(b, layout::AT_HELD, n) {
+        return false;
+    }
+    256 <= marks::next(layout::dirty(b), n)
+}
+
+// Whether every item of the catalog is as it should be.
+fn entries_ok(b: &[u8], n: usize) -> bool
+    requires { ⌜ Counted (now b) n ⌝ }
+    ensures { λ r. ⌜ Decided (EntriesOk (cacheOf (now (b .entry)))) r ⌝ }
+{
+    let words = layout::dirty(b);
+    let closed = layout::closed(b);
+    let steps = layout::steps(b);
+    let mut i: usize = 0;
+    while i < n {
+        if !validity::entry_ok(
+            layout::blocks(b, i),
+            layout::item_load_cost(b, i),
+            layout::item_write_cost(b, i),
+            layout::held(b, i),
+            marks::is_marked(words, i),
+            closed,
+            layout::load_credit(b, i),
+            layout::write_credit(b, i),
+            layout::tenths(b, i),
+            steps,
+        ) {
+            return false;
+        }
+        i += 1;
+    }
+    true
+}
+
+// What an item adds to a sum over the held items. The bound is for the sums.
+fn share(held: bool, amount: u8) -> u32
+    ensures { λ r. ⌜ (r ≡ cond held amount 0) × (r < 256) ⌝ }
+{
+    if held {
+        return amount as u32;
+    }
+    0
+}
+
+// The blocks held, of `n` items.
+pub fn used(b: &[u8], n: usize) -> u32
+    requires { ⌜ Counted (now b) n ⌝ }
+    ensures { λ r. ⌜ r ≡ used (stateOf (cacheOf (now (b .entry)))) ⌝ }
+{
+    let mut sum: u32 = 0;
+    let mut i: usize = 0;
+    while i < n {
+        sum = sum + share(layout::held(b, i), layout::blocks(b, i));
+        i += 1;
+    }
+    sum
+}
+
+// How many of `n` items are held.
+fn held_count(b: &[u8], n: usize) -> u32
+    requires { ⌜ Counted (now b) n ⌝ }
+    ensures { λ r. ⌜ r ≡ heldCount (stateOf (cacheOf (now (b .entry)))) ⌝ }
+{
+    let mut sum: u32 = 0;
+    let mut i: usize = 0;
+    while i < n {
+        sum = sum + share(layout::held(b, i), 1);
+        i += 1;
+    }
+    sum
+}
+
+// A count in 64 bits, with a bound for the sums.
+fn wide(x: u32) -> u64
+    ensures { λ r. ⌜ (r ≡ x) × (r < 4294967296) ⌝ }
+{
+    x as u64
+}
+
+// The sum of the loads counted for the first `n` items.
+fn loads_counted(b: &[u8], n: usize) -> u64
+    requires { ⌜ Counted (now b) n ⌝ }
+    ensures { λ r. ⌜ r ≡ sumTo n (λ i. getD (cacheOf (now (b .entry)) .itemloads) i 0) ⌝ }
+{
+    let mut sum: u64 = 0;
+    let mut i: usize = 0;
+    while i < n {
+        sum = sum + wide(layout::item_loads(b, i));
+        i += 1;
+    }
+    sum
+}
+
+// The sum of the writebacks counted for the first `n` items.
+fn writebacks_counted(b: &[u8], n: usize) -> u64
+    requires { ⌜ Counted (now b) n ⌝ }
+    ensures { λ r. ⌜ r ≡ sumTo n (λ i. getD (cacheOf (now (b .entry)) .itemwritebacks) i 0) ⌝ }
+{
+    let mut sum: u64 = 0;
+    let mut i: usize = 0;
+    while i < n {
+        sum = sum + wide(layout::item_writebacks(b, i));
+        i += 1;
+    }
+    sum
+}
+
+// Whether the sums over the items are what the capacity and the totals say.
+fn sums_ok(b: &[u8], n: usize) -> bool
+    requires { ⌜ Counted (now b) n ⌝ }
+    ensures { λ r. ⌜ Decided (SumsOf (cacheOf (now (b .entry)))) r ⌝ }
+{
+    validity::balanced(
+        layout::capacity(b),
+        used(b, n),
+        layout::evictions(b),
+        held_count(b, n),
+        layout::loads(b),
+        layout::writebacks(b),
+        marks::count(layout::dirty(b)),
+        layout::steps(b),
+        loads_counted(b, n),
+        writebacks_counted(b, n),
+    )
+}
+
+// Whether the capacity is in range, and the totals go together with each other.
+fn counts_ok(b: &[u8]) -> bool
+    requires { ⌜ length (now b) ≡ stateBytes ⌝ }
+    ensures { λ r. ⌜ Decided (CountsOk (cacheOf (now (b .entry)) .k) (countsOf (cacheOf (now (b .entry))))) r ⌝ }
+{
+    validity::counts_ok(
+        layout::capacity(b),
+        layout::steps(b),
+        layout::hits(b),
+        layout::loads(b),
+        layout::load_cost(b),
+        layout::evictions(b),
+        layout::dirty_evictions(b),
+        layout::writebacks(b),
+        layout::write_cost(b),
+        layout::flushes(b),
+    )
+}
+
+// Whether the cache that the bytes stand for is valid. The loops come after the test of `n`, which bounds them.
+fn cache_ok(b: &[u8]) -> bool
+    requires { ⌜ length (now b) ≡ stateBytes ⌝ }
+    ensures { λ r. ⌜ Decided (Valid (cacheOf (now (b .entry)))) r ⌝ }
+{
+    let n = layout::count(b);
+    if n > 256 {
+        return false;
+    }
+    if !past_ok(b, n) {
+        return false;
+    }
+    if !entries_ok(b, n) {
+        return false;
+    }
+    if !sums_ok(b, n) {
+        return false;
+    }
+    counts_ok(b)
+}
+
+// Whether a state is valid, of any bytes.
+pub fn valid(b: &[u8]) -> bool
+    ensures { λ r. ⌜ Decided (ValidBytes (now (b .entry))) r ⌝ }
+{
+    if b.len() != layout::STATE_BYTES {
+        return false;
+    }
+    if !layout::allowed(b) {
+        return false;
+    }
+    cache_ok(b)
+}

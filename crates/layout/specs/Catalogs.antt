@@ -1,0 +1,24 @@
+-- A catalog in lent bytes: 5 bytes an item, its blocks, its load cost and its write cost, low byte first. Assumes nothing.
+use mathlib.Core.List.{List, [], _∷_}
+use Prim.Native.Nat.{ℕ, _+_, _*_, _/_, _%_}
+use lib.ListN.{length, getD}
+use Rattle.landlord.specs.Fold.{tab}
+use Rattle.landlord.specs.Catalog.{Item, Catalog}
+
+-- item i of such bytes
+abbrev pub itemIn : List ℕ → ℕ → Item
+itemIn xs i =
+    record {
+      blocks = getD xs (5 * i) 0;
+      load = getD xs (5 * i + 1) 0 + 256 * getD xs (5 * i + 2) 0;
+      write = getD xs (5 * i + 3) 0 + 256 * getD xs (5 * i + 4) 0;
+    }
+
+-- the catalog that bytes stand for; a remainder is no item
+unfoldable pub catalogIn : List ℕ → Catalog
+catalogIn xs = tab (length xs / 5) (itemIn xs)
+
+-- the bytes of a catalog
+unfoldable pub catalogBytes : Catalog → List ℕ
+catalogBytes [] = []
+catalogBytes (x ∷ items) = x .blocks ∷ x .load % 256 ∷ x .load / 256 ∷ x .write % 256 ∷ x .write / 256 ∷ catalogBytes items
