@@ -1,35 +1,32 @@
--- The season theorem's hypothesis and its conclusions: a list of calls by value, each handed the cache that the last one
--- handed back. Paper 01, 'The season as one list'. Assumes nothing.
+-- The season theorem's hypothesis and its conclusions: a list of calls, each handed the state that the last one handed back or left in
+-- the lent bytes. Paper 01, 'The season as one list'. Assumes nothing.
 use mathlib.Core.Path.{_≡_}
 use mathlib.Core.List.{List, [], _∷_}
 use Prim.Native.Nat.{ℕ, _+_, _*_, _-_, _≤_, _<_}
 use lib.ListN.{length, getD, take}
 use Rattle.landlord.specs.Catalog.{Catalog}
 use Rattle.landlord.specs.Slot.{writeFirst}
-use Rattle.landlord.specs.Figures.{season, totalCost}
+use Rattle.landlord.specs.Figures.{opened, season, totalCost}
 use Rattle.landlord.specs.Plan.{Plan, price, costs}
 use Rattle.landlord.specs.Calls.{Call, close, logOf, refusal, ruleOver}
-use Rattle.cache_state.specs.Cache.{Cache}
-use Rattle.cache_state.specs.View.{view}
-use Rattle.cache_state.specs.Valid.{Valid}
-use Rattle.cache.specs.declared.Reply.{Reply}
-use Rattle.cache.specs.Contract.{Called, Opened}
+use Rattle.catalog_bytes.specs.Catalogs.{catalogIn}
+use Rattle.layout.specs.Layout.{atLoadCost, atWriteCost, number}
+use Rattle.layout.specs.Stands.{ValidBytes}
+use Rattle.cache.specs.Contract.{Kind, lent, Called, OpenedLent}
 
 -- from c, by these calls with these numbers as answers, to d
-pub data Follows : Cache → List Call → List ℕ → Cache → Type 0 where
-  none : {c : Cache} → Follows c [] [] c
+pub data Follows {C : Type 0} (kind : Kind C) : C → List Call → List ℕ → C → Type 0 where
+  none : {c : C} → Follows kind c [] [] c
   then :
-      {c d : Cache} {call : Call} {calls : List Call} {numbers : List ℕ} {r : Reply} →
-      Called c call r →
-      Follows (r .cache) calls numbers d →
-      Follows c (call ∷ calls) (r .number ∷ numbers) d
+      {c d e : C} {call : Call} {calls : List Call} {answer : ℕ} {numbers : List ℕ} →
+      Called kind c call answer d →
+      Follows kind d calls numbers e →
+      Follows kind c (call ∷ calls) (answer ∷ numbers) e
 
--- the list starts from an opening that was not refused
-pub record Chain (k : ℕ) (cat : Catalog) (calls : List Call) (numbers : List ℕ) (d : Cache) : Type 0 where
-  pub first : Reply
-  pub opening : Opened k cat first
-  pub accepted : first .number ≡ 0
-  pub follows : Follows (first .cache) calls numbers d
+-- what an opening that was not refused gives
+pub record Begins {C : Type 0} (kind : Kind C) (k : ℕ) (cat : Catalog) (first : C) : Type 0 where
+  pub valid : kind .Valid first
+  pub stands : kind .view first ≡ opened k cat
 
 -- the answer to call i is the number that the table gives it, from the opening's arguments and the calls before it: never 17
 pub record Answered (k : ℕ) (cat : Catalog) (calls : List Call) (numbers : List ℕ) : Type 0 where
@@ -53,8 +50,22 @@ pub record Bounded (k : ℕ) (cat : Catalog) (calls : List Call) (total : ℕ) :
       total * (k - h + 1) ≤ k * c
 
 -- the three conclusions, after the whole list, refused calls after the closing included
-pub record Season (k : ℕ) (cat : Catalog) (calls : List Call) (numbers : List ℕ) (d : Cache) : Type 0 where
+pub record Season {C : Type 0} (kind : Kind C) (k : ℕ) (cat : Catalog) (calls : List Call) (numbers : List ℕ) (d : C) : Type 0 where
   pub answers : Answered k cat calls numbers
-  pub valid : Valid d
-  pub stands : view d ≡ ruleOver writeFirst k cat (logOf k cat calls)
-  pub wear : Closing calls numbers → Bounded k cat calls (d .loadcost + d .writecost)
+  pub valid : kind .Valid d
+  pub stands : kind .view d ≡ ruleOver writeFirst k cat (logOf k cat calls)
+  pub wear : Closing calls numbers → Bounded k cat calls (totalCost (kind .view d .figures))
+
+-- ---- in lent bytes
+
+-- the list starts from an opening that was not refused; nothing else writes the bytes meanwhile
+pub record ChainLent (k : ℕ) (xs : List ℕ) (calls : List Call) (numbers d : List ℕ) : Type 0 where
+  pub before : List ℕ
+  pub first : List ℕ
+  pub opening : OpenedLent before k xs 0 first
+  pub follows : Follows lent first calls numbers d
+
+-- the three conclusions; the total is that of the two numbers at the layout's places
+pub record SeasonLent (k : ℕ) (cat : Catalog) (calls : List Call) (numbers d : List ℕ) : Type 0 where
+  pub season : Season lent k cat calls numbers d
+  pub wear : Closing calls numbers → Bounded k cat calls (number d atLoadCost 8 + number d atWriteCost 8)

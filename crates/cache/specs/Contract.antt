@@ -1,51 +1,47 @@
--- What the calls promise. Each call has one record, which its contract and the season theorem both cite. Assumes nothing.
+-- What the calls promise. One record says it for every kind of state, in lent bytes or by value; the contracts of the functions and
+-- the season theorem both cite it. Assumes nothing.
 use mathlib.Core.Path.{_≡_}
 use mathlib.Core.Logic.{_≢_}
-use mathlib.Core.Bool.{true, false, cond}
-use mathlib.Core.List.{List, []}
-use Prim.Native.Nat.{ℕ, _<_}
-use lib.ListN.{getD}
-use Rattle.landlord.specs.Fold.{tab}
-use Rattle.landlord.specs.Catalog.{Catalog}
+use mathlib.Core.Bool.{Bool, false, cond, _&&_}
+use mathlib.Core.List.{List}
+use Prim.Native.Nat.{ℕ, _%_, _<_}
+use lib.Dec.{eqb, leb}
+use lib.ListN.{length, getD}
 use Rattle.landlord.specs.Slot.{writeFirst}
-use Rattle.landlord.specs.Rule.{emptied}
-use Rattle.landlord.specs.Figures.{Standing, nothing, opened}
+use Rattle.landlord.specs.Figures.{Standing, opened}
 use Rattle.landlord.specs.Calls.{Call, take, openingRefusal, refusalNow, after}
+use Rattle.catalog_bytes.specs.Catalogs.{catalogIn}
 use Rattle.cache_state.specs.Cache.{Cache}
 use Rattle.cache_state.specs.View.{dirtyAt, view}
-use Rattle.cache_state.specs.Valid.{Valid}
-use Rattle.cache_state.specs.Becomes.{Becomes}
-use Rattle.cache.specs.declared.Reply.{Reply}
-use Rattle.cache.specs.declared.Answer.{Answer}
-use Rattle.cache.specs.declared.Answer.the-variants.{Taken, Refused}
-use Rattle.cache.specs.declared.Answered.{Answered}
-use Rattle.landlord.specs.declared.Refusal.the-variants.{OutOfRange, UnknownItem, ItemTooLarge, LogFull, Closed, InvalidState}
-use lib.Dec.{eqb}
+use Rattle.layout.specs.Layout.{stateBytes, cacheOf}
+use Rattle.layout.specs.Stands.{ValidBytes}
 
--- a step on a valid cache that the table does not refuse
-pub record Passed (c : Cache) (kind item minutes : ℕ) : Type 0 where
-  pub valid : Valid c
-  pub free : refusalNow (view c) (take kind item minutes) ≡ 0
+-- a kind of state: where the rule stands in one, and which are valid
+pub record Kind (C : Type 0) : Type 1 where
+  pub view : C → Standing
+  pub Valid : C → Type 0
 
--- a call on a valid cache: the number that the table gives; the one cache that stands where the rule stands after the call;
--- and, refused, the cache that was handed in, equal in every field
-pub record Answers (c : Cache) (call : Call) (r : Reply) : Type 0 where
-  pub number : r .number ≡ refusalNow (view c) call
-  pub next : Becomes (after writeFirst (view c) call) (r .cache)
-  pub refused : r .number ≢ 0 → r .cache ≡ c
+-- the bytes that a caller lends
+abbrev pub lent : Kind (List ℕ)
+lent = record { view = λ b. view (cacheOf b); Valid = ValidBytes }
 
--- a call on any cache: an invalid one is refused with 17 and handed back
-pub record Called (c : Cache) (call : Call) (r : Reply) : Type 0 where
-  pub fine : Valid c → Answers c call r
-  pub foul : (Valid c → ⊥) → (r .number ≡ 17) × (r .cache ≡ c)
+-- A call on a valid state: the number that the table gives; a valid state where the rule stands after the call (there is only one:
+-- layout's and cache_state's laws `..-one`); and, refused, the state that was handed in.
+pub record Answers {C : Type 0} (kind : Kind C) (c : C) (call : Call) (number : ℕ) (d : C) : Type 0 where
+  pub answer : number ≡ refusalNow (kind .view c) call
+  pub valid : kind .Valid d
+  pub stands : kind .view d ≡ after writeFirst (kind .view c) call
+  pub refused : number ≢ 0 → d ≡ c
 
--- the catalog that an opening is given: of arrays of blocks, load costs and write costs, the first n places
-unfoldable pub catalogFrom : ℕ → List ℕ → List ℕ → List ℕ → Catalog
-catalogFrom n blocks load write = tab n (λ i. record { blocks = getD blocks i 0; load = getD load i 0; write = getD write i 0 })
+-- a call on any state: an invalid one is refused with 17 and left as it is
+pub record Called {C : Type 0} (kind : Kind C) (c : C) (call : Call) (number : ℕ) (d : C) : Type 0 where
+  pub fine : kind .Valid c → Answers kind c call number d
+  pub invalid : (kind .Valid c → ⊥) → (number ≡ 17) × (d ≡ c)
 
--- "refused by value, it gives a closed locker of 1 block with no sails"
-abbrev pub refusedOpening : Standing
-refusedOpening = record { k = 1; state = emptied []; figures = nothing []; closed = true }
+-- a step on valid bytes that the table does not refuse
+pub record Passed (b : List ℕ) (kind item minutes : ℕ) : Type 0 where
+  pub valid : ValidBytes b
+  pub free : refusalNow (view (cacheOf b)) (take kind item minutes) ≡ 0
 
 -- "It has 256 places, one for each sail number, empty at opening": place i
 pub record EmptyPlace (c : Cache) (i : ℕ) : Type 0 where
@@ -57,37 +53,18 @@ pub record EmptyPlace (c : Cache) (i : ℕ) : Type 0 where
   pub loads : getD (c .itemloads) i 0 ≡ 0
   pub writebacks : getD (c .itemwritebacks) i 0 ≡ 0
 
--- an opening: 0 or 3, and the one cache that stands at the opening, or that of a refused one
-pub record Opened (k : ℕ) (cat : Catalog) (r : Reply) : Type 0 where
-  pub number : r .number ≡ openingRefusal k cat
-  pub taken : r .number ≡ 0 → Becomes (opened k cat) (r .cache)
-  pub refused : r .number ≢ 0 → Becomes refusedOpening (r .cache)
-  pub empty : (i : ℕ) → i < 256 → EmptyPlace (r .cache) i
+-- "a length that is no multiple of 5, or above 1,280, is 3"
+abbrev pub sized : List ℕ → Bool
+sized xs = eqb (length xs % 5) 0 && leb (length xs) 1280
 
--- An answer by value: taken, or the refusal with no line. Of a call's numbers 17, 9, 8, 3, 6 and 7 it is the paper's refusal.
-unfoldable pub answerTo : ℕ → Answer
-answerTo n =
-    cond (eqb n 0) Taken
-    (cond (eqb n 3) (Refused (OutOfRange 0))
-    (cond (eqb n 6) (Refused (UnknownItem 0))
-    (cond (eqb n 7) (Refused (ItemTooLarge 0))
-    (cond (eqb n 8) (Refused (LogFull 0))
-    (cond (eqb n 9) (Refused (Closed 0))
-    (Refused (InvalidState 0)))))))
+-- The opening in lent bytes checks the state's length (17), then k and the catalog (3). It looks at how many bytes there are, and at
+-- none of them.
+unfoldable pub openingNumber : ℕ → ℕ → List ℕ → ℕ
+openingNumber size k xs = cond (eqb size stateBytes) (cond (sized xs) (openingRefusal k (catalogIn xs)) 3) 17
 
--- a call by value hands back the reply's answer with its cache
-pub record Replied (reply : Reply) (r : Answered) : Type 0 where
-  pub answer : r .answer ≡ answerTo (reply .number)
-  pub cache : r .ledger .cache ≡ reply .cache
-
--- a step or the closing as a method
-pub record CalledBy (c : Cache) (call : Call) (r : Answered) : Type 0 where
-  pub reply : Reply
-  pub called : Called c call reply
-  pub replied : Replied reply r
-
--- the opening
-pub record OpenedBy (k : ℕ) (cat : Catalog) (r : Answered) : Type 0 where
-  pub reply : Reply
-  pub opening : Opened k cat reply
-  pub replied : Replied reply r
+pub record OpenedLent (b : List ℕ) (k : ℕ) (xs : List ℕ) (number : ℕ) (left : List ℕ) : Type 0 where
+  pub answer : number ≡ openingNumber (length b) k xs
+  pub valid : number ≡ 0 → ValidBytes left
+  pub stands : number ≡ 0 → view (cacheOf left) ≡ opened k (catalogIn xs)
+  pub empty : number ≡ 0 → (i : ℕ) → i < 256 → EmptyPlace (cacheOf left) i
+  pub refused : number ≢ 0 → left ≡ b

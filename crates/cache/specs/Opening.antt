@@ -1,52 +1,34 @@
--- What the functions of an opening give. Assumes nothing.
+-- What the functions of an opening in lent bytes give. Assumes nothing.
 use mathlib.Core.Path.{_≡_}
-use mathlib.Core.Bool.{Bool, false}
 use mathlib.Core.List.{List}
-use Prim.Native.Nat.{ℕ, _≤_, _<_}
-use lib.ListN.{getD, replicate}
+use Prim.Native.Nat.{ℕ, _/_, _≤_, _<_}
+use lib.ListN.{length}
+use Rattle.catalog_bytes.specs.Catalogs.{itemIn}
 use Rattle.cache_state.specs.Cache.{Cache}
+use Rattle.cache_state.specs.With.{withCatalog}
+use Rattle.cache_room.specs.Stores.{storeTo}
+use Rattle.layout.specs.Layout.{cacheOf}
+use Rattle.layout.specs.Stands.{Readable}
 
--- the first n entries of xs, and 0 past them
-pub record FirstOf (n : ℕ) (xs r : List ℕ) : Type 0 where
-  pub front : (i : ℕ) → i < n → getD r i 0 ≡ getD xs i 0
-  pub rest : (i : ℕ) → n ≤ i → getD r i 0 ≡ 0
+-- the blocks of the first n items are in range; costs are by their width
+pub record BlocksIn (n : ℕ) (xs : List ℕ) : Type 0 where
+  pub some : (i : ℕ) → i < n → 1 ≤ itemIn xs i .blocks
+  pub small : (i : ℕ) → i < n → itemIn xs i .blocks ≤ 16
 
--- the blocks of the first n items are in range
-pub record BlocksOk (n : ℕ) (blocks : List ℕ) : Type 0 where
-  pub some : (i : ℕ) → i < n → 1 ≤ getD blocks i 0
-  pub small : (i : ℕ) → i < n → getD blocks i 0 ≤ 16
-
--- what an opening asks of its arguments; load and write costs are in range by their width
-pub record Opens (k n : ℕ) (blocks : List ℕ) : Type 0 where
-  pub low : 1 ≤ k
-  pub high : k ≤ 4096
+-- a catalog of n items that have places in the state
+pub record Whole (n : ℕ) (xs : List ℕ) : Type 0 where
+  pub count : n ≡ length xs / 5
   pub few : n ≤ 256
-  pub each : BlocksOk n blocks
 
--- a cache in which nothing is held and nothing counted
-abbrev pub emptyOf : ℕ → ℕ → List ℕ → List ℕ → List ℕ → Bool → Cache
-emptyOf k n blocks load write isClosed =
-    record {
-      k = k;
-      n = n;
-      blocks = blocks;
-      load = load;
-      write = write;
-      held = replicate 256 false;
-      loadcredit = replicate 256 0;
-      writecredit = replicate 256 0;
-      dirty = replicate 4 0;
-      tenths = replicate 256 0;
-      itemloads = replicate 256 0;
-      itemwritebacks = replicate 256 0;
-      steps = 0;
-      hits = 0;
-      loads = 0;
-      loadcost = 0;
-      evictions = 0;
-      dirtyevictions = 0;
-      writebacks = 0;
-      writecost = 0;
-      flushes = 0;
-      closed = isClosed;
-    }
+-- the cache with the first n items of the catalog stored
+abbrev pub enteredOf : Cache → List ℕ → ℕ → Cache
+enteredOf c xs n =
+    withCatalog c (c .k) (c .n)
+    (storeTo n (λ i. itemIn xs i .blocks) (c .blocks))
+    (storeTo n (λ i. itemIn xs i .load) (c .load))
+    (storeTo n (λ i. itemIn xs i .write) (c .write))
+
+-- what storing them asks
+pub record Enterable (b : List ℕ) (n : ℕ) (xs : List ℕ) : Type 0 where
+  pub reads : Readable b
+  pub whole : Whole n xs

@@ -8,13 +8,10 @@ use lib.ListN.{length, getD}
 use lib.Seq.{sets}
 use lib.Dec.{eqb}
 use Rattle.landlord.specs.Fold.{tab}
-use Rattle.landlord.specs.Catalog.{Catalog}
-use Rattle.landlord.specs.Calls.{Call, take, close, openingRefusal}
-use Rattle.cache_state.specs.Cache.{Cache}
-use Rattle.cache_state.specs.Becomes.{Becomes}
-use Rattle.cache.specs.declared.Reply.{Reply}
-use Rattle.cache.specs.Contract.{refusedOpening}
-use Rattle.cache.specs.Chain.{Follows, Season}
+use Rattle.landlord.specs.Calls.{Call, take, close}
+use Rattle.catalog_bytes.specs.Catalogs.{catalogIn}
+use Rattle.cache.specs.Contract.{Kind, openingNumber}
+use Rattle.cache.specs.Chain.{Follows, SeasonLent}
 
 -- a call from four numbers: 0 and then a step's kind, item and minutes; or another number, and it is the closing
 abbrev pub callFrom : ℕ → ℕ → ℕ → ℕ → Call
@@ -27,16 +24,16 @@ callAt xs i = callFrom (getD xs (4 * i) 0) (getD xs (4 * i + 1) 0) (getD xs (4 *
 unfoldable pub callsOf : List ℕ → List Call
 callsOf xs = tab (length xs / 4) (callAt xs)
 
--- the calls were made, each on the cache that the last one handed back, and their answers noted as far as there was place
-pub record RanCalls (c : Cache) (calls : List Call) (before after : List ℕ) (d : Cache) : Type 0 where
+-- the calls were made, each on the state that the last one left, and their answers noted as far as there was place
+pub record RanCalls {C : Type 0} (kind : Kind C) (c : C) (calls : List Call) (before after : List ℕ) (d : C) : Type 0 where
   pub numbers : List ℕ
-  pub follows : Follows c calls numbers d
+  pub follows : Follows kind c calls numbers d
   pub noted : after ≡ sets before 0 numbers
 
--- The season theorem of the arguments alone: a refused opening answers 3 and notes nothing; else the three conclusions hold of
--- the answers noted and of the cache handed back.
-pub record Ran (k : ℕ) (cat : Catalog) (calls : List Call) (before after : List ℕ) (r : Reply) : Type 0 where
-  pub number : r .number ≡ openingRefusal k cat
-  pub refused : r .number ≢ 0 → (after ≡ before) × Becomes refusedOpening (r .cache)
+-- The season theorem of the arguments alone: a refused opening leaves every byte and every answer as it was; else the three
+-- conclusions hold of the answers noted and of the bytes left.
+pub record RanLent (b : List ℕ) (k : ℕ) (xs : List ℕ) (calls : List Call) (before after : List ℕ) (number : ℕ) (left : List ℕ) : Type 0 where
+  pub answer : number ≡ openingNumber (length b) k xs
+  pub refused : number ≢ 0 → (left ≡ b) × (after ≡ before)
   pub numbers : List ℕ
-  pub season : r .number ≡ 0 → Season k cat calls numbers (r .cache) × (after ≡ sets before 0 numbers)
+  pub season : number ≡ 0 → SeasonLent k (catalogIn xs) calls numbers left × (after ≡ sets before 0 numbers)

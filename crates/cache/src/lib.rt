@@ -1,41 +1,20 @@
-// The cache's calls by value: open, step, close; and the season theorem of a list of them.
+// The calls on a state, in place on its bytes: open, step, close; and a list of them run. Every refusal is decided before the first
+// store, so a refused call leaves every byte as it was.
 ghost use mathlib.Core.Path.{_≡_};
-ghost use Prim.Native.Nat.{_≤_};
-ghost use lib.ListN.{set};
-ghost use Rattle.cache.specs.Contract.{Passed, Answers, Called, Opened, catalogFrom, answerTo, CalledBy, OpenedBy};
-ghost use Rattle.cache.specs.Run.{callFrom, callsOf, RanCalls, Ran};
+ghost use Prim.Native.Nat.{_/_, _≤_};
+ghost use lib.ListN.{length, set};
 ghost use Rattle.landlord.specs.Slot.{writeFirst};
 ghost use Rattle.landlord.specs.Figures.{took};
-ghost use Rattle.cache_state.specs.Becomes.{Becomes, Decided};
-ghost use Rattle.cache.specs.Opening.{FirstOf, BlocksOk, Opens, emptyOf};
-ghost use Rattle.landlord.specs.Calls.{inRange, refusalNow, stepOf, take, close, callOf};
+ghost use Rattle.landlord.specs.Calls.{inRange, refusalNow, stepOf, take, close};
+ghost use Rattle.validity.specs.Decided.{Decided};
 ghost use Rattle.cache_state.specs.View.{view};
-ghost use Rattle.cache_state.specs.Valid.{Valid};
-use cache_state::Cache;
-use landlord::Refusal;
-use landlord::Step;
+ghost use Rattle.layout.specs.Layout.{cacheOf};
+ghost use Rattle.layout.specs.Stands.{Stands, ValidBytes, BecomesAt};
+ghost use Rattle.cache.specs.Contract.{lent, Answers, Called, Passed, openingNumber, OpenedLent};
+ghost use Rattle.cache.specs.Opening.{BlocksIn, Whole, Enterable, enteredOf};
+ghost use Rattle.cache.specs.Run.{callFrom, callsOf, RanCalls, RanLent};
 
-// What a call hands back: its number, 0 if it was taken and else the refusal's, and the next cache.
-pub struct Reply {
-    pub number: u32,
-    pub cache: Cache,
-}
-
-// The answer to a call: taken, or why not.
-pub enum Answer {
-    Taken,
-    Refused(Refusal),
-}
-
-// A cache with the calls on it as methods: each hands back its answer with the next state.
-pub struct Ledger {
-    pub cache: Cache,
-}
-
-pub struct Answered {
-    pub answer: Answer,
-    pub ledger: Ledger,
-}
+// ---- a step
 
 // Whether a step's kind is one of R, W and L, and the values that such a step has are in their ranges.
 pub fn in_range(kind: u32, item: u32, minutes: u32) -> bool
@@ -53,320 +32,194 @@ pub fn in_range(kind: u32, item: u32, minutes: u32) -> bool
     kind == 76
 }
 
-// The number that the table of refusals gives a step on a valid cache: 9, 8, 3, 6, 7 in this order, or 0.
-fn refused(c: Cache, kind: u32, item: u32, minutes: u32) -> u32
-    requires { ⌜ Valid c ⌝ }
-    ensures { λ r. ⌜ r ≡ refusalNow (view c) (take kind item minutes) ⌝ }
+// The number that the table of refusals gives a step on a valid state: 9, 8, 3, 6, 7 in this order, or 0.
+fn refused(b: &[u8], kind: u32, item: u32, minutes: u32) -> u32
+    requires { ⌜ ValidBytes (now b) ⌝ }
+    ensures { λ r. ⌜ r ≡ refusalNow (view (cacheOf (now (b .entry)))) (take kind item minutes) ⌝ }
 {
-    if c.closed {
+    if layout::closed(b) {
         return 9;
     }
-    if 1000000 <= c.steps {
+    if 1000000 <= layout::steps(b) {
         return 8;
     }
     if !in_range(kind, item, minutes) {
         return 3;
     }
-    // A landing has no item.
+    // A flush has no item.
     if kind == 76 {
         return 0;
     }
     let i = item as usize;
-    if c.n <= i {
+    if layout::count(b) <= i {
         return 6;
     }
-    if c.k < (c.blocks[i] as u32) {
+    if layout::capacity(b) < (layout::blocks(b, i) as u32) {
         return 7;
     }
     0
 }
 
 // A step that the table does not refuse: room is made for its item, and it is served.
-fn serve(c: Cache, kind: u32, item: u32, minutes: u32) -> Cache
-    requires { ⌜ Passed c kind item minutes ⌝ }
-    ensures { λ r. ⌜ Becomes (took writeFirst (view c) (stepOf kind item minutes)) r ⌝ }
+fn serve(b: &mut [u8], kind: u32, item: u32, minutes: u32)
+    requires { ⌜ Passed (now b) kind item minutes ⌝ }
+    ensures { λ _. ⌜ BecomesAt (took writeFirst (view (cacheOf (now (b .entry)))) (stepOf kind item minutes)) (now (b .exit)) ⌝ }
 {
     if kind == 76 {
-        return cache_serve::land(c);
+        cache_serve::flush_step(b);
+        return;
     }
     let i = item as usize;
-    let room = cache_room::make_room(c, i);
+    cache_room::make_room(b, i);
     if kind == 82 {
-        return cache_serve::serve_read(room, i);
+        cache_serve::serve_read(b, i);
+        return;
     }
-    cache_serve::serve_write(room, i, minutes)
+    cache_serve::serve_write(b, i, minutes);
 }
 
-// A step by its numbers, on a valid cache: as the table says. Refused, the cache comes back.
-fn take_valid(c: Cache, kind: u32, item: u32, minutes: u32) -> Reply
-    requires { ⌜ Valid c ⌝ }
-    ensures { λ r. ⌜ Answers c (take kind item minutes) r ⌝ }
+// A step by its numbers, on a valid state: as the table says.
+fn step_valid(b: &mut [u8], kind: u32, item: u32, minutes: u32) -> u32
+    requires { ⌜ ValidBytes (now b) ⌝ }
+    ensures { λ r. ⌜ Answers lent (now (b .entry)) (take kind item minutes) r (now (b .exit)) ⌝ }
 {
-    let number = refused(c, kind, item, minutes);
+    let number = refused(b, kind, item, minutes);
     if number != 0 {
-        return Reply {
-            number: number,
-            cache: c,
-        };
+        return number;
     }
-    Reply {
-        number: 0,
-        cache: serve(c, kind, item, minutes),
-    }
+    serve(b, kind, item, minutes);
+    0
 }
 
-// A step by its numbers, on any cache: 17 if the cache is invalid, else as the table says.
-pub fn take(c: Cache, kind: u32, item: u32, minutes: u32) -> Reply
-    ensures { λ r. ⌜ Called c (take kind item minutes) r ⌝ }
+// A step by its numbers, on any bytes: 17 if they are no valid state, else as the table says. `kind` is the code of its letter,
+// 82 for R, 87 for W, 76 for L.
+pub fn step(b: &mut [u8], kind: u32, item: u32, minutes: u32) -> u32
+    ensures { λ r. ⌜ Called lent (now (b .entry)) (take kind item minutes) r (now (b .exit)) ⌝ }
 {
-    if !cache_state::valid(c) {
-        return Reply {
-            number: 17,
-            cache: c,
-        };
+    if !cache_check::valid(b) {
+        return 17;
     }
-    take_valid(c, kind, item, minutes)
+    step_valid(b, kind, item, minutes)
 }
 
-// The closing, on a valid cache: 9 if it is closed. It flushes, is no step, and closes.
-fn shut_valid(c: Cache) -> Reply
-    requires { ⌜ Valid c ⌝ }
-    ensures { λ r. ⌜ Answers c close r ⌝ }
+// ---- the closing
+
+// On a valid state: 9 if it is closed. It flushes, is no step, and closes.
+fn close_valid(b: &mut [u8]) -> u32
+    requires { ⌜ ValidBytes (now b) ⌝ }
+    ensures { λ r. ⌜ Answers lent (now (b .entry)) close r (now (b .exit)) ⌝ }
 {
-    if c.closed {
-        return Reply {
-            number: 9,
-            cache: c,
-        };
+    if layout::closed(b) {
+        return 9;
     }
-    let mut q = cache_serve::flush(c);
-    q.closed = true;
-    Reply {
-        number: 0,
-        cache: q,
-    }
+    cache_serve::flush(b);
+    layout::put_closed(b, true);
+    0
 }
 
-// The closing, on any cache: 17 if it is invalid, else as on a valid one.
-pub fn shut(c: Cache) -> Reply
-    ensures { λ r. ⌜ Called c close r ⌝ }
+// On any bytes: 17 if they are no valid state, else as on a valid one.
+pub fn close(b: &mut [u8]) -> u32
+    ensures { λ r. ⌜ Called lent (now (b .entry)) close r (now (b .exit)) ⌝ }
 {
-    if !cache_state::valid(c) {
-        return Reply {
-            number: 17,
-            cache: c,
-        };
+    if !cache_check::valid(b) {
+        return 17;
     }
-    shut_valid(c)
+    close_valid(b)
 }
 
-// Whether each of the first `n` items has 1 to 16 blocks.
-fn blocks_ok(n: usize, blocks: [u8; 256]) -> bool
-    requires { ⌜ n ≤ 256 ⌝ }
-    ensures { λ r. ⌜ Decided (BlocksOk n blocks) r ⌝ }
+// ---- the opening
+
+// Whether each of the first `n` items of a catalog has 1 to 16 blocks.
+fn blocks_ok(catalog: &[u8], n: usize) -> bool
+    requires { ⌜ Whole n (now catalog) ⌝ }
+    ensures { λ r. ⌜ Decided (BlocksIn n (now (catalog .entry))) r ⌝ }
 {
     let mut i = 0;
     while i < n {
-        if blocks[i] < 1 {
+        let blocks = catalog_bytes::blocks(catalog, i);
+        if blocks < 1 {
             return false;
         }
-        if 16 < blocks[i] {
+        if 16 < blocks {
             return false;
         }
-        i = i + 1;
+        i += 1;
     }
     true
 }
 
-// Whether an opening is accepted. The costs are in range by their width.
-fn opens(k: u32, n: usize, blocks: [u8; 256]) -> bool
-    ensures { λ r. ⌜ Decided (Opens k n blocks) r ⌝ }
+// The refusal of an opening: the state's length comes first (17), then the catalog's, the capacity and the blocks (3); 0 if all are
+// right. The costs are in range by their width.
+fn opening_refused(size: usize, k: u32, catalog: &[u8]) -> u32
+    ensures { λ r. ⌜ r ≡ openingNumber size k (now (catalog .entry)) ⌝ }
 {
+    if size != layout::STATE_BYTES {
+        return 17;
+    }
+    if catalog.len() % 5 != 0 {
+        return 3;
+    }
+    if 1280 < catalog.len() {
+        return 3;
+    }
     if k < 1 {
-        return false;
+        return 3;
     }
     if 4096 < k {
-        return false;
+        return 3;
     }
-    if 256 < n {
-        return false;
+    if blocks_ok(catalog, catalog.len() / 5) {
+        0
+    } else {
+        3
     }
-    blocks_ok(n, blocks)
 }
 
-// The first `n` of the bytes, and 0 past them.
-fn first_bytes(n: usize, xs: [u8; 256]) -> [u8; 256]
-    requires { ⌜ n ≤ 256 ⌝ }
-    ensures { λ r. ⌜ FirstOf n xs r ⌝ }
+// Stores the first `n` items of a catalog in their places.
+fn put_items(b: &mut [u8], catalog: &[u8], n: usize)
+    requires { ⌜ Enterable (now b) n (now catalog) ⌝ }
+    ensures { λ _. ⌜ Stands (now (b .exit)) (enteredOf (cacheOf (now (b .entry))) (now (catalog .entry)) n) ⌝ }
 {
-    let mut out = [0u8; 256];
     let mut i = 0;
     while i < n {
-        out[i] = xs[i];
-        i = i + 1;
+        layout::put_blocks(b, i, catalog_bytes::blocks(catalog, i));
+        layout::put_item_load_cost(b, i, catalog_bytes::load_cost(catalog, i));
+        layout::put_item_write_cost(b, i, catalog_bytes::write_cost(catalog, i));
+        i += 1;
     }
-    out
 }
 
-// The first `n` of the costs, and 0 past them.
-fn first_costs(n: usize, xs: [u16; 256]) -> [u16; 256]
-    requires { ⌜ n ≤ 256 ⌝ }
-    ensures { λ r. ⌜ FirstOf n xs r ⌝ }
+// Opens the state for a cache of `k` blocks and the items of the catalog, five bytes each; what the bytes held is not looked at.
+pub fn open(b: &mut [u8], k: u32, catalog: &[u8]) -> u32
+    ensures { λ r. ⌜ OpenedLent (now (b .entry)) k (now (catalog .entry)) r (now (b .exit)) ⌝ }
 {
-    let mut out = [0u16; 256];
-    let mut i = 0;
-    while i < n {
-        out[i] = xs[i];
-        i = i + 1;
+    let number = opening_refused(b.len(), k, catalog);
+    if number != 0 {
+        return number;
     }
-    out
+    let n = catalog.len() / 5;
+    layout::clear(b);
+    layout::put_capacity(b, k);
+    layout::put_count(b, n);
+    put_items(b, catalog, n);
+    0
 }
 
-// A cache in which nothing is held and nothing counted.
-fn empty(
-    k: u32,
-    n: usize,
-    blocks: [u8; 256],
-    load: [u16; 256],
-    write: [u16; 256],
-    closed: bool,
-) -> Cache
-    ensures { λ r. ⌜ r ≡ emptyOf k n blocks load write closed ⌝ }
-{
-    Cache {
-        k: k,
-        n: n,
-        blocks: blocks,
-        load: load,
-        write: write,
-        held: [false; 256],
-        loadcredit: [0; 256],
-        writecredit: [0; 256],
-        dirty: [0; 4],
-        tenths: [0; 256],
-        itemloads: [0; 256],
-        itemwritebacks: [0; 256],
-        steps: 0,
-        hits: 0,
-        loads: 0,
-        loadcost: 0,
-        evictions: 0,
-        dirtyevictions: 0,
-        writebacks: 0,
-        writecost: 0,
-        flushes: 0,
-        closed: closed,
-    }
-}
+// ---- a list of calls
 
-// Opens a cache of `k` blocks for the first `n` items of the three arrays; entries past them are not looked at. Refused (3),
-// it gives a closed cache of 1 block with no items.
-pub fn open(k: u32, n: usize, blocks: [u8; 256], load: [u16; 256], write: [u16; 256]) -> Reply
-    ensures { λ r. ⌜ Opened k (catalogFrom n blocks load write) r ⌝ }
-{
-    if opens(k, n, blocks) {
-        let b = first_bytes(n, blocks);
-        let l = first_costs(n, load);
-        let w = first_costs(n, write);
-        return Reply {
-            number: 0,
-            cache: empty(k, n, b, l, w, false),
-        };
-    }
-    Reply {
-        number: 3,
-        cache: empty(1, 0, [0; 256], [0; 256], [0; 256], true),
-    }
-}
-
-// The answer that a number stands for.
-fn answer_to(number: u32) -> Answer
-    ensures { λ r. ⌜ r ≡ answerTo number ⌝ }
-{
-    if number == 0 {
-        return Answer::Taken;
-    }
-    if number == 3 {
-        return Answer::Refused(Refusal::OutOfRange { line: 0 });
-    }
-    if number == 6 {
-        return Answer::Refused(Refusal::UnknownItem { line: 0 });
-    }
-    if number == 7 {
-        return Answer::Refused(Refusal::ItemTooLarge { line: 0 });
-    }
-    if number == 8 {
-        return Answer::Refused(Refusal::LogFull { line: 0 });
-    }
-    if number == 9 {
-        return Answer::Refused(Refusal::Closed { line: 0 });
-    }
-    Answer::Refused(Refusal::InvalidState { line: 0 })
-}
-
-impl Ledger {
-    // Opens a cache of `k` blocks for the first `n` items of the arrays.
-    pub fn open(
-        k: u32,
-        n: usize,
-        blocks: [u8; 256],
-        load: [u16; 256],
-        write: [u16; 256],
-    ) -> Answered
-        ensures { λ r. ⌜ OpenedBy k (catalogFrom n blocks load write) r ⌝ }
-    {
-        let r = open(k, n, blocks, load, write);
-        let next = r.cache;
-        let number = r.number;
-        Answered {
-            answer: answer_to(number),
-            ledger: Ledger { cache: next },
-        }
-    }
-
-    // Takes one step.
-    pub fn step(self, s: Step) -> Answered
-        ensures { λ r. ⌜ CalledBy (self .cache) (callOf s) r ⌝ }
-    {
-        let c = self.cache;
-        let r = take(c, s.kind(), s.item(), s.minutes());
-        let next = r.cache;
-        let number = r.number;
-        Answered {
-            answer: answer_to(number),
-            ledger: Ledger { cache: next },
-        }
-    }
-
-    // Closes the log: what is dirty is written back.
-    pub fn close(self) -> Answered
-        ensures { λ r. ⌜ CalledBy (self .cache) close r ⌝ }
-    {
-        let c = self.cache;
-        let r = shut(c);
-        let next = r.cache;
-        let number = r.number;
-        Answered {
-            answer: answer_to(number),
-            ledger: Ledger { cache: next },
-        }
-    }
-}
-
-// A call from four numbers, on a valid cache: 0 and then a step's kind, item and minutes; or another number, and it is the
-// closing.
-fn call(c: Cache, which: u32, kind: u32, item: u32, minutes: u32) -> Reply
-    requires { ⌜ Valid c ⌝ }
-    ensures { λ r. ⌜ Answers c (callFrom which kind item minutes) r ⌝ }
+// A call from four numbers, on a valid state: 0 and then a step's kind, item and minutes; or another number, and it is the closing.
+fn call(b: &mut [u8], which: u32, kind: u32, item: u32, minutes: u32) -> u32
+    requires { ⌜ ValidBytes (now b) ⌝ }
+    ensures { λ r. ⌜ Answers lent (now (b .entry)) (callFrom which kind item minutes) r (now (b .exit)) ⌝ }
 {
     if which == 0 {
-        return take_valid(c, kind, item, minutes);
+        return step_valid(b, kind, item, minutes);
     }
-    shut_valid(c)
+    close_valid(b)
 }
 
 // Notes the answer to call `i`, if there is a place for it.
-pub fn note(answers: &mut [u32], i: usize, number: u32)
+fn note(answers: &mut [u32], i: usize, number: u32)
     ensures { λ _. ⌜ now (answers .exit) ≡ set (now (answers .entry)) i number ⌝ }
 {
     if i < answers.len() {
@@ -374,51 +227,32 @@ pub fn note(answers: &mut [u32], i: usize, number: u32)
     }
 }
 
-// Makes the calls that the numbers stand for, four to a call; a remainder is no call. A call on a valid cache hands back a
-// valid one, so none of them tests it again.
-fn run_calls(c: Cache, calls: &[u32], answers: &mut [u32]) -> Cache
-    requires { ⌜ Valid c ⌝ }
-    ensures { λ r. ⌜ RanCalls c (callsOf (now (calls .entry))) (now (answers .entry)) (now (answers .exit)) r ⌝ }
+// Makes the calls that the numbers stand for, four to a call; a remainder is no call. A call on a valid state leaves a valid one, so
+// none of them tests it again. The answers are noted as far as there is place.
+pub fn run_calls(b: &mut [u8], calls: &[u32], answers: &mut [u32])
+    requires { ⌜ ValidBytes (now b) ⌝ }
+    ensures { λ _. ⌜ RanCalls lent (now (b .entry)) (callsOf (now (calls .entry))) (now (answers .entry)) (now (answers .exit)) (now (b .exit)) ⌝ }
+    ensures { λ _. ⌜ ValidBytes (now (b .exit)) ⌝ }
 {
     let count = calls.len() / 4;
-    let mut q = c;
     let mut at = 0;
     let mut i = 0;
     while i < count {
-        let r = call(q, calls[at], calls[at + 1], calls[at + 2], calls[at + 3]);
-        let next = r.cache;
-        q = next;
-        note(answers, i, r.number);
-        at = at + 4;
-        i = i + 1;
+        let number = call(b, calls[at], calls[at + 1], calls[at + 2], calls[at + 3]);
+        note(answers, i, number);
+        at += 4;
+        i += 1;
     }
-    q
 }
 
-// A whole list of calls from an opening on. The answers are noted as far as there is place; the reply has the opening's number
-// and the cache after the last call.
-pub fn run(
-    k: u32,
-    n: usize,
-    blocks: [u8; 256],
-    load: [u16; 256],
-    write: [u16; 256],
-    calls: &[u32],
-    answers: &mut [u32],
-) -> Reply
-    ensures { λ r. ⌜ Ran k (catalogFrom n blocks load write) (callsOf (now (calls .entry))) (now (answers .entry)) (now (answers .exit)) r ⌝ }
+// A whole list of calls on lent bytes, from an opening on; it answers the opening's number.
+pub fn run(b: &mut [u8], k: u32, catalog: &[u8], calls: &[u32], answers: &mut [u32]) -> u32
+    ensures { λ r. ⌜ RanLent (now (b .entry)) k (now (catalog .entry)) (callsOf (now (calls .entry))) (now (answers .entry)) (now (answers .exit)) r (now (b .exit)) ⌝ }
 {
-    let first = open(k, n, blocks, load, write);
-    let number = first.number;
-    let c = first.cache;
+    let number = open(b, k, catalog);
     if number != 0 {
-        return Reply {
-            number: number,
-            cache: c,
-        };
+        return number;
     }
-    Reply {
-        number: 0,
-        cache: run_calls(c, calls, answers),
-    }
+    run_calls(b, calls, answers);
+    0
 }

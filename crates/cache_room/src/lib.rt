@@ -113,7 +113,11 @@ pub fn evict(b: &mut [u8], n: usize) -> u8
 {
     let v = victim(b, n);
     let blocks = layout::blocks(b, v);
-    let least = rank(layout::load_credit(b, v), layout::write_credit(b, v), blocks);
+    let least = rank(
+        layout::load_credit(b, v),
+        layout::write_credit(b, v),
+        blocks,
+    );
     let dirty = marks::is_marked(layout::dirty(b), v);
     charge(b, n, least);
     drop_item(b, v);
