@@ -9,7 +9,7 @@ use Rattle.cache_state.specs.View.{view}
 use Rattle.layout.specs.Layout.{cacheOf}
 use Rattle.report.specs.declared.Rival.the-variants.{Absent}
 use Rattle.report.specs.Report.{reportOf}
-use Rattle.recorder.specs.Lent.{ValidBytes}
+use Rattle.layout.specs.Stands.{ValidBytes}
 
 -- A text put on the page: 0 and its length in the length's place, or 15 with page and place as before.
 pub record PutLent (t before : List ℕ) (was number : ℕ) (after : List ℕ) (told : ℕ) : Type 0 where
@@ -20,4 +20,4 @@ pub record PutLent (t before : List ℕ) (was number : ℕ) (after : List ℕ) (
 -- the report of a state alone: "a report 17, 15"
 pub record ReportedLent (b before : List ℕ) (was number : ℕ) (after : List ℕ) (told : ℕ) : Type 0 where
   pub fine : ValidBytes b → PutLent (reportOf (view (cacheOf b)) Absent) before was number after told
-  pub foul : (ValidBytes b → ⊥) → (number ≡ 17) × (after ≡ before) × (told ≡ was)
+  pub invalid : (ValidBytes b → ⊥) → (number ≡ 17) × (after ≡ before) × (told ≡ was)

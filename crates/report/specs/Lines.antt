@@ -2,8 +2,7 @@
 use mathlib.Core.List.{List, _++_}
 use Prim.Native.Nat.{ℕ, _≤_}
 use lib.ListN.{length, drop}
-use Rattle.cache_state.specs.Cache.{Cache}
-use Rattle.cache_state.specs.Valid.{Valid}
+use Rattle.layout.specs.Stands.{ValidBytes}
 use Rattle.report.specs.declared.Rival.{Rival}
 use Rattle.report.specs.declared.Rival.the-variants.{Absent, Priced}
 
@@ -11,9 +10,9 @@ use Rattle.report.specs.declared.Rival.the-variants.{Absent, Priced}
 abbrev pub over : List ℕ → List ℕ → List ℕ
 over t page = t ++ drop (length t) page
 
--- a text about a valid cache, for which a page has room
-pub record TextFits (c : Cache) (t page : List ℕ) : Type 0 where
-  pub valid : Valid c
+-- a text about a valid state, for which a page has room
+pub record TextFits (b t page : List ℕ) : Type 0 where
+  pub valid : ValidBytes b
   pub room : length t ≤ length page
 
 -- how many numbers the last line has

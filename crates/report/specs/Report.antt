@@ -10,9 +10,9 @@ use Rattle.landlord.specs.declared.Refusal.{Refusal}
 use Rattle.landlord.specs.declared.Refusal.the-variants.{ShortBuffer, InvalidState}
 use Rattle.landlord.specs.Types.{refusalNumber, refusalLine}
 use Rattle.landlord.specs.Figures.{Use, Standing, totalCost}
-use Rattle.cache_state.specs.Cache.{Cache}
 use Rattle.cache_state.specs.View.{view}
-use Rattle.cache_state.specs.Valid.{Valid}
+use Rattle.layout.specs.Layout.{cacheOf}
+use Rattle.layout.specs.Stands.{ValidBytes}
 use Rattle.report.specs.declared.Rival.{Rival}
 use Rattle.report.specs.declared.Rival.the-variants.{Absent, Priced}
 use Rattle.report.specs.declared.Written.{Written}
@@ -84,9 +84,9 @@ pub record Put (t before : List ℕ) (r : Written) (after : List ℕ) : Type 0 w
   pub page : after ≡ pageOf t before
 
 -- "a report 17, 15"
-pub record Reported (c : Cache) (rival : Rival) (before : List ℕ) (r : Written) (after : List ℕ) : Type 0 where
-  pub fine : Valid c → Put (reportOf (view c) rival) before r after
-  pub foul : (Valid c → ⊥) → (r ≡ Refused (InvalidState 0)) × (after ≡ before)
+pub record Reported (b : List ℕ) (rival : Rival) (before : List ℕ) (r : Written) (after : List ℕ) : Type 0 where
+  pub fine : ValidBytes b → Put (reportOf (view (cacheOf b)) rival) before r after
+  pub invalid : (ValidBytes b → ⊥) → (r ≡ Refused (InvalidState 0)) × (after ≡ before)
 
 -- The bytes of the longest report there can be: 29 and 1 of item names and blank line, 256 item lines of at most 30, 81 of names,
 -- 8 totals of at most 69 digits together, 3 figures of a rival of at most 20 each, and 11 bytes behind these numbers.

@@ -1,14 +1,14 @@
-// The report of a cache on a lent page, and the two numbers of a refused input. The whole length is known before the first byte is
+// The report of a state on a lent page, and the two numbers of a refused input. The whole length is known before the first byte is
 // written, so a page that is too short is left as it was; then each line is written into what remains of the page.
 ghost use mathlib.Core.Path.{_≡_};
 ghost use mathlib.Core.List.{_++_};
 ghost use Prim.Native.Nat.{_≤_, _<_};
 ghost use lib.ListN.{length, take};
 ghost use Rattle.cache_state.specs.View.{view, usageOf, usesOf};
-ghost use Rattle.cache_state.specs.Valid.{Valid};
+ghost use Rattle.layout.specs.Layout.{stateBytes, cacheOf};
+ghost use Rattle.layout.specs.Stands.{ValidBytes};
 ghost use Rattle.report.specs.Report.{lineOf, itemNumbers, itemLines, totalNumbers, totalLines, reportOf, refusalText, Put, Reported, longest};
 ghost use Rattle.report.specs.Lines.{over, TextFits, figureCount};
-use cache_state::Cache;
 use landlord::Refusal;
 
 // The bytes of the longest report there can be, with or without a rival's figures.
@@ -96,28 +96,28 @@ fn wide(x: u32) -> u64
 }
 
 // The numbers of an item's line.
-fn item_numbers(c: Cache, i: usize) -> [u64; 4]
-    requires { ⌜ i < 256 ⌝ }
-    ensures { λ r. ⌜ r ≡ itemNumbers i (usageOf c i) ⌝ }
+fn item_numbers(b: &[u8], i: usize) -> [u64; 4]
+    requires { ⌜ (length (now b) ≡ stateBytes) × (i < 256) ⌝ }
+    ensures { λ r. ⌜ r ≡ itemNumbers i (usageOf (cacheOf (now (b .entry))) i) ⌝ }
 {
     [
         i as u64,
-        wide(c.tenths[i]),
-        wide(c.itemloads[i]),
-        wide(c.itemwritebacks[i]),
+        wide(layout::tenths(b, i)),
+        wide(layout::item_loads(b, i)),
+        wide(layout::item_writebacks(b, i)),
     ]
 }
 
 // How many bytes the items' lines have.
-fn items_length(c: Cache) -> usize
-    requires { ⌜ Valid c ⌝ }
-    ensures { λ r. ⌜ r ≡ length (itemLines 0 (usesOf c)) ⌝ }
+fn items_length(b: &[u8]) -> usize
+    requires { ⌜ ValidBytes (now b) ⌝ }
+    ensures { λ r. ⌜ r ≡ length (itemLines 0 (usesOf (cacheOf (now (b .entry))))) ⌝ }
 {
-    let n = c.n;
+    let n = layout::count(b);
     let mut sum = 0;
     let mut i = 0;
     while i < n {
-        let line = item_numbers(c, i);
+        let line = item_numbers(b, i);
         sum += line_length(&line);
         i += 1;
     }
@@ -125,16 +125,16 @@ fn items_length(c: Cache) -> usize
 }
 
 // Writes the items' lines at the start of the page, which has room for them.
-fn put_items(page: &mut [u8], c: Cache) -> usize
-    requires { ⌜ TextFits c (itemLines 0 (usesOf c)) (now page) ⌝ }
-    ensures { λ r. ⌜ r ≡ length (itemLines 0 (usesOf c)) ⌝ }
-    ensures { λ r. ⌜ now (page .exit) ≡ over (itemLines 0 (usesOf c)) (now (page .entry)) ⌝ }
+fn put_items(page: &mut [u8], b: &[u8]) -> usize
+    requires { ⌜ TextFits (now b) (itemLines 0 (usesOf (cacheOf (now b)))) (now page) ⌝ }
+    ensures { λ r. ⌜ r ≡ length (itemLines 0 (usesOf (cacheOf (now (b .entry))))) ⌝ }
+    ensures { λ r. ⌜ now (page .exit) ≡ over (itemLines 0 (usesOf (cacheOf (now (b .entry))))) (now (page .entry)) ⌝ }
 {
-    let n = c.n;
+    let n = layout::count(b);
     let mut at = 0;
     let mut i = 0;
     while i < n {
-        let line = item_numbers(c, i);
+        let line = item_numbers(b, i);
         at += put_line(&mut page[at..], &line);
         i += 1;
     }
@@ -142,31 +142,31 @@ fn put_items(page: &mut [u8], c: Cache) -> usize
 }
 
 // The numbers of the last line, eight and three; without a rival the last three are not printed.
-fn figures(c: Cache, rival: Rival) -> [u64; 11]
-    requires { ⌜ Valid c ⌝ }
-    ensures { λ r. ⌜ take (figureCount rival) r ≡ totalNumbers (view c) rival ⌝ }
+fn figures(b: &[u8], rival: Rival) -> [u64; 11]
+    requires { ⌜ ValidBytes (now b) ⌝ }
+    ensures { λ r. ⌜ take (figureCount rival) r ≡ totalNumbers (view (cacheOf (now (b .entry)))) rival ⌝ }
 {
     let mut cost: u64 = 0;
     let mut left: u64 = 0;
     let mut right: u64 = 0;
     if let Rival::Priced {
         cost: a,
-        left: b,
-        right: d,
+        left: d,
+        right: e,
     } = rival {
         cost = a;
-        left = b;
-        right = d;
+        left = d;
+        right = e;
     }
     [
-        wide(c.hits),
-        wide(c.loads),
-        c.loadcost,
-        wide(c.evictions),
-        wide(c.dirtyevictions),
-        wide(c.writebacks),
-        c.writecost,
-        c.loadcost + c.writecost,
+        wide(layout::hits(b)),
+        wide(layout::loads(b)),
+        layout::load_cost(b),
+        wide(layout::evictions(b)),
+        wide(layout::dirty_evictions(b)),
+        wide(layout::writebacks(b)),
+        layout::write_cost(b),
+        layout::load_cost(b) + layout::write_cost(b),
         cost,
         left,
         right,
@@ -174,12 +174,12 @@ fn figures(c: Cache, rival: Rival) -> [u64; 11]
 }
 
 // How many bytes the last two lines have: the names, and the numbers.
-fn totals_length(c: Cache, rival: Rival) -> usize
-    requires { ⌜ Valid c ⌝ }
-    ensures { λ r. ⌜ r ≡ length (totalLines (view c) rival) ⌝ }
+fn totals_length(b: &[u8], rival: Rival) -> usize
+    requires { ⌜ ValidBytes (now b) ⌝ }
+    ensures { λ r. ⌜ r ≡ length (totalLines (view (cacheOf (now (b .entry)))) rival) ⌝ }
     ensures { λ r. ⌜ r ≤ 312 ⌝ }
 {
-    let numbers = figures(c, rival);
+    let numbers = figures(b, rival);
     match rival {
         Rival::Absent => 64 + line_length(&numbers[..8]),
         Rival::Priced {
@@ -191,11 +191,11 @@ fn totals_length(c: Cache, rival: Rival) -> usize
 }
 
 // Writes the last two lines at the start of the page, which has room for them.
-fn put_totals(page: &mut [u8], c: Cache, rival: Rival)
-    requires { ⌜ TextFits c (totalLines (view c) rival) (now page) ⌝ }
-    ensures { λ _. ⌜ now (page .exit) ≡ over (totalLines (view c) rival) (now (page .entry)) ⌝ }
+fn put_totals(page: &mut [u8], b: &[u8], rival: Rival)
+    requires { ⌜ TextFits (now b) (totalLines (view (cacheOf (now b))) rival) (now page) ⌝ }
+    ensures { λ _. ⌜ now (page .exit) ≡ over (totalLines (view (cacheOf (now (b .entry)))) rival) (now (page .entry)) ⌝ }
 {
-    let numbers = figures(c, rival);
+    let numbers = figures(b, rival);
     match rival {
         Rival::Absent => put_table(
             page,
@@ -214,37 +214,38 @@ fn put_totals(page: &mut [u8], c: Cache, rival: Rival)
     }
 }
 
-// How many bytes the report of a valid cache has.
-fn report_length(c: Cache, rival: Rival) -> usize
-    requires { ⌜ Valid c ⌝ }
-    ensures { λ r. ⌜ r ≡ length (reportOf (view c) rival) ⌝ }
+// How many bytes the report of a valid state has.
+fn report_length(b: &[u8], rival: Rival) -> usize
+    requires { ⌜ ValidBytes (now b) ⌝ }
+    ensures { λ r. ⌜ r ≡ length (reportOf (view (cacheOf (now (b .entry)))) rival) ⌝ }
 {
-    30 + items_length(c) + totals_length(c, rival)
+    30 + items_length(b) + totals_length(b, rival)
 }
 
-// Writes the report of a valid cache at the start of the page, which has room for it.
-fn put_report(page: &mut [u8], c: Cache, rival: Rival)
-    requires { ⌜ TextFits c (reportOf (view c) rival) (now page) ⌝ }
-    ensures { λ _. ⌜ now (page .exit) ≡ over (reportOf (view c) rival) (now (page .entry)) ⌝ }
+// Writes the report of a valid state at the start of the page, which has room for it.
+fn put_report(page: &mut [u8], b: &[u8], rival: Rival)
+    requires { ⌜ TextFits (now b) (reportOf (view (cacheOf (now b))) rival) (now page) ⌝ }
+    ensures { λ _. ⌜ now (page .exit) ≡ over (reportOf (view (cacheOf (now (b .entry)))) rival) (now (page .entry)) ⌝ }
 {
     let mut at = put_text(page, b"sail tenths loads writebacks\n");
-    at += put_items(&mut page[at..], c);
+    at += put_items(&mut page[at..], b);
     at += put_text(&mut page[at..], b"\n");
-    put_totals(&mut page[at..], c, rival);
+    put_totals(&mut page[at..], b, rival);
 }
 
-// The report of a cache, open or closed: 17 if it is invalid, 15 if the page is too short, else the text at the start of the page.
-pub fn report(c: Cache, rival: Rival, page: &mut [u8]) -> Written
-    ensures { λ r. ⌜ Reported c rival (now (page .entry)) r (now (page .exit)) ⌝ }
+// The report of a state, open or closed: 17 if the bytes are no valid state, 15 if the page is too short, else the text at the start
+// of the page.
+pub fn report(b: &[u8], rival: Rival, page: &mut [u8]) -> Written
+    ensures { λ r. ⌜ Reported (now (b .entry)) rival (now (page .entry)) r (now (page .exit)) ⌝ }
 {
-    if !cache_state::valid(c) {
+    if !cache_check::valid(b) {
         return Written::Refused(Refusal::InvalidState { line: 0 });
     }
-    let needed = report_length(c, rival);
+    let needed = report_length(b, rival);
     if page.len() < needed {
         return Written::Refused(Refusal::ShortBuffer { line: 0 });
     }
-    put_report(page, c, rival);
+    put_report(page, b, rival);
     Written::Text(needed)
 }
 

@@ -8,12 +8,13 @@ use season_lines::Field;
 use season_tables::Scanned;
 use season_tables::Verdict;
 
-// Reads the tables up to the first faulty line. The steps are noted in `calls`, four numbers each, and the acts in `acts`, three.
-pub fn scan(s: &[u8], calls: &mut [u32], acts: &mut [u32]) -> Scanned
-    requires { ⌜ Scannable (now s) (now calls) (now acts) ⌝ }
-    ensures { λ r. ⌜ Leads (readingOf (now (s .entry))) r (now (calls .exit)) (now (acts .exit)) ⌝ }
+// Reads the tables up to the first faulty line. The items are noted in `catalog`, five bytes each, the steps in `calls`, four numbers
+// each, and the acts in `acts`, three.
+pub fn scan(s: &[u8], catalog: &mut [u8], calls: &mut [u32], acts: &mut [u32]) -> Scanned
+    requires { ⌜ Scannable (now s) (now catalog) (now calls) (now acts) ⌝ }
+    ensures { λ r. ⌜ Leads (readingOf (now (s .entry))) r (now (catalog .exit)) (now (calls .exit)) (now (acts .exit)) ⌝ }
     ensures { λ r. ⌜ Few (readingOf (now (s .entry))) r ⌝ }
-    ensures { λ _. ⌜ Roomy (now (calls .exit)) (now (acts .exit)) ⌝ }
+    ensures { λ _. ⌜ Roomy (now (catalog .exit)) (now (calls .exit)) (now (acts .exit)) ⌝ }
 {
     let mut seen = season_tables::at_start();
     let mut at = 0;
@@ -42,7 +43,16 @@ pub fn scan(s: &[u8], calls: &mut [u32], acts: &mut [u32]) -> Scanned
             more = j < end;
             i = j + 1;
         }
-        let next = season_tables::lead(seen, &s[at..end], fields, count, line, calls, acts);
+        let next = season_tables::lead(
+            seen,
+            &s[at..end],
+            fields,
+            count,
+            line,
+            catalog,
+            calls,
+            acts,
+        );
         let verdict = next.verdict;
         if let Verdict::Refused(_) = verdict {
             break next;

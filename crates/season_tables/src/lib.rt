@@ -8,28 +8,25 @@ ghost use lib.Dec.{eqb};
 ghost use Rattle.landlord.specs.declared.Step.the-variants.{Read};
 ghost use Rattle.landlord.specs.declared.Refusal.the-variants.{Malformed, Heading};
 ghost use Rattle.landlord.specs.Calls.{itemRefusal};
-ghost use Rattle.cache.specs.Contract.{catalogFrom};
+ghost use Rattle.catalog_bytes.specs.Catalogs.{catalogOfFirst};
 ghost use Rattle.season_lines.specs.declared.Line.the-variants.{Sizes, Item as ItemLine, Step as StepLine, Act as ActLine};
 ghost use Rattle.season_tables.specs.declared.Verdict.the-variants.{Taken, Refused};
 ghost use Rattle.season_tables.specs.Tables.{on, stop, heading, sameBytes, mayEnd, mustEnd, nowNamed, nextTable, takes, atEnd};
-ghost use Rattle.season_tables.specs.Holds.{Begins, LeadsFrom, LeadsBy, NotesStep, NotesAct, LineLeads, Roomy, Takeable, Leadable, wantsValues, callNumbers, actNumbers, putAt};
+ghost use Rattle.season_tables.specs.Holds.{Begins, LeadsFrom, LeadsBy, NotesItem, NotesStep, NotesAct, LineLeads, Roomy, Takeable, Leadable, wantsValues, callNumbers, actNumbers, putAt};
 use landlord::Act;
 use landlord::Refusal;
 use landlord::Step;
 use season_lines::Field;
 use season_lines::Line;
 
-// What has been read: in which table, and whether behind its line of names; the sizes, k 0 before they are read; the catalog;
-// how many steps and acts, and the place of the last act.
+// What has been read: in which table, and whether behind its line of names; the sizes, k 0 before they are read; how many items,
+// steps and acts, which stand in lent slices; and the place of the last act.
 pub struct Seen {
     pub table: u32,
     pub named: bool,
     pub k: u32,
     pub h: u32,
     pub n: usize,
-    pub blocks: [u8; 256],
-    pub load: [u16; 256],
-    pub write: [u16; 256],
     pub steps: usize,
     pub acts: usize,
     pub last: u32,
@@ -123,9 +120,6 @@ pub fn at_start() -> Seen
         k: 0,
         h: 0,
         n: 0,
-        blocks: [0; 256],
-        load: [0; 256],
-        write: [0; 256],
         steps: 0,
         acts: 0,
         last: 0,
@@ -188,45 +182,52 @@ fn take_sizes(seen: Seen, k: u32, h: u32, at: u32) -> Scanned
     taken(q)
 }
 
-fn take_item(seen: Seen, number: u32, blocks: u8, load: u16, write: u16, at: u32) -> Scanned
-    requires { ⌜ number ≤ 255 ⌝ }
-    ensures { λ r. ⌜ LeadsBy seen (λ v. takes v (ItemLine number blocks load write) at) r ⌝ }
+fn take_item(
+    seen: Seen,
+    number: u32,
+    blocks: u8,
+    load: u16,
+    write: u16,
+    at: u32,
+    catalog: &mut [u8],
+) -> Scanned
+    requires { ⌜ (number ≤ 255) × (length (now catalog) ≡ 1280) ⌝ }
+    ensures { λ r. ⌜ NotesItem seen (now (catalog .entry)) (λ v. takes v (ItemLine number blocks load write) at) r (now (catalog .exit)) ⌝ }
+    ensures { λ _. ⌜ length (now (catalog .exit)) ≡ length (now (catalog .entry)) ⌝ }
 {
     let i = number as usize;
     if i != seen.n {
         return stopped(seen, Refusal::OutOfSequence { line: at });
     }
+    catalog_bytes::put(catalog, i, blocks, load, write);
     let mut q = seen;
-    q.blocks[i] = blocks;
-    q.load[i] = load;
-    q.write[i] = write;
     q.n = i + 1;
     taken(q)
 }
 
 // The number that the table of refusals gives the item of a step: 6, 7, or 0.
-fn item_refused(seen: Seen, item: u32) -> u32
-    requires { ⌜ seen .n ≤ 256 ⌝ }
-    ensures { λ r. ⌜ r ≡ itemRefusal (seen .k) (catalogFrom (seen .n) (seen .blocks) (seen .load) (seen .write)) (Read item) ⌝ }
+fn item_refused(seen: Seen, catalog: &[u8], item: u32) -> u32
+    requires { ⌜ (seen .n ≤ 256) × (length (now catalog) ≡ 1280) ⌝ }
+    ensures { λ r. ⌜ r ≡ itemRefusal (seen .k) (catalogOfFirst (seen .n) (now (catalog .entry))) (Read item) ⌝ }
 {
     let i = item as usize;
     if seen.n <= i {
         return 6;
     }
-    if seen.k < (seen.blocks[i] as u32) {
+    if seen.k < (catalog_bytes::blocks(catalog, i) as u32) {
         return 7;
     }
     0
 }
 
 // And a step: a flush has no item.
-fn step_refused(seen: Seen, step: Step) -> u32
-    requires { ⌜ seen .n ≤ 256 ⌝ }
-    ensures { λ r. ⌜ r ≡ itemRefusal (seen .k) (catalogFrom (seen .n) (seen .blocks) (seen .load) (seen .write)) step ⌝ }
+fn step_refused(seen: Seen, catalog: &[u8], step: Step) -> u32
+    requires { ⌜ (seen .n ≤ 256) × (length (now catalog) ≡ 1280) ⌝ }
+    ensures { λ r. ⌜ r ≡ itemRefusal (seen .k) (catalogOfFirst (seen .n) (now (catalog .entry))) step ⌝ }
 {
     match step {
-        Step::Read { item } => item_refused(seen, item),
-        Step::Write { item, minutes: _ } => item_refused(seen, item),
+        Step::Read { item } => item_refused(seen, catalog, item),
+        Step::Write { item, minutes: _ } => item_refused(seen, catalog, item),
         Step::Flush => 0,
     }
 }
@@ -242,12 +243,12 @@ fn put_step(calls: &mut [u32], i: usize, step: Step)
     calls[i + 3] = step.minutes();
 }
 
-fn take_step(seen: Seen, step: Step, at: u32, calls: &mut [u32]) -> Scanned
-    requires { ⌜ (seen .n ≤ 256) × (4 * seen .steps ≤ 43688) × (length (now calls) ≡ 43692) ⌝ }
-    ensures { λ r. ⌜ NotesStep seen (now (calls .entry)) (λ v. takes v (StepLine step) at) r (now (calls .exit)) ⌝ }
+fn take_step(seen: Seen, step: Step, at: u32, catalog: &[u8], calls: &mut [u32]) -> Scanned
+    requires { ⌜ (seen .n ≤ 256) × (length (now catalog) ≡ 1280) × (4 * seen .steps ≤ 43688) × (length (now calls) ≡ 43692) ⌝ }
+    ensures { λ r. ⌜ NotesStep seen (now (catalog .entry)) (now (calls .entry)) (λ v. takes v (StepLine step) at) r (now (calls .exit)) ⌝ }
     ensures { λ _. ⌜ length (now (calls .exit)) ≡ length (now (calls .entry)) ⌝ }
 {
-    let number = step_refused(seen, step);
+    let number = step_refused(seen, catalog, step);
     if number == 6 {
         return stopped(seen, Refusal::UnknownItem { line: at });
     }
@@ -293,10 +294,17 @@ fn take_act(seen: Seen, place: u32, act: Act, at: u32, acts: &mut [u32]) -> Scan
 }
 
 // A value line that is shaped and in range.
-fn take_line(seen: Seen, line: Line, at: u32, calls: &mut [u32], acts: &mut [u32]) -> Scanned
-    requires { ⌜ Takeable seen line (now calls) (now acts) ⌝ }
-    ensures { λ r. ⌜ LeadsFrom seen (now (calls .entry)) (now (acts .entry)) (λ v. takes v line at) r (now (calls .exit)) (now (acts .exit)) ⌝ }
-    ensures { λ _. ⌜ Roomy (now (calls .exit)) (now (acts .exit)) ⌝ }
+fn take_line(
+    seen: Seen,
+    line: Line,
+    at: u32,
+    catalog: &mut [u8],
+    calls: &mut [u32],
+    acts: &mut [u32],
+) -> Scanned
+    requires { ⌜ Takeable seen line (now catalog) (now calls) (now acts) ⌝ }
+    ensures { λ r. ⌜ LeadsFrom seen (now (catalog .entry)) (now (calls .entry)) (now (acts .entry)) (λ v. takes v line at) r (now (catalog .exit)) (now (calls .exit)) (now (acts .exit)) ⌝ }
+    ensures { λ _. ⌜ Roomy (now (catalog .exit)) (now (calls .exit)) (now (acts .exit)) ⌝ }
 {
     match line {
         Line::Sizes { k, h } => take_sizes(seen, k, h, at),
@@ -305,8 +313,8 @@ fn take_line(seen: Seen, line: Line, at: u32, calls: &mut [u32], acts: &mut [u32
             blocks,
             load,
             write,
-        } => take_item(seen, number, blocks, load, write, at),
-        Line::Step(step) => take_step(seen, step, at, calls),
+        } => take_item(seen, number, blocks, load, write, at, catalog),
+        Line::Step(step) => take_step(seen, step, at, catalog, calls),
         Line::Act { place, act } => take_act(seen, place, act, at, acts),
         Line::Refused(r) => stopped(seen, r),
     }
@@ -319,12 +327,13 @@ pub fn lead(
     fields: [Field; 4],
     count: usize,
     at: u32,
+    catalog: &mut [u8],
     calls: &mut [u32],
     acts: &mut [u32],
 ) -> Scanned
-    requires { ⌜ Leadable seen count (now calls) (now acts) ⌝ }
-    ensures { λ r. ⌜ LineLeads seen (now (calls .entry)) (now (acts .entry)) (now (text .entry)) (take count fields) at r (now (calls .exit)) (now (acts .exit)) ⌝ }
-    ensures { λ _. ⌜ Roomy (now (calls .exit)) (now (acts .exit)) ⌝ }
+    requires { ⌜ Leadable seen count (now catalog) (now calls) (now acts) ⌝ }
+    ensures { λ r. ⌜ LineLeads seen (now (catalog .entry)) (now (calls .entry)) (now (acts .entry)) (now (text .entry)) (take count fields) at r (now (catalog .exit)) (now (calls .exit)) (now (acts .exit)) ⌝ }
+    ensures { λ _. ⌜ Roomy (now (catalog .exit)) (now (calls .exit)) (now (acts .exit)) ⌝ }
 {
     let table = seen.table;
     if !seen.named {
@@ -332,7 +341,7 @@ pub fn lead(
     }
     if wants_values(true, table, seen.k, text.len()) {
         let line = season_lines::line_in(table, fields, count, at);
-        return take_line(seen, line, at, calls, acts);
+        return take_line(seen, line, at, catalog, calls, acts);
     }
     take_blank(seen, text.len(), at)
 }
