@@ -1,8 +1,7 @@
 // A catalog in lent bytes, as the firmware hands it in and as the office keeps it: an item's three numbers, read and stored.
 ghost use mathlib.Core.Path.{_≡_};
-ghost use Prim.Native.Nat.{_<_};
+ghost use Prim.Native.Nat.{_*_, _<_};
 ghost use lib.Seq.{sets};
-ghost use Prim.Native.Nat.{_*_};
 ghost use Rattle.catalog_bytes.specs.Catalogs.{itemIn, itemBytes, HasItem};
 
 // The bytes of an item, and the most items there are.

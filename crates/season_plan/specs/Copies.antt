@@ -3,7 +3,7 @@ use mathlib.Core.Path.{_≡_}
 use mathlib.Core.Logic.{_≢_}
 use mathlib.Core.Bool.{Bool, true, false, cond}
 use mathlib.Core.List.{List}
-use Prim.Native.Nat.{ℕ, suc, _+_, _*_, _≤_, _<_}
+use Prim.Native.Nat.{ℕ, suc, _+_, _*_, _/_, _≤_, _<_}
 use lib.ListN.{length, getD}
 use lib.Dec.{eqb}
 use Rattle.landlord.specs.declared.Refusal.{Refusal}
@@ -13,7 +13,7 @@ use Rattle.landlord.specs.Catalog.{Catalog, CatalogOk}
 use Rattle.landlord.specs.Plan.{Copy, noCopy, cleanCopy, dirtyCopy, copyAt, cleaned, owed, Done, done, faulty, Fault, unknownItem, notHeld, alreadyHeld, requestNotHeld, overCapacity, faultNumber, planUsed, planEvicts, planFetches, planActs, allActs, planServes}
 use Rattle.landlord.specs.Calls.{inRange, stepOf}
 use Rattle.season_lines.specs.Lines.{actOf}
-use Rattle.cache.specs.Contract.{catalogFrom}
+use Rattle.catalog_bytes.specs.Catalogs.{catalogIn}
 use Rattle.season_tables.specs.declared.Seen.{Seen}
 use Rattle.season_tables.specs.Tables.{Sofar}
 use Rattle.season_tables.specs.Holds.{Holds}
@@ -32,9 +32,6 @@ copyFrom m = cond (eqb m 0) noCopy (cond (eqb m 1) cleanCopy dirtyCopy)
 unfoldable pub copiesOf : ℕ → List ℕ → List Copy
 copiesOf n marks = tab n (λ i. copyFrom (getD marks i 0))
 
-abbrev pub catalogIn : Seen → Catalog
-catalogIn x = catalogFrom (x .n) (x .blocks) (x .load) (x .write)
-
 -- the program holds these copies, and has paid so much
 pub record Stands (cat : Catalog) (p : Copies) (q : List Copy) (paid : ℕ) : Type 0 where
   pub copies : copiesOf (length cat) (p .marks) ≡ q
@@ -46,36 +43,37 @@ abbrev pub Does : Catalog → Done → ℕ → Did → Type 0
 Does cat (done q c) before r = (r .number ≡ 0) × Stands cat (r .copies) q (before + c)
 Does cat (faulty f) before r = r .number ≡ faultNumber f
 
--- what a part of the plan asks: a catalog in range, the blocks that its copies have, and sums far from the end of their words
-pub record Ready (x : Seen) (p : Copies) : Type 0 where
-  pub few : x .n ≤ 256
-  pub catalog : CatalogOk (catalogIn x)
-  pub used : p .used ≡ planUsed (catalogIn x) (copiesOf (x .n) (p .marks))
+-- what a part of the plan asks: the bytes of a catalog in range, the blocks that its copies have, and sums far from the end of their
+-- words
+pub record Ready (xs : List ℕ) (p : Copies) : Type 0 where
+  pub few : length xs ≤ 1280
+  pub catalog : CatalogOk (catalogIn xs)
+  pub used : p .used ≡ planUsed (catalogIn xs) (copiesOf (length xs / 5) (p .marks))
   pub low : p .paid ≤ 1000000000000
 
 -- and that the item is known
-pub record Known (x : Seen) (p : Copies) (item : ℕ) : Type 0 where
-  pub ready : Ready x p
-  pub known : item < x .n
+pub record Known (xs : List ℕ) (p : Copies) (item : ℕ) : Type 0 where
+  pub ready : Ready xs p
+  pub known : item < length xs / 5
 
 -- D of an item; s and j are the places of the step and of the act, which a fault names
-abbrev pub Evicts : Seen → Copies → ℕ → Did → Type 0
-Evicts x p i r =
-    (s j paid : ℕ) (q : List Copy) → Stands (catalogIn x) p q paid → Does (catalogIn x) (planEvicts (catalogIn x) s j i q) paid r
+abbrev pub Evicts : List ℕ → Copies → ℕ → Did → Type 0
+Evicts xs p i r =
+    (s j paid : ℕ) (q : List Copy) → Stands (catalogIn xs) p q paid → Does (catalogIn xs) (planEvicts (catalogIn xs) s j i q) paid r
 
 -- F of an item
-abbrev pub Fetches : Seen → Copies → ℕ → Did → Type 0
-Fetches x p i r =
-    (s j paid : ℕ) (q : List Copy) → Stands (catalogIn x) p q paid → Does (catalogIn x) (planFetches (catalogIn x) s j i q) paid r
+abbrev pub Fetches : List ℕ → Copies → ℕ → Did → Type 0
+Fetches xs p i r =
+    (s j paid : ℕ) (q : List Copy) → Stands (catalogIn xs) p q paid → Does (catalogIn xs) (planFetches (catalogIn xs) s j i q) paid r
 
 -- an act, by the code of its letter
-abbrev pub Acts : Seen → Copies → ℕ → ℕ → Did → Type 0
-Acts x p kind i r =
-    (s j paid : ℕ) (q : List Copy) → Stands (catalogIn x) p q paid → Does (catalogIn x) (planActs (catalogIn x) s j (actOf kind i) q) paid r
+abbrev pub Acts : List ℕ → Copies → ℕ → ℕ → Did → Type 0
+Acts xs p kind i r =
+    (s j paid : ℕ) (q : List Copy) → Stands (catalogIn xs) p q paid → Does (catalogIn xs) (planActs (catalogIn xs) s j (actOf kind i) q) paid r
 
 -- the write costs that a flush makes it pay
-abbrev pub Owes : Seen → Copies → ℕ → Type 0
-Owes x p r = (r ≡ owed (catalogIn x) (copiesOf (x .n) (p .marks))) × (r ≤ 16776960)
+abbrev pub Owes : List ℕ → Copies → ℕ → Type 0
+Owes xs p r = (r ≡ owed (catalogIn xs) (copiesOf (length xs / 5) (p .marks))) × (r ≤ 16776960)
 
 -- every copy is clean then, and nothing else changes
 pub record Cleans (n : ℕ) (p r : Copies) : Type 0 where
@@ -88,18 +86,18 @@ abbrev pub lacking : ℕ → ℕ → Bool
 lacking kind mark = cond (eqb kind 76) false (eqb mark 0)
 
 -- a step that is in the log: a flush, or of a known item; what stands for a flush's item has a place too
-pub record Servable (x : Seen) (p : Copies) (kind item : ℕ) : Type 0 where
-  pub ready : Ready x p
-  pub known : kind ≢ 76 → item < x .n
+pub record Servable (xs : List ℕ) (p : Copies) (kind item : ℕ) : Type 0 where
+  pub ready : Ready xs p
+  pub known : kind ≢ 76 → item < length xs / 5
   pub place : item < 256
   pub kinds : inRange kind 0 0 ≡ true
 
 -- a step served, by the code of its letter
-abbrev pub Serves : Seen → Copies → ℕ → ℕ → Did → Type 0
-Serves x p kind i r =
+abbrev pub Serves : List ℕ → ℕ → Copies → ℕ → ℕ → Did → Type 0
+Serves xs h p kind i r =
     (s minutes paid : ℕ) (q : List Copy) →
-    Stands (catalogIn x) p q paid →
-    Does (catalogIn x) (planServes (catalogIn x) (x .h) s (stepOf kind i minutes) q) paid r
+    Stands (catalogIn xs) p q paid →
+    Does (catalogIn xs) (planServes (catalogIn xs) h s (stepOf kind i minutes) q) paid r
 
 -- the act's place in its step's list, where a fault is an act's
 abbrev pub faultAct : Fault → ℕ
@@ -124,11 +122,12 @@ refusalFor number n =
     (cond (eqb number 14) (RequestNotHeld n)
     (UnknownItem n))))
 
--- what pricing asks: the slices hold an accepted text
-pub record Priceable (x : Seen) (calls acts : List ℕ) : Type 0 where
+-- what pricing asks: the slices hold an accepted text, and the catalog's bytes are those of its items alone
+pub record Priceable (x : Seen) (xs calls acts : List ℕ) : Type 0 where
   pub text : Sofar
-  pub holds : Holds x calls acts text
+  pub holds : Holds x xs calls acts text
   pub sound : Sound text
+  pub items : length xs ≡ 5 * x .n
   pub fewSteps : x .steps ≤ 10922
   pub fewActs : x .acts ≤ 10922
   pub forSteps : length calls ≡ 43692
@@ -139,19 +138,19 @@ abbrev pub most : ℕ → ℕ → ℕ
 most acts steps = 65535 * acts + 16776960 * steps
 
 -- what the acts before step s ask: they begin at act `first`, and the sum is far from the end of its word
-pub record Actable (x : Seen) (p : Copies) (acts : List ℕ) (first s : ℕ) : Type 0 where
+pub record Actable (x : Seen) (xs : List ℕ) (p : Copies) (acts : List ℕ) (first s : ℕ) : Type 0 where
   pub calls : List ℕ
-  pub priceable : Priceable x calls acts
-  pub ready : Ready x p
+  pub priceable : Priceable x xs calls acts
+  pub ready : Ready xs p
   pub begins : first ≡ actsBefore s (priceable .text .acts)
   pub inside : s < x .steps
   pub paid : p .paid ≤ most first s
 
 -- whatever text the slices hold, its acts before step s are done, or the first fault among them is told
-abbrev pub RunsActs : Seen → Copies → List ℕ → ℕ → ℕ → Acted → Type 0
-RunsActs x p acts first s r =
+abbrev pub RunsActs : Seen → List ℕ → Copies → List ℕ → ℕ → ℕ → Acted → Type 0
+RunsActs x xs p acts first s r =
     (calls : List ℕ) (v : Sofar) (paid : ℕ) (q : List Copy) →
-    Holds x calls acts v →
+    Holds x xs calls acts v →
     Sound v →
     first ≡ actsBefore s (v .acts) →
     Stands (v .catalog) p q paid →
@@ -163,8 +162,8 @@ pub record ActsWithin (x : Seen) (s : ℕ) (r : Acted) : Type 0 where
   pub paid : r .number ≡ 0 → r .copies .paid ≤ most (r .next) s
 
 -- whatever text the slices hold, this is the price of its plan
-abbrev pub PricedAs : Seen → List ℕ → List ℕ → Price → Type 0
-PricedAs x calls acts r = (v : Sofar) → Holds x calls acts v → Sound v → r ≡ answerTo v (priceOf v)
+abbrev pub PricedAs : Seen → List ℕ → List ℕ → List ℕ → Price → Type 0
+PricedAs x xs calls acts r = (v : Sofar) → Holds x xs calls acts v → Sound v → r ≡ answerTo v (priceOf v)
 
 -- and it is far from the end of its word
 abbrev pub PriceSmall : Price → Type 0

@@ -51,9 +51,9 @@ fn failed(number: u32, copies: Copies) -> Did
 }
 
 // D: drops a held item, and pays its write cost if it is dirty.
-fn evict(seen: Seen, p: Copies, item: usize) -> Did
-    requires { ⌜ Known seen p item ⌝ }
-    ensures { λ r. ⌜ Evicts seen p item r ⌝ }
+fn evict(catalog: &[u8], p: Copies, item: usize) -> Did
+    requires { ⌜ Known (now catalog) p item ⌝ }
+    ensures { λ r. ⌜ Evicts (now (catalog .entry)) p item r ⌝ }
 {
     let mark = p.marks[item];
     if mark == 0 {
@@ -61,43 +61,50 @@ fn evict(seen: Seen, p: Copies, item: usize) -> Did
     }
     let mut q = p;
     q.marks[item] = 0;
-    q.used = p.used - (seen.blocks[item] as u32);
+    q.used = p.used - (catalog_bytes::blocks(catalog, item) as u32);
     if mark != 1 {
-        q.paid = p.paid + (seen.write[item] as u64);
+        q.paid = p.paid + (catalog_bytes::write_cost(catalog, item) as u64);
     }
     done(q)
 }
 
 // F: fetches an item not held, clean, and pays its load cost.
-fn fetch(seen: Seen, p: Copies, item: usize) -> Did
-    requires { ⌜ Known seen p item ⌝ }
-    ensures { λ r. ⌜ Fetches seen p item r ⌝ }
+fn fetch(catalog: &[u8], p: Copies, item: usize) -> Did
+    requires { ⌜ Known (now catalog) p item ⌝ }
+    ensures { λ r. ⌜ Fetches (now (catalog .entry)) p item r ⌝ }
 {
     if p.marks[item] != 0 {
         return failed(12, p);
     }
     let mut q = p;
     q.marks[item] = 1;
-    q.used = p.used + (seen.blocks[item] as u32);
-    q.paid = p.paid + (seen.load[item] as u64);
+    q.used = p.used + (catalog_bytes::blocks(catalog, item) as u32);
+    q.paid = p.paid + (catalog_bytes::load_cost(catalog, item) as u64);
     done(q)
 }
 
 // One act, by the code of its letter.
-fn act(seen: Seen, p: Copies, kind: u32, item: usize) -> Did
-    requires { ⌜ Known seen p item ⌝ }
-    ensures { λ r. ⌜ Acts seen p kind item r ⌝ }
+fn act(catalog: &[u8], p: Copies, kind: u32, item: usize) -> Did
+    requires { ⌜ Known (now catalog) p item ⌝ }
+    ensures { λ r. ⌜ Acts (now (catalog .entry)) p kind item r ⌝ }
 {
     if kind == 68 {
-        return evict(seen, p, item);
+        return evict(catalog, p, item);
     }
-    fetch(seen, p, item)
+    fetch(catalog, p, item)
 }
 
 // The acts that stand before step `step`, from act `first` on.
-fn acts_before(seen: Seen, p: Copies, acts: &[u32], first: usize, step: u32) -> Acted
-    requires { ⌜ Actable seen p (now acts) first step ⌝ }
-    ensures { λ r. ⌜ RunsActs seen p (now (acts .entry)) first step r ⌝ }
+fn acts_before<'a>(
+    seen: Seen,
+    catalog: &'a [u8],
+    p: Copies,
+    acts: &'a [u32],
+    first: usize,
+    step: u32,
+) -> Acted
+    requires { ⌜ Actable seen (now catalog) p (now acts) first step ⌝ }
+    ensures { λ r. ⌜ RunsActs seen (now (catalog .entry)) p (now (acts .entry)) first step r ⌝ }
     ensures { λ r. ⌜ ActsWithin seen step r ⌝ }
 {
     let count = seen.acts;
@@ -107,7 +114,7 @@ fn acts_before(seen: Seen, p: Copies, acts: &[u32], first: usize, step: u32) -> 
         if acts[3 * a] != step {
             break;
         }
-        let r = act(seen, q, acts[3 * a + 1], acts[3 * a + 2] as usize);
+        let r = act(catalog, q, acts[3 * a + 1], acts[3 * a + 2] as usize);
         let number = r.number;
         let next = r.copies;
         q = next;
@@ -128,16 +135,16 @@ fn acts_before(seen: Seen, p: Copies, acts: &[u32], first: usize, step: u32) -> 
 }
 
 // The write costs that a flush makes the plan pay.
-fn owed(seen: Seen, p: Copies) -> u64
-    requires { ⌜ Ready seen p ⌝ }
-    ensures { λ r. ⌜ Owes seen p r ⌝ }
+fn owed(catalog: &[u8], p: Copies) -> u64
+    requires { ⌜ Ready (now catalog) p ⌝ }
+    ensures { λ r. ⌜ Owes (now (catalog .entry)) p r ⌝ }
 {
-    let n = seen.n;
+    let n = catalog.len() / 5;
     let mut sum: u64 = 0;
     let mut i = 0;
     while i < n {
         if 1 < p.marks[i] {
-            sum += seen.write[i] as u64;
+            sum += catalog_bytes::write_cost(catalog, i) as u64;
         }
         i += 1;
     }
@@ -178,12 +185,12 @@ fn within(used: u32, h: u32) -> bool
 }
 
 // The step is served: its item is held (14), the plan is within its capacity (13); a write makes the item dirty, a flush cleans.
-fn serve(seen: Seen, p: Copies, kind: u32, item: usize) -> Did
-    requires { ⌜ Servable seen p kind item ⌝ }
-    ensures { λ r. ⌜ Serves seen p kind item r ⌝ }
+fn serve(catalog: &[u8], h: u32, p: Copies, kind: u32, item: usize) -> Did
+    requires { ⌜ Servable (now catalog) p kind item ⌝ }
+    ensures { λ r. ⌜ Serves (now (catalog .entry)) h p kind item r ⌝ }
 {
     let missing = lacks(kind, p.marks[item]);
-    let fits = within(p.used, seen.h);
+    let fits = within(p.used, h);
     if missing {
         return failed(14, p);
     }
@@ -192,8 +199,8 @@ fn serve(seen: Seen, p: Copies, kind: u32, item: usize) -> Did
     }
     let mut q = p;
     if kind == 76 {
-        q.paid = p.paid + owed(seen, p);
-        return done(clean(q, seen.n));
+        q.paid = p.paid + owed(catalog, p);
+        return done(clean(q, catalog.len() / 5));
     }
     if kind == 87 {
         q.marks[item] = 2;
@@ -221,9 +228,10 @@ fn refusal_for(number: u32, line: u32) -> Refusal
 }
 
 // Runs the plan of an accepted text, the acts before each step and then the step, and the closing flush; its first fault decides.
-pub fn price_plan(seen: Seen, calls: &[u32], acts: &[u32]) -> Price
-    requires { ⌜ Priceable seen (now calls) (now acts) ⌝ }
-    ensures { λ r. ⌜ PricedAs seen (now (calls .entry)) (now (acts .entry)) r ⌝ }
+// `catalog` has the bytes of the text's items and no more.
+pub fn price_plan(seen: Seen, catalog: &[u8], calls: &[u32], acts: &[u32]) -> Price
+    requires { ⌜ Priceable seen (now catalog) (now calls) (now acts) ⌝ }
+    ensures { λ r. ⌜ PricedAs seen (now (catalog .entry)) (now (calls .entry)) (now (acts .entry)) r ⌝ }
     ensures { λ r. ⌜ PriceSmall r ⌝ }
 {
     let steps = seen.steps;
@@ -235,14 +243,20 @@ pub fn price_plan(seen: Seen, calls: &[u32], acts: &[u32]) -> Price
     let mut a = 0;
     let mut s = 0;
     while s < steps {
-        let before = acts_before(seen, p, acts, a, s as u32);
+        let before = acts_before(seen, catalog, p, acts, a, s as u32);
         a = before.next;
         let number = before.number;
         if number != 0 {
             return Price::Refused(refusal_for(number, (9 + seen.n + steps + a) as u32));
         }
         let ready = before.copies;
-        let served = serve(seen, ready, calls[4 * s + 1], calls[4 * s + 2] as usize);
+        let served = serve(
+            catalog,
+            seen.h,
+            ready,
+            calls[4 * s + 1],
+            calls[4 * s + 2] as usize,
+        );
         let fault = served.number;
         if fault != 0 {
             return Price::Refused(refusal_for(fault, (7 + seen.n + s) as u32));
@@ -251,6 +265,6 @@ pub fn price_plan(seen: Seen, calls: &[u32], acts: &[u32]) -> Price
         p = next;
         s += 1;
     }
-    let total = p.paid + owed(seen, p);
+    let total = p.paid + owed(catalog, p);
     Price::Cost(total)
 }

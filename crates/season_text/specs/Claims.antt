@@ -6,9 +6,10 @@ use Prim.Native.Nat.{ℕ, _≤_, _<_}
 use lib.ListN.{length, getD, take}
 use Rattle.landlord.specs.Plan.{costs}
 use Rattle.landlord.specs.Calls.{Call, close, callOf, openingRefusal, refusal}
-use Rattle.cache_state.specs.Cache.{Cache}
+use Rattle.catalog_bytes.specs.Catalogs.{catalogIn}
 use Rattle.cache_state.specs.View.{view}
-use Rattle.cache.specs.Chain.{Chain}
+use Rattle.layout.specs.Layout.{cacheOf}
+use Rattle.cache.specs.Chain.{ChainLent}
 use Rattle.season_tables.specs.Tables.{Sofar, on, readingOf}
 use Rattle.season_plan.specs.Plans.{priceOf}
 use Rattle.season_text.specs.Answer.{closedSeason, leftOf, rightOf, reportAgainst}
@@ -22,10 +23,14 @@ pub record AllAccepted (v : Sofar) : Type 0 where
   pub opening : openingRefusal (v .k) (v .catalog) ≡ 0
   pub each : (i : ℕ) → i < length (callsIn v) → refusal (v .k) (v .catalog) (take i (callsIn v)) (getD (callsIn v) i close) ≡ 0
 
--- The figures reported are those of the cache that any chain of these calls ends in, of which the season theorem speaks; and left
+-- The figures reported are those of the state that any chain of these calls ends in, from any bytes of the same catalog, of which the season theorem speaks; and left
 -- is at most right.
 pub record Compared (v : Sofar) (cost : ℕ) : Type 0 where
-  pub figures : (numbers : List ℕ) (d : Cache) → Chain (v .k) (v .catalog) (callsIn v) numbers d → view d ≡ closedSeason v
+  pub figures :
+      (xs numbers d : List ℕ) →
+      catalogIn xs ≡ v .catalog →
+      ChainLent (v .k) xs (callsIn v) numbers d →
+      view (cacheOf d) ≡ closedSeason v
   pub bound : leftOf v ≤ rightOf v cost
 
 -- What a report stands for: the text was accepted and its plan costs so much, the report is of these, and both claims hold of them.

@@ -4,8 +4,10 @@ use mathlib.Core.List.{List}
 use Prim.Native.Nat.{ℕ, _+_, _*_, _-_, _≤_}
 use lib.ListN.{length}
 use Rattle.cache_state.specs.Cache.{Cache}
-use Rattle.cache_state.specs.Valid.{Valid}
-use Rattle.cache_state.specs.Becomes.{Becomes}
+use Rattle.cache_state.specs.View.{view}
+use Rattle.landlord.specs.Figures.{Standing}
+use Rattle.layout.specs.Layout.{stateBytes, cacheOf}
+use Rattle.layout.specs.Stands.{ValidBytes}
 use Rattle.report.specs.declared.Rival.{Rival}
 use Rattle.report.specs.declared.Rival.the-variants.{Priced as Against}
 use Rattle.report.specs.declared.Written.{Written}
@@ -16,18 +18,25 @@ use Rattle.season_tables.specs.Holds.{Holds}
 use Rattle.season_tables.specs.Sound.{Sound}
 use Rattle.season_text.specs.Answer.{closedSeason, reportAgainst}
 
--- the slice has a place for the closing behind the steps
-pub record Closable (x : Seen) (calls : List ℕ) : Type 0 where
+-- valid bytes where the rule stands
+pub record ClosedAt (v : Standing) (b : List ℕ) : Type 0 where
+  pub valid : ValidBytes b
+  pub stands : view (cacheOf b) ≡ v
+
+-- the slice has a place for the closing behind the steps; the catalog's bytes are those of the text's items alone
+pub record Closable (x : Seen) (xs calls state : List ℕ) : Type 0 where
   pub few : x .steps ≤ 10922
   pub places : length calls ≡ 43692
+  pub items : length xs ≡ 5 * x .n
+  pub room : length state ≡ stateBytes
 
--- whatever accepted text the slices hold, this is the cache of its closed season
-abbrev pub Closes : Seen → List ℕ → Cache → Type 0
-Closes x calls r = (acts : List ℕ) (v : Sofar) → Holds x calls acts v → Sound v → Becomes (closedSeason v) r
+-- whatever accepted text the slices hold, these are the bytes of its closed season
+abbrev pub Closes : Seen → List ℕ → List ℕ → List ℕ → Type 0
+Closes x xs calls left = (acts : List ℕ) (v : Sofar) → Holds x xs calls acts v → Sound v → ClosedAt (closedSeason v) left
 
 -- the figures of a rival fit their words
-pub record Comparable (k h cost : ℕ) (c : Cache) : Type 0 where
-  pub valid : Valid c
+pub record Comparable (k h cost : ℕ) (state : List ℕ) : Type 0 where
+  pub valid : ValidBytes state
   pub capacity : k ≤ 4096
   pub low : 1 ≤ h
   pub high : h ≤ k
@@ -38,18 +47,20 @@ abbrev pub against : ℕ → ℕ → ℕ → Cache → Rival
 against k h cost c = Against cost ((k - h + 1) * (c .loadcost + c .writecost)) (k * cost)
 
 -- what the report asks: an accepted text in the slices, and a plan's cost that fits
-pub record Reportable (x : Seen) (calls : List ℕ) (cost : ℕ) : Type 0 where
+pub record Reportable (x : Seen) (xs calls : List ℕ) (cost : ℕ) : Type 0 where
   pub text : Sofar
   pub acts : List ℕ
-  pub holds : Holds x calls acts text
+  pub holds : Holds x xs calls acts text
   pub sound : Sound text
-  pub closable : Closable x calls
+  pub few : x .steps ≤ 10922
+  pub places : length calls ≡ 43692
+  pub items : length xs ≡ 5 * x .n
   pub small : cost ≤ 1000000000000
 
 -- and this is its report, on the page
-abbrev pub Reports : Seen → List ℕ → ℕ → List ℕ → Written → List ℕ → Type 0
-Reports x calls cost before r after =
+abbrev pub Reports : Seen → List ℕ → List ℕ → ℕ → List ℕ → Written → List ℕ → Type 0
+Reports x xs calls cost before r after =
     (acts : List ℕ) (v : Sofar) →
-    Holds x calls acts v →
+    Holds x xs calls acts v →
     Sound v →
     Put (reportAgainst v cost) before r after × (length (reportAgainst v cost) ≤ longest)

@@ -2,9 +2,9 @@
 ghost use mathlib.Core.Path.{_≡_};
 ghost use Prim.Native.Nat.{_≤_};
 ghost use lib.ListN.{length};
+ghost use Rattle.layout.specs.Layout.{cacheOf};
 ghost use Rattle.season_text.specs.Answer.{outcomeOf, Answered, ReportFits, Printed};
 ghost use Rattle.season_text.specs.Runs.{Closable, Closes, Comparable, against, Reportable, Reports};
-use cache_state::Cache;
 use landlord::Refusal;
 use report::Rival;
 use report::Written;
@@ -12,38 +12,26 @@ use season_plan::Price;
 use season_tables::Seen;
 use season_tables::Verdict;
 
-// Runs the steps of an accepted text and the closing, as calls on a new cache.
-fn close_season(seen: Seen, calls: &mut [u32]) -> Cache
-    requires { ⌜ Closable seen (now calls) ⌝ }
-    ensures { λ r. ⌜ Closes seen (now (calls .entry)) r ⌝ }
+// Runs the steps of an accepted text and the closing, as calls on a new state.
+fn close_season(seen: Seen, catalog: &[u8], calls: &mut [u32], state: &mut [u8])
+    requires { ⌜ Closable seen (now catalog) (now calls) (now state) ⌝ }
+    ensures { λ _. ⌜ Closes seen (now (catalog .entry)) (now (calls .entry)) (now (state .exit)) ⌝ }
 {
     let steps = seen.steps;
     let end = 4 * steps;
     // The closing stands behind the steps, as a call's four numbers of which the first is not 0.
     calls[end] = 1;
-    let blocks = seen.blocks;
-    let load = seen.load;
-    let write = seen.write;
     // Every call is accepted, so no answer is kept.
     let mut answers = [0u32; 1];
-    let reply = cache::run(
-        seen.k,
-        seen.n,
-        blocks,
-        load,
-        write,
-        &calls[..end + 4],
-        &mut answers,
-    );
-    reply.cache
+    cache::run(state, seen.k, catalog, &calls[..end + 4], &mut answers);
 }
 
 // Both sides of the bound, for a plan of `h` blocks that costs so much.
-fn compared(k: u32, h: u32, cost: u64, c: Cache) -> Rival
-    requires { ⌜ Comparable k h cost c ⌝ }
-    ensures { λ r. ⌜ r ≡ against k h cost c ⌝ }
+fn compared(k: u32, h: u32, cost: u64, state: &[u8]) -> Rival
+    requires { ⌜ Comparable k h cost (now state) ⌝ }
+    ensures { λ r. ⌜ r ≡ against k h cost (cacheOf (now (state .entry))) ⌝ }
 {
-    let total = c.loadcost + c.writecost;
+    let total = layout::load_cost(state) + layout::write_cost(state);
     let factor = (k - h + 1) as u64;
     Rival::Priced {
         cost: cost,
@@ -53,12 +41,20 @@ fn compared(k: u32, h: u32, cost: u64, c: Cache) -> Rival
 }
 
 // The report of an accepted text whose plan costs so much.
-fn report_season(seen: Seen, cost: u64, calls: &mut [u32], page: &mut [u8]) -> Written
-    requires { ⌜ Reportable seen (now calls) cost ⌝ }
-    ensures { λ r. ⌜ Reports seen (now (calls .entry)) cost (now (page .entry)) r (now (page .exit)) ⌝ }
+fn report_season(
+    seen: Seen,
+    catalog: &[u8],
+    cost: u64,
+    calls: &mut [u32],
+    page: &mut [u8],
+) -> Written
+    requires { ⌜ Reportable seen (now catalog) (now calls) cost ⌝ }
+    ensures { λ r. ⌜ Reports seen (now (catalog .entry)) (now (calls .entry)) cost (now (page .entry)) r (now (page .exit)) ⌝ }
 {
-    let c = close_season(seen, calls);
-    report::report(c, compared(seen.k, seen.h, cost, c), page)
+    let mut state = [0u8; layout::STATE_BYTES];
+    close_season(seen, catalog, calls, &mut state);
+    let rival = compared(seen.k, seen.h, cost, &state);
+    report::report(&state, rival, page)
 }
 
 // The answer to a text: refused, with every byte of the page as before; or accepted, with its report at the start of the page.
@@ -69,17 +65,21 @@ pub fn answer(text: &[u8], page: &mut [u8]) -> Written
     if 65536 < text.len() {
         return Written::Refused(Refusal::InputTooLong { line: 0 });
     }
+    let mut catalog = [0u8; catalog_bytes::MOST_BYTES];
     let mut calls = [0u32; 43692];
     let mut acts = [0u32; 32769];
-    let scanned = season_scan::scan(text, &mut calls, &mut acts);
+    let scanned = season_scan::scan(text, &mut catalog, &mut calls, &mut acts);
     let verdict = scanned.verdict;
     let seen = scanned.seen;
     match verdict {
         Verdict::Refused(r) => Written::Refused(r),
-        Verdict::Taken => match season_plan::price_plan(seen, &calls, &acts) {
-            Price::Refused(r) => Written::Refused(r),
-            Price::Cost(cost) => report_season(seen, cost, &mut calls, page),
-        },
+        Verdict::Taken => {
+            let bytes = 5 * seen.n;
+            match season_plan::price_plan(seen, &catalog[..bytes], &calls, &acts) {
+                Price::Refused(r) => Written::Refused(r),
+                Price::Cost(cost) => report_season(seen, &catalog[..bytes], cost, &mut calls, page),
+            }
+        }
     }
 }
 
