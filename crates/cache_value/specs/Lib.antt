@@ -1,0 +1,4 @@
+pub mod Struct
+pub mod Opening
+pub mod Contract
+pub mod Chain

@@ -1,0 +1,332 @@
+// The cache by value, in the form of paper 01: a struct whose calls are methods that take it and hand back the answer with the next one.
+// A method stores the struct in bytes, makes the call in place there, and reads it back; only this form pays for that.
+ghost use mathlib.Core.Path.{_≡_};
+ghost use Prim.Native.Nat.{_≤_};
+ghost use Rattle.landlord.specs.Calls.{take, close, callOf};
+ghost use Rattle.validity.specs.Decided.{Decided};
+ghost use Rattle.cache.specs.Contract.{Called};
+ghost use Rattle.cache.specs.Run.{callsOf};
+ghost use Rattle.cache_value.specs.Struct.{recordOf, byValue};
+ghost use Rattle.cache_value.specs.Opening.{FirstOf, BlocksOk, Opens, emptyOf};
+ghost use Rattle.cache_value.specs.Contract.{catalogFrom, answerTo, Opened, CalledBy, OpenedBy};
+ghost use Rattle.cache_value.specs.Chain.{Ran};
+use landlord::Refusal;
+use landlord::Step;
+
+mod bytes;
+
+// The recorder's cache, with what it has counted. Every array has a place for each of the 256 item numbers.
+pub struct Cache {
+    // capacity in blocks
+    pub k: u32,
+    // how many items the catalog has; the places past it are empty
+    pub n: usize,
+    pub blocks: [u8; 256],
+    pub load: [u16; 256],
+    pub write: [u16; 256],
+    pub held: [bool; 256],
+    pub loadcredit: [u64; 256],
+    pub writecredit: [u64; 256],
+    // 256 marks, one for each item that is dirty
+    pub dirty: [u64; 4],
+    pub tenths: [u32; 256],
+    pub itemloads: [u32; 256],
+    pub itemwritebacks: [u32; 256],
+    pub steps: u32,
+    pub hits: u32,
+    pub loads: u32,
+    pub loadcost: u64,
+    pub evictions: u32,
+    pub dirtyevictions: u32,
+    pub writebacks: u32,
+    pub writecost: u64,
+    pub flushes: u32,
+    pub closed: bool,
+}
+
+// The answer to a call: taken, or why not.
+pub enum Answer {
+    Taken,
+    Refused(Refusal),
+}
+
+// What a method hands back: its answer, and the next cache.
+pub struct Answered {
+    pub answer: Answer,
+    pub cache: Cache,
+}
+
+// The same by the refusal's number, 0 if the call was taken.
+struct Reply {
+    number: u32,
+    cache: Cache,
+}
+
+// ---- the opening
+
+// Whether each of the first `n` items has 1 to 16 blocks.
+fn blocks_ok(n: usize, blocks: [u8; 256]) -> bool
+    requires { ⌜ n ≤ 256 ⌝ }
+    ensures { λ r. ⌜ Decided (BlocksOk n blocks) r ⌝ }
+{
+    let mut i = 0;
+    while i < n {
+        if blocks[i] < 1 {
+            return false;
+        }
+        if 16 < blocks[i] {
+            return false;
+        }
+        i = i + 1;
+    }
+    true
+}
+
+// Whether an opening is accepted. The costs are in range by their width.
+fn opens(k: u32, n: usize, blocks: [u8; 256]) -> bool
+    ensures { λ r. ⌜ Decided (Opens k n blocks) r ⌝ }
+{
+    if k < 1 {
+        return false;
+    }
+    if 4096 < k {
+        return false;
+    }
+    if 256 < n {
+        return false;
+    }
+    blocks_ok(n, blocks)
+}
+
+// The first `n` of the bytes, and 0 past them.
+fn first_bytes(n: usize, xs: [u8; 256]) -> [u8; 256]
+    requires { ⌜ n ≤ 256 ⌝ }
+    ensures { λ r. ⌜ FirstOf n xs r ⌝ }
+{
+    let mut out = [0u8; 256];
+    let mut i = 0;
+    while i < n {
+        out[i] = xs[i];
+        i = i + 1;
+    }
+    out
+}
+
+// The first `n` of the costs, and 0 past them.
+fn first_costs(n: usize, xs: [u16; 256]) -> [u16; 256]
+    requires { ⌜ n ≤ 256 ⌝ }
+    ensures { λ r. ⌜ FirstOf n xs r ⌝ }
+{
+    let mut out = [0u16; 256];
+    let mut i = 0;
+    while i < n {
+        out[i] = xs[i];
+        i = i + 1;
+    }
+    out
+}
+
+// A cache in which nothing is held and nothing counted.
+fn empty(
+    k: u32,
+    n: usize,
+    blocks: [u8; 256],
+    load: [u16; 256],
+    write: [u16; 256],
+    closed: bool,
+) -> Cache
+    ensures { λ r. ⌜ recordOf r ≡ emptyOf k n blocks load write closed ⌝ }
+{
+    Cache {
+        k: k,
+        n: n,
+        blocks: blocks,
+        load: load,
+        write: write,
+        held: [false; 256],
+        loadcredit: [0; 256],
+        writecredit: [0; 256],
+        dirty: [0; 4],
+        tenths: [0; 256],
+        itemloads: [0; 256],
+        itemwritebacks: [0; 256],
+        steps: 0,
+        hits: 0,
+        loads: 0,
+        loadcost: 0,
+        evictions: 0,
+        dirtyevictions: 0,
+        writebacks: 0,
+        writecost: 0,
+        flushes: 0,
+        closed: closed,
+    }
+}
+
+// Opens a cache of `k` blocks for the first `n` items of the three arrays; entries past them are not looked at. Refused (3),
+// it gives a closed cache of 1 block with no items.
+fn opening(k: u32, n: usize, blocks: [u8; 256], load: [u16; 256], write: [u16; 256]) -> Reply
+    ensures { λ r. ⌜ Opened k (catalogFrom n blocks load write) (r .number) (r .cache) ⌝ }
+{
+    if opens(k, n, blocks) {
+        let b = first_bytes(n, blocks);
+        let l = first_costs(n, load);
+        let w = first_costs(n, write);
+        return Reply {
+            number: 0,
+            cache: empty(k, n, b, l, w, false),
+        };
+    }
+    Reply {
+        number: 3,
+        cache: empty(1, 0, [0; 256], [0; 256], [0; 256], true),
+    }
+}
+
+// ---- the calls
+
+// A step by its numbers. More items than a state can have places for are no valid cache, and have no place in the bytes.
+fn stepped(c: Cache, kind: u32, item: u32, minutes: u32) -> Reply
+    ensures { λ r. ⌜ Called byValue c (take kind item minutes) (r .number) (r .cache) ⌝ }
+{
+    if c.n > 256 {
+        return Reply {
+            number: 17,
+            cache: c,
+        };
+    }
+    let mut b = [0u8; layout::STATE_BYTES];
+    bytes::encode(c, &mut b);
+    let number = cache::step(&mut b, kind, item, minutes);
+    if number != 0 {
+        return Reply {
+            number: number,
+            cache: c,
+        };
+    }
+    Reply {
+        number: 0,
+        cache: bytes::decode(&b),
+    }
+}
+
+// The closing.
+fn closed(c: Cache) -> Reply
+    ensures { λ r. ⌜ Called byValue c close (r .number) (r .cache) ⌝ }
+{
+    if c.n > 256 {
+        return Reply {
+            number: 17,
+            cache: c,
+        };
+    }
+    let mut b = [0u8; layout::STATE_BYTES];
+    bytes::encode(c, &mut b);
+    let number = cache::close(&mut b);
+    if number != 0 {
+        return Reply {
+            number: number,
+            cache: c,
+        };
+    }
+    Reply {
+        number: 0,
+        cache: bytes::decode(&b),
+    }
+}
+
+// The answer that a number stands for.
+fn answer_to(number: u32) -> Answer
+    ensures { λ r. ⌜ r ≡ answerTo number ⌝ }
+{
+    if number == 0 {
+        return Answer::Taken;
+    }
+    if number == 3 {
+        return Answer::Refused(Refusal::OutOfRange { line: 0 });
+    }
+    if number == 6 {
+        return Answer::Refused(Refusal::UnknownItem { line: 0 });
+    }
+    if number == 7 {
+        return Answer::Refused(Refusal::ItemTooLarge { line: 0 });
+    }
+    if number == 8 {
+        return Answer::Refused(Refusal::LogFull { line: 0 });
+    }
+    if number == 9 {
+        return Answer::Refused(Refusal::Closed { line: 0 });
+    }
+    Answer::Refused(Refusal::InvalidState { line: 0 })
+}
+
+// A reply with its number as an answer.
+fn answer_with(r: Reply) -> Answered
+    ensures { λ a. ⌜ (a .answer ≡ answerTo (r .number)) × (a .cache ≡ r .cache) ⌝ }
+{
+    let next = r.cache;
+    let number = r.number;
+    Answered {
+        answer: answer_to(number),
+        cache: next,
+    }
+}
+
+impl Cache {
+    // Opens a cache of `k` blocks for the first `n` items of the arrays.
+    pub fn open(
+        k: u32,
+        n: usize,
+        blocks: [u8; 256],
+        load: [u16; 256],
+        write: [u16; 256],
+    ) -> Answered
+        ensures { λ r. ⌜ OpenedBy k (catalogFrom n blocks load write) r ⌝ }
+    {
+        answer_with(opening(k, n, blocks, load, write))
+    }
+
+    // Takes one step.
+    pub fn step(self, s: Step) -> Answered
+        ensures { λ r. ⌜ CalledBy self (callOf s) r ⌝ }
+    {
+        answer_with(stepped(self, s.kind(), s.item(), s.minutes()))
+    }
+
+    // Closes the log: what is dirty is written back.
+    pub fn close(self) -> Answered
+        ensures { λ r. ⌜ CalledBy self close r ⌝ }
+    {
+        answer_with(closed(self))
+    }
+}
+
+// ---- a list of calls
+
+// A whole list of calls from an opening on, given as numbers, four to a call. The answers are noted as far as there is place; handed
+// back are the opening's answer and the cache after the last call.
+pub fn run(
+    k: u32,
+    n: usize,
+    blocks: [u8; 256],
+    load: [u16; 256],
+    write: [u16; 256],
+    calls: &[u32],
+    answers: &mut [u32],
+) -> Answered
+    ensures { λ r. ⌜ Ran k (catalogFrom n blocks load write) (callsOf (now (calls .entry))) (now (answers .entry)) (now (answers .exit)) r ⌝ }
+{
+    let first = opening(k, n, blocks, load, write);
+    let number = first.number;
+    let c = first.cache;
+    if number != 0 {
+        return answer_with(first);
+    }
+    let mut b = [0u8; layout::STATE_BYTES];
+    bytes::encode(c, &mut b);
+    cache::run_calls(&mut b, calls, answers);
+    Answered {
+        answer: Answer::Taken,
+        cache: bytes::decode(&b),
+    }
+}
