@@ -1,0 +1,128 @@
+// The cache by value at work: paper 01's unmarked rows and its whole example, through the methods, each with what it answers.
+ghost use Prim.Native.Nat.{_<_};
+use cache_value::Answer;
+use cache_value::Cache;
+use landlord::Step;
+
+// The paper's number for an answer: 0 if the call was taken.
+fn number(a: Answer) -> u32 {
+    match a {
+        Answer::Taken => 0,
+        Answer::Refused(r) => r.number(),
+    }
+}
+
+fn print(words: &[u8], value: u64) {
+    io::write_all(1, words);
+    io::print_decimal(1, value);
+}
+
+// Opens a cache of `k` blocks for one item of so many.
+fn one_item(k: u32, blocks: u8) -> Cache {
+    let opened = Cache::open(k, 1, [blocks; 256], [4; 256], [6; 256]);
+    let answer = opened.answer;
+    print(b"open k ", k as u64);
+    print(b": ", number(answer) as u64);
+    io::write_all(1, b"\n");
+    opened.cache
+}
+
+// An item of 16 blocks, read.
+fn read_row(k: u32) {
+    let read = one_item(k, 16).step(Step::Read { item: 0 });
+    let answer = read.answer;
+    print(b"R of 16 blocks: ", number(answer) as u64);
+    io::write_all(1, b"\n");
+}
+
+// A write of so many minutes.
+fn write_row(minutes: u32) {
+    let wrote = one_item(1, 1).step(Step::Write {
+        item: 0,
+        minutes: minutes,
+    });
+    let answer = wrote.answer;
+    print(b"W of minutes ", minutes as u64);
+    print(b": ", number(answer) as u64);
+    let next = wrote.cache;
+    print(b", tenths ", next.tenths[0] as u64);
+    io::write_all(1, b"\n");
+}
+
+// What the report says of item `i`.
+fn print_item(c: Cache, i: usize)
+    requires { ⌜ i < 256 ⌝ }
+{
+    print(b"", i as u64);
+    print(b" ", c.tenths[i] as u64);
+    print(b" ", c.itemloads[i] as u64);
+    print(b" ", c.itemwritebacks[i] as u64);
+    io::write_all(1, b"\n");
+}
+
+// And of the totals.
+fn print_totals(c: Cache) {
+    print(b"", c.hits as u64);
+    print(b" ", c.loads as u64);
+    print(b" ", c.loadcost);
+    print(b" ", c.evictions as u64);
+    print(b" ", c.dirtyevictions as u64);
+    print(b" ", c.writebacks as u64);
+    print(b" ", c.writecost);
+    io::write_all(1, b"\n");
+}
+
+// The whole example: five steps and the closing, the cache handed on from call to call.
+fn whole_example() {
+    let mut blocks = [0; 256];
+    let mut load = [0; 256];
+    let mut write = [0; 256];
+    blocks[0] = 1;
+    blocks[1] = 2;
+    blocks[2] = 1;
+    load[0] = 4;
+    load[1] = 6;
+    load[2] = 3;
+    write[0] = 6;
+    write[1] = 2;
+    write[2] = 9;
+    let a = Cache::open(3, 3, blocks, load, write).cache;
+    let b = a.step(Step::Write {
+            item: 0,
+            minutes: 90,
+        })
+        .cache;
+    let c = b.step(Step::Read { item: 1 }).cache;
+    let d = c.step(Step::Write {
+            item: 2,
+            minutes: 45,
+        })
+        .cache;
+    let e = d.step(Step::Read { item: 0 }).cache;
+    let f = e.step(Step::Flush).cache;
+    let closed = f.close();
+    let answer = closed.answer;
+    print(b"close: ", number(answer) as u64);
+    io::write_all(1, b"\n");
+    let end = closed.cache;
+    print_item(end, 0);
+    print_item(end, 1);
+    print_item(end, 2);
+    print_totals(end);
+    let again = end.close();
+    let refused = again.answer;
+    print(b"close: ", number(refused) as u64);
+    io::write_all(1, b"\n");
+}
+
+fn main() {
+    read_row(16);
+    read_row(15);
+    write_row(5);
+    write_row(6);
+    write_row(1440);
+    write_row(1441);
+    one_item(4096, 1);
+    one_item(4097, 1);
+    whole_example();
+}
