@@ -35,6 +35,14 @@ extern "C" {
 /* The bytes of a state; a state of any other length is RECORDER_INVALID_STATE. */
 #define RECORDER_STATE_BYTES 8792
 
+/*
+ * The number of the layout, at the head of every state. It rises with every change of the layout, so that a state stored by
+ * another version of the library is RECORDER_INVALID_STATE and never misread. Before a recorder is updated to a library with
+ * another number, close the open season and report it with the old one; or keep the steps, and replay them after an
+ * opening with the new one.
+ */
+#define RECORDER_FORMAT 1
+
 /* The bytes of the longest report there can be, here or in the office: a page of this size is never too short. */
 #define RECORDER_REPORT_BYTES 7931
 
@@ -148,16 +156,17 @@ uint32_t recorder_report(const uint8_t *state, size_t state_len, uint8_t *page, 
  * validity is found at the next call, which changes nothing.
  */
 enum recorder_place {
-    RECORDER_AT_K = 0,                 /* u32 */
-    RECORDER_AT_N = 4,                 /* u32: items in the catalog */
-    RECORDER_AT_STEPS = 8,             /* u32: reads, writes and flushes; the close is none */
-    RECORDER_AT_HITS = 12,             /* u32 */
-    RECORDER_AT_LOADS = 16,            /* u32: misses */
-    RECORDER_AT_EVICTIONS = 20,        /* u32 ('drops') */
-    RECORDER_AT_DIRTY_EVICTIONS = 24,  /* u32 */
-    RECORDER_AT_WRITEBACKS = 28,       /* u32: by dirty evictions, flushes and the close */
-    RECORDER_AT_FLUSHES = 32,          /* u32 ('landings'); the close is none */
-    RECORDER_AT_CLOSED = 36,           /* u32: 0 open, 1 closed */
+    RECORDER_AT_FORMAT = 0,            /* u32: RECORDER_FORMAT */
+    RECORDER_AT_K = 4,                 /* u32 */
+    RECORDER_AT_N = 8,                 /* u16: items in the catalog */
+    RECORDER_AT_CLOSED = 10,           /* u16: 0 open, 1 closed */
+    RECORDER_AT_STEPS = 12,            /* u32: reads, writes and flushes; the close is none */
+    RECORDER_AT_HITS = 16,             /* u32 */
+    RECORDER_AT_LOADS = 20,            /* u32: misses */
+    RECORDER_AT_EVICTIONS = 24,        /* u32 ('drops') */
+    RECORDER_AT_DIRTY_EVICTIONS = 28,  /* u32 */
+    RECORDER_AT_WRITEBACKS = 32,       /* u32: by dirty evictions, flushes and the close */
+    RECORDER_AT_FLUSHES = 36,          /* u32 ('landings'); the close is none */
     RECORDER_AT_LOAD_COST = 40,        /* u64 */
     RECORDER_AT_WRITE_COST = 48,       /* u64 */
     RECORDER_AT_DIRTY = 56,            /* four u64: 256 marks, item i is bit i % 64 of word i / 64 */

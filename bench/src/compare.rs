@@ -289,10 +289,10 @@ fn random_valid(r: &mut Random, n: usize) -> Vec<u8> {
         (at::EVICTIONS, evictions),
         (at::DIRTY_EVICTIONS, dirty_evictions),
         (at::WRITEBACKS, writebacks),
-        (at::CLOSED, u32::from(closed)),
     ] {
         put32(&mut s, at, count);
     }
+    s[at::CLOSED] = u8::from(closed);
     for (at, count) in [(at::LOAD_COST, loads), (at::WRITE_COST, writebacks)] {
         let most = 65_535 * u64::from(count);
         let any = r.below(most + 1);

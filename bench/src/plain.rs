@@ -20,18 +20,22 @@ pub const READ: u32 = b'R' as u32;
 pub const WRITE: u32 = b'W' as u32;
 pub const FLUSH: u32 = b'L' as u32; // landing
 
+/// The number of the layout, which stands at the head of the bytes.
+pub const FORMAT: u32 = 1;
+
 /// Where each field stands.
 pub mod at {
-    pub const K: usize = 0;
-    pub const N: usize = 4;
-    pub const STEPS: usize = 8;
-    pub const HITS: usize = 12;
-    pub const LOADS: usize = 16;
-    pub const EVICTIONS: usize = 20;
-    pub const DIRTY_EVICTIONS: usize = 24;
-    pub const WRITEBACKS: usize = 28;
-    pub const FLUSHES: usize = 32;
-    pub const CLOSED: usize = 36;
+    pub const FORMAT: usize = 0;
+    pub const K: usize = 4;
+    pub const N: usize = 8;
+    pub const CLOSED: usize = 10;
+    pub const STEPS: usize = 12;
+    pub const HITS: usize = 16;
+    pub const LOADS: usize = 20;
+    pub const EVICTIONS: usize = 24;
+    pub const DIRTY_EVICTIONS: usize = 28;
+    pub const WRITEBACKS: usize = 32;
+    pub const FLUSHES: usize = 36;
     pub const LOAD_COST: usize = 40;
     pub const WRITE_COST: usize = 48;
     pub const DIRTY: usize = 56;
@@ -47,6 +51,10 @@ pub mod at {
 }
 
 type Bytes = [u8; STATE_BYTES];
+
+fn get16(s: &Bytes, at: usize) -> u16 {
+    u16::from_le_bytes(s[at..at + 2].try_into().unwrap())
+}
 
 fn get32(s: &Bytes, at: usize) -> u32 {
     u32::from_le_bytes(s[at..at + 4].try_into().unwrap())
@@ -129,10 +137,15 @@ fn sum32<const AT: usize>(s: &Bytes) -> u64 {
 /// The blocks in use, if the state is valid (paper 01: not foul).
 fn used_if_valid(s: &Bytes) -> Option<u32> {
     let k = get32(s, at::K);
-    let n = get32(s, at::N) as usize;
+    let n = get16(s, at::N) as usize;
     let steps = get32(s, at::STEPS);
-    let closed = get32(s, at::CLOSED);
-    if !(1..=4096).contains(&k) || n > 256 || steps > MAX_STEPS || closed > 1 {
+    let closed = get16(s, at::CLOSED);
+    if get32(s, at::FORMAT) != FORMAT
+        || !(1..=4096).contains(&k)
+        || n > 256
+        || steps > MAX_STEPS
+        || closed > 1
+    {
         return None;
     }
 
@@ -274,8 +287,9 @@ pub fn open(state: &mut [u8], k: u32, catalog: &[u8]) -> u32 {
         return OUT_OF_RANGE;
     }
     s.fill(0);
+    add32(s, at::FORMAT, FORMAT);
     add32(s, at::K, k);
-    add32(s, at::N, items.len() as u32);
+    s[at::N..at::N + 2].copy_from_slice(&(items.len() as u16).to_le_bytes());
     for (i, &[blocks, load_low, load_high, write_low, write_high]) in items.iter().enumerate() {
         s[at::BLOCKS + i] = blocks;
         run_mut::<{ at::LOAD }, 2>(s)[i] = [load_low, load_high];
@@ -292,7 +306,7 @@ pub fn step(state: &mut [u8], kind: u32, number: u32, minutes: u32) -> u32 {
     let Some(mut used) = used_if_valid(s) else {
         return INVALID_STATE;
     };
-    if get32(s, at::CLOSED) == 1 {
+    if get16(s, at::CLOSED) == 1 {
         return CLOSED;
     }
     if get32(s, at::STEPS) >= MAX_STEPS {
@@ -315,7 +329,7 @@ pub fn step(state: &mut [u8], kind: u32, number: u32, minutes: u32) -> u32 {
     }
 
     let k = get32(s, at::K);
-    let n = get32(s, at::N) as usize;
+    let n = get16(s, at::N) as usize;
     let i = number as usize;
     if i >= n {
         return UNKNOWN_ITEM;
@@ -355,10 +369,10 @@ pub fn close(state: &mut [u8]) -> u32 {
     if used_if_valid(s).is_none() {
         return INVALID_STATE;
     }
-    if get32(s, at::CLOSED) == 1 {
+    if get16(s, at::CLOSED) == 1 {
         return CLOSED;
     }
     flush(s);
-    add32(s, at::CLOSED, 1);
+    s[at::CLOSED] = 1;
     TAKEN
 }

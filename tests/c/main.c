@@ -136,7 +136,7 @@ static void print_figures(const struct state *s)
            (unsigned long long)get64(s, RECORDER_AT_LOAD_COST), get32(s, RECORDER_AT_EVICTIONS),
            get32(s, RECORDER_AT_DIRTY_EVICTIONS), get32(s, RECORDER_AT_WRITEBACKS),
            (unsigned long long)get64(s, RECORDER_AT_WRITE_COST), get32(s, RECORDER_AT_FLUSHES),
-           get32(s, RECORDER_AT_CLOSED));
+           (uint32_t)get(s, RECORDER_AT_CLOSED, 2));
 }
 
 /* The items held now with their credits, and those that were held before and are not now. */
@@ -240,8 +240,9 @@ static void openings(void)
     printf("in bytes never written: %u, %s\n", answer, memcmp(raw, s.bytes, BYTES) == 0 ? "the same" : "OTHER BYTES");
     free(raw);
     memset(&first, 0, sizeof first);
+    put(&first, RECORDER_AT_FORMAT, 4, RECORDER_FORMAT);
     put(&first, RECORDER_AT_K, 4, 3);
-    put(&first, RECORDER_AT_N, 4, 3);
+    put(&first, RECORDER_AT_N, 2, 3);
     for (size_t i = 0; i < 3; i++) {
         first.bytes[RECORDER_AT_BLOCKS + i] = three[5 * i];
         memcpy(first.bytes + RECORDER_AT_LOAD + 2 * i, three + 5 * i + 1, 2);
@@ -394,9 +395,12 @@ static void damaged(const struct damage *d, struct state *s)
 
 /* One byte (a few rows: two or three fields), so that a single clause of validity is broken where that can be. */
 static const struct damage broken[] = {
-    { "closed flag 2", clean, { { 36, 1, 2 } } },
-    { "closed flag 256", clean, { { 37, 1, 1 } } },
-    { "closed flag 2^24 + 1", clean, { { 36, 1, 1 }, { 39, 1, 1 } } },
+    { "no number of a layout", busy, { { 0, 1, 0 } } },
+    { "the number of the next layout", busy, { { 0, 1, 2 } } },
+    { "the number of a layout 2^24 + 1", busy, { { 3, 1, 1 } } },
+    { "closed flag 2", clean, { { 10, 1, 2 } } },
+    { "closed flag 256", clean, { { 11, 1, 1 } } },
+    { "closed flag 257", clean, { { 10, 1, 1 }, { 11, 1, 1 } } },
     { "held flag 2", busy, { { 8536, 1, 2 } } },
     { "held flag 255", busy, { { 8538, 1, 255 } } },
     { "held flag 2 of an item not held", busy, { { 8540, 1, 2 } } },
@@ -407,8 +411,8 @@ static const struct damage broken[] = {
     { "load cost in the last place", busy, { { 7767, 1, 1 } } },
     { "write cost past the catalog", busy, { { 7780, 1, 1 } } },
     { "write cost in the last place", busy, { { 8279, 1, 1 } } },
-    { "held past the catalog", busy, { { 8542, 1, 1 }, { 20, 1, 0 } } },
-    { "held in the last place", busy, { { 8791, 1, 1 }, { 20, 1, 0 } } },
+    { "held past the catalog", busy, { { 8542, 1, 1 }, { 24, 1, 0 } } },
+    { "held in the last place", busy, { { 8791, 1, 1 }, { 24, 1, 0 } } },
     { "dirty past the catalog", busy, { { 56, 1, 0x48 } } },
     { "dirty in the last place", busy, { { 87, 1, 0x80 } } },
     { "load credit past the catalog", busy, { { 136, 1, 1 } } },
@@ -421,19 +425,19 @@ static const struct damage broken[] = {
     { "loads in the last place", busy, { { 6228, 1, 1 }, { 5208, 1, 0 } } },
     { "writebacks past the catalog", busy, { { 6256, 1, 1 }, { 6232, 1, 0 } } },
     { "writebacks in the last place", busy, { { 7252, 1, 1 }, { 6232, 1, 0 } } },
-    { "k 0", wide, { { 1, 1, 0 } } },
-    { "k 4097", wide, { { 0, 1, 1 } } },
-    { "k 2^31 + 4096", wide, { { 3, 1, 0x80 } } },
-    { "257 items", wide, { { 4, 1, 1 } } },
-    { "2^31 + 256 items", wide, { { 7, 1, 0x80 } } },
-    { "an item too few", busy, { { 4, 1, 5 } } },
-    { "an item too many", busy, { { 4, 1, 7 } } },
+    { "k 0", wide, { { 5, 1, 0 } } },
+    { "k 4097", wide, { { 4, 1, 1 } } },
+    { "k 2^31 + 4096", wide, { { 7, 1, 0x80 } } },
+    { "257 items", wide, { { 8, 1, 1 } } },
+    { "2^15 + 256 items", wide, { { 9, 1, 0x81 } } },
+    { "an item too few", busy, { { 8, 1, 5 } } },
+    { "an item too many", busy, { { 8, 1, 7 } } },
     { "blocks 0", busy, { { 8284, 1, 0 } } },
     { "blocks 17", busy, { { 8284, 1, 17 } } },
     { "blocks 255", busy, { { 8284, 1, 255 } } },
     { "blocks 0 of a held item", busy, { { 8280, 1, 0 } } },
     { "blocks 0 of the last of 256 items", wide, { { 8535, 1, 0 } } },
-    { "held blocks above k", busy, { { 0, 1, 3 } } },
+    { "held blocks above k", busy, { { 4, 1, 3 } } },
     { "dirty, not held", busy, { { 56, 1, 0x18 } } },
     { "load credit, not held", busy, { { 120, 1, 1 } } },
     { "write credit, not held", busy, { { 2168, 1, 1 } } },
@@ -444,19 +448,19 @@ static const struct damage broken[] = {
     { "load credit above 2^63", busy, { { 119, 1, 0x80 } } },
     { "write credit above the cost", busy, { { 2160, 1, 0x92 } } },
     { "write credit above 2^63", busy, { { 2167, 1, 0x80 } } },
-    { "a step too many", busy, { { 8, 1, 8 } } },
-    { "a step too few", busy, { { 8, 1, 6 } } },
-    { "a hit too many", busy, { { 12, 1, 3 } } },
-    { "a flush too many", busy, { { 32, 1, 2 } } },
-    { "hits + flushes beyond 2^32", busy, { { 12, 4, 0xFFFFFFFF }, { 32, 4, 4 } } },
-    { "1,000,001 steps", full, { { 8, 1, 0x41 }, { 12, 1, 0x3C } } },
-    { "2^31 steps", full, { { 11, 1, 0x80 }, { 15, 1, 0x80 } } },
-    { "an eviction too many", busy, { { 20, 1, 2 } } },
-    { "an eviction too few", busy, { { 20, 1, 0 } } },
-    { "dirty evictions above evictions", busy, { { 24, 1, 2 } } },
-    { "dirty evictions above writebacks", reads, { { 24, 1, 1 } } },
-    { "writebacks + dirty above steps", busy, { { 28, 1, 7 }, { 6232, 1, 6 } } },
-    { "writebacks + dirty beyond 2^32", busy, { { 28, 4, 0xFFFFFFFF }, { 6232, 4, 0xFFFFFFFE } } },
+    { "a step too many", busy, { { 12, 1, 8 } } },
+    { "a step too few", busy, { { 12, 1, 6 } } },
+    { "a hit too many", busy, { { 16, 1, 3 } } },
+    { "a flush too many", busy, { { 36, 1, 2 } } },
+    { "hits + flushes beyond 2^32", busy, { { 16, 4, 0xFFFFFFFF }, { 36, 4, 4 } } },
+    { "1,000,001 steps", full, { { 12, 1, 0x41 }, { 16, 1, 0x3C } } },
+    { "2^31 steps", full, { { 15, 1, 0x80 }, { 19, 1, 0x80 } } },
+    { "an eviction too many", busy, { { 24, 1, 2 } } },
+    { "an eviction too few", busy, { { 24, 1, 0 } } },
+    { "dirty evictions above evictions", busy, { { 28, 1, 2 } } },
+    { "dirty evictions above writebacks", reads, { { 28, 1, 1 } } },
+    { "writebacks + dirty above steps", busy, { { 32, 1, 7 }, { 6232, 1, 6 } } },
+    { "writebacks + dirty beyond 2^32", busy, { { 32, 4, 0xFFFFFFFF }, { 6232, 4, 0xFFFFFFFE } } },
     { "loadcost above 65,535 a load", busy, { { 42, 1, 4 } } },
     { "loadcost just above", busy, { { 40, 8, 262141 } } },
     { "loadcost above 2^63", busy, { { 47, 1, 0x80 } } },
@@ -472,27 +476,27 @@ static const struct damage broken[] = {
     { "tenths above 240 a step", busy, { { 4185, 1, 7 } } },
     { "tenths just above", busy, { { 4184, 4, 1681 } } },
     { "tenths just above, last of 256 items", wide, { { 5204, 1, 1 } } },
-    { "closed and dirty", busy, { { 36, 1, 1 } } },
-    { "closed, a hit too many (17 before 9)", closed_full, { { 12, 1, 0x3C } } },
+    { "closed and dirty", busy, { { 10, 1, 1 } } },
+    { "closed, a hit too many (17 before 9)", closed_full, { { 16, 1, 0x3C } } },
 };
 
 /* The edge of a clause, from the side that is valid: a read of item 0 is taken, and so is the close. */
 static const struct damage sound[] = {
-    { "the busy state", busy, { { 0, 0, 0 } } },
-    { "the clean state", clean, { { 0, 0, 0 } } },
-    { "the state of reads", reads, { { 0, 0, 0 } } },
-    { "the wide state", wide, { { 0, 0, 0 } } },
-    { "k 4096", busy, { { 0, 4, 4096 } } },
-    { "k 1, 256 items", wide, { { 0, 4, 1 } } },
+    { "the busy state", busy, { { 4, 0, 0 } } },
+    { "the clean state", clean, { { 4, 0, 0 } } },
+    { "the state of reads", reads, { { 4, 0, 0 } } },
+    { "the wide state", wide, { { 4, 0, 0 } } },
+    { "k 4096", busy, { { 4, 4, 4096 } } },
+    { "k 1, 256 items", wide, { { 4, 4, 1 } } },
     { "blocks 16", busy, { { 8284, 1, 16 } } },
     { "load credit a multiple below the cost", busy, { { 112, 1, 0x7E } } },
     { "write credit a multiple below the cost", busy, { { 2160, 1, 0x8E } } },
     { "dirty with write credit 0", busy, { { 2160, 8, 0 } } },
     { "a dirty item more", busy, { { 56, 1, 0x09 } } },
-    { "999,999 steps", full, { { 8, 1, 0x3F }, { 12, 1, 0x3A } } },
-    { "dirty evictions as evictions", busy, { { 24, 1, 1 } } },
-    { "dirty evictions as writebacks", reads, { { 24, 1, 1 }, { 28, 1, 1 }, { 6232, 1, 1 } } },
-    { "writebacks + dirty as steps", busy, { { 28, 1, 6 }, { 6232, 1, 5 } } },
+    { "999,999 steps", full, { { 12, 1, 0x3F }, { 16, 1, 0x3A } } },
+    { "dirty evictions as evictions", busy, { { 28, 1, 1 } } },
+    { "dirty evictions as writebacks", reads, { { 28, 1, 1 }, { 32, 1, 1 }, { 6232, 1, 1 } } },
+    { "writebacks + dirty as steps", busy, { { 32, 1, 6 }, { 6232, 1, 5 } } },
     { "loadcost 65,535 a load", busy, { { 40, 8, 262140 } } },
     { "writecost 65,535 a writeback", busy, { { 48, 8, 131070 } } },
     { "costs 0", busy, { { 40, 8, 0 }, { 48, 8, 0 } } },
