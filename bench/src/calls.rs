@@ -1,4 +1,4 @@
-//! The three calls of the library and of the plain implementation, under one type.
+//! The calls of the library and of the plain implementation, under one type; the library's report by itself.
 
 use crate::plain;
 
@@ -12,6 +12,13 @@ unsafe extern "C" {
     ) -> u32;
     fn recorder_step(state: *mut u8, state_len: usize, kind: u32, item: u32, minutes: u32) -> u32;
     fn recorder_close(state: *mut u8, state_len: usize) -> u32;
+    fn recorder_report(
+        state: *const u8,
+        state_len: usize,
+        page: *mut u8,
+        page_len: usize,
+        length: *mut usize,
+    ) -> u32;
 }
 
 #[derive(Clone, Copy)]
@@ -33,8 +40,37 @@ pub const LIBRARY: Calls = Calls {
     close: |s| unsafe { recorder_close(s.as_mut_ptr(), s.len()) },
 };
 
+/// The plain step under a name of its own, as the library's has one, so that callgrind can count what is below it.
+#[unsafe(no_mangle)]
+#[inline(never)]
+pub extern "C" fn plain_step(
+    state: *mut u8,
+    state_len: usize,
+    kind: u32,
+    item: u32,
+    minutes: u32,
+) -> u32 {
+    // SAFETY: called below alone, with the pointer and length of a slice.
+    let state = unsafe { std::slice::from_raw_parts_mut(state, state_len) };
+    plain::step(state, kind, item, minutes)
+}
+
 pub const PLAIN: Calls = Calls {
     open: plain::open,
-    step: plain::step,
+    step: |s, kind, item, minutes| plain_step(s.as_mut_ptr(), s.len(), kind, item, minutes),
     close: plain::close,
 };
+
+pub fn library_report(state: &[u8], page: &mut [u8]) -> u32 {
+    let mut length = 0;
+    // SAFETY: as above.
+    unsafe {
+        recorder_report(
+            state.as_ptr(),
+            state.len(),
+            page.as_mut_ptr(),
+            page.len(),
+            &mut length,
+        )
+    }
+}

@@ -1,13 +1,21 @@
 //! The recorder's exported calls against a plain Rust implementation that does the same checks on the same bytes: first that
-//! both give equal answers and equal bytes, then ns per step of both, with their ratio. bench/run builds and runs it.
+//! both give equal answers and equal bytes, then ns per step of both, with their ratio, and the stack of the library's calls.
+//! bench/run builds and runs it, and has callgrind count the instructions of a step.
 
 mod calls;
 mod compare;
 mod plain;
 mod random;
+mod stack;
 mod timing;
 
 fn main() {
+    // For callgrind: one log, taken once by one of the two.
+    let words: Vec<String> = std::env::args().skip(1).collect();
+    if let [kind, n, which] = words.as_slice() {
+        timing::take(kind, n.parse().expect("a count of items"), which);
+        return;
+    }
     println!(
         "the recorder's exported calls against plain Rust with the same checks on the same bytes"
     );
@@ -27,4 +35,5 @@ fn main() {
         println!("  answer {answer:>2}: {count}");
     }
     timing::table();
+    stack::table();
 }

@@ -183,7 +183,11 @@ fn used_if_valid(s: &Bytes) -> Option<u32> {
         && blank_past::<{ at::BLOCKS }, 1>(s, n)
         && blank_past::<{ at::HELD }, 1>(s, n);
     let tenths = &run::<{ at::TENTHS }, 4>(s)[..n];
-    if !blank || tenths.iter().any(|&t| u32::from_le_bytes(t) > 240 * steps) {
+    let most = 240 * steps;
+    let over = tenths
+        .iter()
+        .fold(false, |over, &t| over | (u32::from_le_bytes(t) > most));
+    if !blank || over {
         return None;
     }
 

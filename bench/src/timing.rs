@@ -96,17 +96,34 @@ fn run(calls: Calls, log: &Log, state: &mut Vec<u8>) -> f64 {
     begun.elapsed().as_nanos() as f64 / log.steps.len() as f64
 }
 
+const KINDS: [(&str, Kind); 3] = [
+    ("hit", Kind::Hit),
+    ("miss", Kind::Miss),
+    ("refused", Kind::Refused),
+];
+
+/// Takes the steps of one log, once. What is outside the calls of step is not to be counted.
+pub fn take(kind: &str, n: u32, which: &str) {
+    let (_, kind) = KINDS
+        .into_iter()
+        .find(|(name, _)| *name == kind)
+        .expect("hit, miss or refused");
+    let calls = match which {
+        "library" => LIBRARY,
+        "plain" => PLAIN,
+        _ => panic!("library or plain"),
+    };
+    run(calls, &log(kind, n), &mut Vec::new());
+    println!("{STEPS}");
+}
+
 pub fn table() {
     println!(
         "ns per step: the least of {ROUNDS} rounds of {STEPS} steps, library and plain Rust in turn"
     );
     println!("step     items  evictions a step  library ns  plain Rust ns  ratio");
     let mut state = Vec::new();
-    for (name, kind) in [
-        ("hit", Kind::Hit),
-        ("miss", Kind::Miss),
-        ("refused", Kind::Refused),
-    ] {
+    for (name, kind) in KINDS {
         for n in [3, 30, 256] {
             let log = log(kind, n);
             let (mut library, mut plain) = (f64::MAX, f64::MAX);
