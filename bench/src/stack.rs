@@ -1,48 +1,47 @@
 //! The stack that each exported call takes: the bytes below are painted, the call is made, and the deepest byte that has another
-//! colour is looked for. What memcpy and memset of the C library take is part of it.
+//! colour is looked for. What memcpy and memset of the C library take is part of it, and so are some bytes of the closure here.
 
 use std::hint::black_box;
-use std::mem::MaybeUninit;
+use std::thread;
 
 use crate::calls::{LIBRARY, library_report};
 use crate::plain::{FLUSH, READ, STATE_BYTES, WRITE};
 
+/// How far down is painted, in a thread whose stack is larger; and how far the frame of the painter itself may reach.
 const DEPTH: usize = 256 * 1024;
+const OWN: usize = 160;
 const PAINT: u8 = 0xA7;
 
 #[inline(never)]
 fn paint() {
-    let mut below = MaybeUninit::<[u8; DEPTH]>::uninit();
-    let first = black_box(below.as_mut_ptr()).cast::<u8>();
-    for i in 0..DEPTH {
-        // SAFETY: within the array.
-        unsafe { first.add(i).write_volatile(PAINT) };
+    let mut here = 0u8;
+    let top = black_box(&raw mut here);
+    for i in OWN..DEPTH {
+        // SAFETY: below this frame and within the thread's stack, where nothing is in use.
+        unsafe { top.sub(i).write_volatile(PAINT) };
     }
 }
 
-/// How far down the bytes have another colour, from where `paint` began.
+/// How far down the bytes have another colour.
 #[inline(never)]
 fn touched() -> usize {
-    let mut below = MaybeUninit::<[u8; DEPTH]>::uninit();
-    let first = black_box(below.as_mut_ptr()).cast::<u8>();
-    // SAFETY: within the array, which `paint` has written. Read as volatile: they are what the stack holds.
-    let kept = (0..DEPTH).take_while(|&i| unsafe { first.add(i).read_volatile() } == PAINT);
-    DEPTH - kept.count()
+    let mut here = 0u8;
+    let top = black_box(&raw mut here);
+    // SAFETY: as in `paint`, which has written them.
+    let kept = |i: usize| unsafe { top.sub(i).read_volatile() } == PAINT;
+    (OWN..DEPTH).rev().find(|&i| !kept(i)).unwrap_or(OWN)
 }
 
-/// The bytes that a call takes, less what calling nothing takes.
+/// At most so many bytes are taken by a call.
+#[inline(never)]
 fn taken_by(call: &mut dyn FnMut()) -> usize {
-    let most = |call: &mut dyn FnMut()| {
-        paint();
-        call();
-        touched()
-    };
-    let nothing = most(&mut || {});
-    most(call).saturating_sub(nothing)
+    paint();
+    call();
+    touched()
 }
 
 /// The most that each call takes, over a few states: a catalog of 3 and one of 256 items, little and much held, clean and dirty.
-pub fn table() {
+fn most() -> [usize; 4] {
     let [mut open, mut step, mut close, mut report] = [0; 4];
     for n in [3u32, 256] {
         let catalog: Vec<u8> = (0..n)
@@ -56,24 +55,30 @@ pub fn table() {
         for kind in [WRITE, READ, WRITE, FLUSH] {
             for i in 0..n {
                 step = step.max(taken_by(&mut || {
-                    (LIBRARY.step)(&mut state, kind, i, 60);
+                    assert_eq!((LIBRARY.step)(&mut state, kind, i, 60), 0);
                 }));
             }
             report = report.max(taken_by(&mut || {
                 assert_eq!(library_report(&state, &mut page), 0);
             }));
+            let mut closed = state.clone();
             close = close.max(taken_by(&mut || {
-                assert_eq!((LIBRARY.close)(&mut state.clone()), 0);
+                assert_eq!((LIBRARY.close)(&mut closed), 0);
             }));
         }
     }
-    println!("bytes of stack, the C library's memcpy and memset included:");
-    for (name, bytes) in [
-        ("open", open),
-        ("step", step),
-        ("close", close),
-        ("report", report),
-    ] {
+    [open, step, close, report]
+}
+
+pub fn table() {
+    let bytes = thread::Builder::new()
+        .stack_size(4 * DEPTH)
+        .spawn(most)
+        .expect("a thread")
+        .join()
+        .expect("each call is taken");
+    println!("bytes of stack at most, memcpy and memset of the C library included:");
+    for (name, bytes) in ["open", "step", "close", "report"].iter().zip(bytes) {
         println!("  {name:<7} {bytes:>6}");
     }
 }
