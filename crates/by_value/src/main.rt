@@ -17,12 +17,16 @@ fn print(words: &[u8], value: u64) {
     io::print_decimal(1, value);
 }
 
+fn print_count(words: &[u8], value: u32) {
+    print(words, value as u64);
+}
+
 // Opens a cache of `k` blocks for one item of so many.
 fn one_item(k: u32, blocks: u8) -> Cache {
     let opened = Cache::open(k, 1, [blocks; 256], [4; 256], [6; 256]);
     let answer = opened.answer;
-    print(b"open k ", k as u64);
-    print(b": ", number(answer) as u64);
+    print_count(b"open k ", k);
+    print_count(b": ", number(answer));
     io::write_all(1, b"\n");
     opened.cache
 }
@@ -31,7 +35,7 @@ fn one_item(k: u32, blocks: u8) -> Cache {
 fn read_row(k: u32) {
     let read = one_item(k, 16).step(Step::Read { item: 0 });
     let answer = read.answer;
-    print(b"R of 16 blocks: ", number(answer) as u64);
+    print_count(b"R of 16 blocks: ", number(answer));
     io::write_all(1, b"\n");
 }
 
@@ -42,10 +46,10 @@ fn write_row(minutes: u32) {
         minutes: minutes,
     });
     let answer = wrote.answer;
-    print(b"W of minutes ", minutes as u64);
-    print(b": ", number(answer) as u64);
+    print_count(b"W of minutes ", minutes);
+    print_count(b": ", number(answer));
     let next = wrote.cache;
-    print(b", tenths ", next.tenths[0] as u64);
+    print_count(b", tenths ", next.tenths[0]);
     io::write_all(1, b"\n");
 }
 
@@ -54,20 +58,20 @@ fn print_item(c: Cache, i: usize)
     requires { ⌜ i < 256 ⌝ }
 {
     print(b"", i as u64);
-    print(b" ", c.tenths[i] as u64);
-    print(b" ", c.itemloads[i] as u64);
-    print(b" ", c.itemwritebacks[i] as u64);
+    print_count(b" ", c.tenths[i]);
+    print_count(b" ", c.itemloads[i]);
+    print_count(b" ", c.itemwritebacks[i]);
     io::write_all(1, b"\n");
 }
 
 // And of the totals.
 fn print_totals(c: Cache) {
-    print(b"", c.hits as u64);
-    print(b" ", c.loads as u64);
+    print_count(b"", c.hits);
+    print_count(b" ", c.loads);
     print(b" ", c.loadcost);
-    print(b" ", c.evictions as u64);
-    print(b" ", c.dirtyevictions as u64);
-    print(b" ", c.writebacks as u64);
+    print_count(b" ", c.evictions);
+    print_count(b" ", c.dirtyevictions);
+    print_count(b" ", c.writebacks);
     print(b" ", c.writecost);
     io::write_all(1, b"\n");
 }
@@ -102,7 +106,7 @@ fn whole_example() {
     let f = e.step(Step::Flush).cache;
     let closed = f.close();
     let answer = closed.answer;
-    print(b"close: ", number(answer) as u64);
+    print_count(b"close: ", number(answer));
     io::write_all(1, b"\n");
     let end = closed.cache;
     print_item(end, 0);
@@ -111,7 +115,7 @@ fn whole_example() {
     print_totals(end);
     let again = end.close();
     let refused = again.answer;
-    print(b"close: ", number(refused) as u64);
+    print_count(b"close: ", number(refused));
     io::write_all(1, b"\n");
 }
 

@@ -1,6 +1,8 @@
 pub mod Season
 pub mod Table
-pub mod Openings
+pub mod Calls
 pub mod Steps
-pub mod Replies
+pub mod Empty
+pub mod Openings
 pub mod Runs
+pub mod Tells

@@ -1,238 +1,196 @@
--- Laws of an opening: its tests, the copied arrays, and the empty cache against the rule's start. Assumes nothing.
+-- Laws of an opening in lent bytes: its tests are the table's, the items are stored, and the rule starts. Assumes nothing.
 use mathlib.Core.Path.{_≡_, refl, sym, ap, subst, _∙_}
-use mathlib.Core.Bool.{Bool, true, false, cond, _&&_, false≢true}
-use mathlib.Core.List.{List, []}
-use Prim.Native.Nat.{ℕ, zero, suc, _+_, _≤_, _<_, _/_, _%_, _^_}
-use native.Mathlib.Nat.{zero-div}
-use lib.Dec.{eqb, leb}
+use mathlib.Core.Logic.{_≢_}
+use mathlib.Core.Bool.{Bool, true, false, cond, _&&_}
+use mathlib.Core.List.{List}
+use Prim.Native.Nat.{ℕ, _+_, _/_, _%_, _≤_, _<_}
 use native.Mathlib.Omega.{arith}
-use native.Mathlib.Decide.{ℕ-discrete}
-use lib.ListN.{length, getD, set, replicate}
-use lib.Seq.{getD-set-same, getD-set-other}
-use Rattle.landlord.specs.Fold.{tab, tabFrom, fold}
-use Rattle.landlord.specs.Catalog.{Catalog, Item, CapacityOk, CatalogOk, ItemOk, itemAt, noItem}
-use Rattle.landlord.specs.Slot.{absent}
-use Rattle.landlord.specs.Rule.{emptied, flush, writeBacks}
-use Rattle.landlord.specs.Valid.{StandingOk}
-use Rattle.landlord.proofs.Valid.{ok-opened, ok-closes}
-use Rattle.landlord.specs.Figures.{Standing, opened, closes, nothing, noUse, totalsOf}
+use lib.Dec.{eqb, leb}
+use lib.ListN.{length, set, replicate, getD-replicate, length-replicate}
+use borrow.Author.Count.{below-more}
+use borrow.Author.Tests.{eq-eqb, ne-eqb, le-leb, lt-leb, eqb-true, leb-true}
+use Rattle.landlord.specs.Catalog.{Catalog, CapacityOk, CatalogOk, ItemOk, itemAt}
+use Rattle.landlord.specs.Figures.{opened}
 use Rattle.landlord.specs.Calls.{openingRefusal, allInRange}
-use Rattle.landlord.proofs.Folds.{tab-length, tab-at, tab-eq}
 use Rattle.landlord.proofs.Calls.{opening-taken, opening-accepts}
-use Rattle.marks.specs.Marks.{bit, marked}
+use Rattle.landlord.proofs.Valid.{ok-opened}
+use Rattle.fields.specs.LittleEndian.{Below}
+use Rattle.catalog_bytes.specs.Catalogs.{itemIn, catalogIn, HasItem}
+use Rattle.catalog_bytes.proofs.Laws.{length-catalogIn, item-at, load-lt, write-lt}
 use Rattle.cache_state.specs.Cache.{Cache}
-use Rattle.cache_state.specs.View.{slotOf, usageOf, catalogOf, slotsOf, usesOf}
-use Rattle.cache_state.specs.Valid.{Valid, Blank, Emptied}
-use Rattle.cache_state.specs.Becomes.{Becomes, Decided}
-use Rattle.cache.proofs.Season.{becomes-valid}
-use Rattle.cache.specs.Contract.{EmptyPlace, Opened, catalogFrom, refusedOpening}
-use Rattle.cache.specs.Opening.{FirstOf, BlocksOk, Opens, emptyOf}
+use Rattle.cache_state.specs.Becomes.{Becomes}
+use Rattle.cache_state.specs.With.{withCapacity, withCount, withCatalog, withBlocks, withItemLoadCost, withItemWriteCost}
+use Rattle.layout.specs.Layout.{stateBytes, cacheOf}
+use Rattle.layout.specs.Stands.{Stands, cleared}
+use Rattle.layout.proofs.Places.{stands-as}
+use Rattle.cache_room.specs.Stores.{storeTo}
+use Rattle.cache_room.proofs.Laws.{store-more, store-past, store-at}
+use Rattle.cache.specs.Contract.{EmptyPlace, openingNumber, OpenedLent}
+use Rattle.cache.specs.Opening.{BlocksIn, Whole, enteredOf, Column}
+use Rattle.cache.proofs.Calls.{stands-become, becomes-valid}
+use Rattle.cache.proofs.Empty.{empty-place, empty-becomes}
 
-pub decided-yes : {A : Type 0} → A → Decided A true
-decided-yes a = record { yes = λ e. a; only = λ b. refl }
+-- ---- the tests
 
-pub decided-no : {A : Type 0} → (A → ⊥) → Decided A false
-decided-no h = record { yes = λ e. absurd (false≢true e); only = λ a. absurd (h a) }
+-- item i of n is there
+pub has-item : {n i : ℕ} {xs : List ℕ} → Whole n xs → i < n → HasItem xs i
+has-item w l = record { place = omega (arith, w .few); inside = omega (arith, w .count) }
 
-pub no-blocks : (bs : List ℕ) → BlocksOk 0 bs
-no-blocks bs = record { some = λ i l. absurd (let z : i < 0 = l in omega arith); small = λ i l. absurd (let z : i < 0 = l in omega arith) }
+pub no-blocks : (xs : List ℕ) → BlocksIn 0 xs
+no-blocks xs = record { some = λ i l. absurd (let z : i < 0 = l in omega arith); small = λ i l. absurd (let z : i < 0 = l in omega arith) }
 
--- what holds of every number below i, and of i, holds of every number below i + 1
-one-more : (P : ℕ → Type 0) (i : ℕ) → ((j : ℕ) → j < i → P j) → P i → (j : ℕ) → j < i + 1 → P j
-one-more P i below here j l = go (ℕ-discrete j i)
+pub more-blocks : (xs : List ℕ) (i : ℕ) → BlocksIn i xs → 1 ≤ itemIn xs i .blocks → itemIn xs i .blocks ≤ 16 → BlocksIn (i + 1) xs
+more-blocks xs i ok low high =
+    record { some = below-more (λ j. 1 ≤ itemIn xs j .blocks) i (ok .some) low; small = below-more (λ j. itemIn xs j .blocks ≤ 16) i (ok .small) high }
+
+-- an opening that asks for something out of range is refused
+pub refuses : (k : ℕ) (cat : Catalog) → (CapacityOk k × CatalogOk cat → ⊥) → 3 ≡ openingRefusal k cat
+unfolding openingRefusal
+refuses k cat none = go (leb 1 k && leb k 4096 && leb (length cat) 256 && allInRange cat) refl
   where
-    go : Dec (j ≡ i) → P j
-    go (yes e) = subst P (sym e) here
-    go (no e) = below j (omega arith)
+    go : (t : Bool) → leb 1 k && leb k 4096 && leb (length cat) 256 && allInRange cat ≡ t → _≡_ {A = ℕ} 3 (cond t 0 3)
+    go true e = absurd (none (opening-taken k cat (unfold openingRefusal in rw e)))
+    go false e = refl
 
-pub more-blocks : (bs : List ℕ) (i : ℕ) → BlocksOk i bs → 1 ≤ getD bs i 0 → getD bs i 0 ≤ 16 → BlocksOk (i + 1) bs
-more-blocks bs i ok low high =
-    record { some = one-more (λ j. 1 ≤ getD bs j 0) i (ok .some) low; small = one-more (λ j. getD bs j 0 ≤ 16) i (ok .small) high }
+-- lengths that are right
+pub record Lengths (size : ℕ) (xs : List ℕ) : Type 0 where
+  pub state : size ≡ stateBytes
+  pub whole : length xs % 5 ≡ 0
+  pub few : length xs ≤ 1280
 
--- the last test decides where the others have come out so
-pub opens-so : (k n : ℕ) (blocks : List ℕ) (r : Bool) → 1 ≤ k → k ≤ 4096 → n ≤ 256 → Decided (BlocksOk n blocks) r → Decided (Opens k n blocks) r
-opens-so k n blocks r low high few d =
-    record { yes = λ e. record { low = low; high = high; few = few; each = d .yes e }; only = λ o. d .only (o .each) }
+module _ (size k : ℕ) (xs : List ℕ) where
+  pub wrong-size : size ≢ stateBytes → 17 ≡ openingNumber size k xs
+  unfolding openingNumber
+  wrong-size e = rw (ne-eqb size stateBytes e)
 
-pub zeros-at : (m i : ℕ) → _≡_ {A = ℕ} (getD (replicate m 0) i 0) 0
-zeros-at zero i = refl
-zeros-at (suc m) zero = refl
-zeros-at (suc m) (suc i) = zeros-at m i
+  pub ragged : size ≡ stateBytes → length xs % 5 ≢ 0 → 3 ≡ openingNumber size k xs
+  unfolding openingNumber
+  ragged e d = rw (eq-eqb size stateBytes e, ne-eqb (length xs % 5) 0 d)
 
-falses-at : (m i : ℕ) → getD (replicate m false) i false ≡ false
-falses-at zero i = refl
-falses-at (suc m) zero = refl
-falses-at (suc m) (suc i) = falses-at m i
+  pub too-long : size ≡ stateBytes → length xs % 5 ≡ 0 → 1280 < length xs → 3 ≡ openingNumber size k xs
+  unfolding openingNumber
+  too-long e d l = rw (eq-eqb size stateBytes e, eq-eqb (length xs % 5) 0 d, lt-leb (length xs) 1280 l)
 
-pub first-none : (xs : List ℕ) (m : ℕ) → FirstOf 0 xs (replicate m 0)
-first-none xs m = record { front = λ i l. absurd (let z : i < 0 = l in omega arith); rest = λ i l. zeros-at m i }
+  pub asks : Lengths size xs → openingNumber size k xs ≡ openingRefusal k (catalogIn xs)
+  unfolding openingNumber
+  asks s = rw (eq-eqb size stateBytes (s .state), eq-eqb (length xs % 5) 0 (s .whole), le-leb (length xs) 1280 (s .few))
 
--- one entry more copied
-pub first-more : (xs out : List ℕ) (i : ℕ) → i < length out → FirstOf i xs out → FirstOf (i + 1) xs (set out i (getD xs i 0))
-first-more xs out i l f =
-    record {
-      front =
-          one-more (λ j. getD (set out i (getD xs i 0)) j 0 ≡ getD xs j 0) i
-          (λ j b. getD-set-other out i j (getD xs i 0) 0 (omega arith) ∙ f .front j b) (getD-set-same out i (getD xs i 0) 0 l);
-      rest = λ j b. getD-set-other out i j (getD xs i 0) 0 (omega arith) ∙ f .rest j (omega arith);
-    }
+  pub no-capacity : Lengths size xs → (CapacityOk k → ⊥) → 3 ≡ openingNumber size k xs
+  no-capacity s bad = refuses k (catalogIn xs) (λ f. bad (f .0)) ∙ sym (asks s)
 
--- no mark is set in words that are 0
-unmarked : (i : ℕ) → marked (replicate 4 0) i ≡ false
-unfolding marked bit
-unmarked i = ap (λ (w : ℕ). eqb (w / 2 ^ (i % 64) % 2) 1) (zeros-at 4 (i / 64)) ∙ ap (λ (w : ℕ). eqb (w % 2) 1) (zero-div (2 ^ (i % 64)))
-
-pub empty-place : (k n : ℕ) (b l w : List ℕ) (t : Bool) (i : ℕ) → EmptyPlace (emptyOf k n b l w t) i
-empty-place k n b l w t i =
-    record {
-      held = falses-at 256 i;
-      loadCredit = zeros-at 256 i;
-      writeCredit = zeros-at 256 i;
-      dirty = unmarked i;
-      tenths = zeros-at 256 i;
-      loads = zeros-at 256 i;
-      writebacks = zeros-at 256 i;
-    }
-
--- where the rule starts, and a closed cache as empty
-abbrev started : ℕ → Catalog → Bool → Standing
-started k cat isClosed = record { k = k; state = emptied cat; figures = nothing cat; closed = isClosed }
-
--- the cache of an opening: its catalog is the given one, and it stands where the rule starts
-module _ (k n : ℕ) (isClosed : Bool) (blocks load write b l w : List ℕ) (few : n ≤ 256) (fb : FirstOf n blocks b) (fl : FirstOf n load l) (fw : FirstOf n write w) where
-  same-catalog : catalogOf (emptyOf k n b l w isClosed) ≡ catalogFrom n blocks load write
-  unfolding catalogOf catalogFrom
-  same-catalog = tab-eq n _ _ (λ i m z. record { blocks = fb .front i m z; load = fl .front i m z; write = fw .front i m z })
-
-  catalog-length : length (catalogFrom n blocks load write) ≡ n
-  unfolding catalogFrom
-  catalog-length = tab-length n _
-
-  pub new-becomes : Becomes (started k (catalogFrom n blocks load write) isClosed) (emptyOf k n b l w isClosed)
-  unfolding slotsOf usesOf
-  new-becomes =
-      record {
-        stands = λ z. record {
-          k = k;
-          state = record { catalog = same-catalog z; slots = (slots ∙ ap (λ (m : ℕ). tab m (λ i. absent)) (sym catalog-length)) z };
-          figures = record { totals = totalsOf 0 0 0 0 0 0 0 0 0; uses = (uses ∙ ap (λ (m : ℕ). tab m (λ i. noUse)) (sym catalog-length)) z };
-          closed = isClosed;
-        };
-        fields = record { few = few; past = past; absent = λ i m e. gone i; clean = λ i m e. zeros-at 256 i };
-      }
+  pub blocks-refused : Lengths size xs → (BlocksIn (length xs / 5) xs → ⊥) → 3 ≡ openingNumber size k xs
+  blocks-refused s bad = refuses k (catalogIn xs) (λ f. bad (read (f .1))) ∙ sym (asks s)
     where
-      place : (i : ℕ) → EmptyPlace (emptyOf k n b l w isClosed) i
-      place i = empty-place k n b l w isClosed i
+      at : (i : ℕ) → i < length xs / 5 → CatalogOk (catalogIn xs) → ItemOk (itemIn xs i)
+      at i l ok = subst ItemOk (item-at xs i l) (ok .each i (omega (arith, length-catalogIn xs)))
 
-      slots : tab n (slotOf (emptyOf k n b l w isClosed)) ≡ tab n (λ i. absent)
-      slots = tab-eq n _ _ (λ i m. rw (place i .held))
+      read : CatalogOk (catalogIn xs) → BlocksIn (length xs / 5) xs
+      read ok = record { some = λ i l. at i l ok .some; small = λ i l. at i l ok .small }
 
-      uses : tab n (usageOf (emptyOf k n b l w isClosed)) ≡ tab n (λ i. noUse)
-      uses = tab-eq n _ _ (λ i m. λ z. record { tenths = place i .tenths z; loads = place i .loads z; writebacks = place i .writebacks z })
-
-      gone : (i : ℕ) → Emptied (emptyOf k n b l w isClosed) i
-      gone i = record { dirty = place i .dirty; loadCredit = place i .loadCredit; writeCredit = place i .writeCredit }
-
-      past : (i : ℕ) → n ≤ i → i < 256 → Blank (emptyOf k n b l w isClosed) i
-      past i m u =
-          record {
-            blocks = fb .rest i m;
-            load = fl .rest i m;
-            write = fw .rest i m;
-            held = place i .held;
-            loadCredit = place i .loadCredit;
-            writeCredit = place i .writeCredit;
-            dirty = place i .dirty;
-            tenths = place i .tenths;
-            loads = place i .loads;
-            writebacks = place i .writebacks;
-          }
-
--- an opening's tests are the table's: costs of 16 bits are in range
-module _ (k n : ℕ) (blocks load write : List ℕ) where
-  length-from : length (catalogFrom n blocks load write) ≡ n
-  unfolding catalogFrom
-  length-from = tab-length n _
-
-  item-from : (i : ℕ) → i < n → itemAt (catalogFrom n blocks load write) i ≡ record { blocks = getD blocks i 0; load = getD load i 0; write = getD write i 0 }
-  unfolding catalogFrom
-  item-from i l = tab-at n _ i noItem l
-
-  pub opens-taken : Opens k n blocks → ((i : ℕ) → getD load i 0 ≤ 65535) → ((i : ℕ) → getD write i 0 ≤ 65535) → 0 ≡ openingRefusal k (catalogFrom n blocks load write)
-  opens-taken o fl fw =
-      sym (opening-accepts k (catalogFrom n blocks load write) (record { low = o .low; high = o .high }) (record { few = omega (arith, length-from, o .few); each = item }))
+  -- costs of two bytes are in range
+  pub blocks-taken : Lengths size xs → CapacityOk k → Below 256 xs → BlocksIn (length xs / 5) xs → 0 ≡ openingNumber size k xs
+  blocks-taken s room bytes ok = sym (asks s ∙ opening-accepts k (catalogIn xs) room (record { few = omega (arith, length-catalogIn xs, s .few); each = item }))
     where
-      item : (i : ℕ) → i < length (catalogFrom n blocks load write) → ItemOk (itemAt (catalogFrom n blocks load write) i)
+      item : (i : ℕ) → i < length (catalogIn xs) → ItemOk (itemAt (catalogIn xs) i)
       item i l =
-          let m : i < n = omega (arith, length-from) in
-          subst ItemOk (sym (item-from i m)) (record { some = o .each .some i m; small = o .each .small i m; load = fl i; write = fw i })
+          let m : i < length xs / 5 = omega (arith, length-catalogIn xs) in
+          subst ItemOk (sym (item-at xs i m))
+          (record { some = ok .some i m; small = ok .small i m; load = omega (arith, load-lt xs i bytes); write = omega (arith, write-lt xs i bytes) })
 
-  pub opens-refused : (Opens k n blocks → ⊥) → 3 ≡ openingRefusal k (catalogFrom n blocks load write)
-  unfolding openingRefusal
-  opens-refused none = go (leb 1 k && leb k 4096 && leb (length (catalogFrom n blocks load write)) 256 && allInRange (catalogFrom n blocks load write)) refl
-    where
-      go : (t : Bool) → leb 1 k && leb k 4096 && leb (length (catalogFrom n blocks load write)) 256 && allInRange (catalogFrom n blocks load write) ≡ t → _≡_ {A = ℕ} 3 (cond t 0 3)
-      go true e = absurd (none (range (opening-taken k (catalogFrom n blocks load write) (unfold openingRefusal in rw e))))
-        where
-          range : CapacityOk k × CatalogOk (catalogFrom n blocks load write) → Opens k n blocks
-          range f =
-              record {
-                low = f .0 .low;
-                high = f .0 .high;
-                few = omega (arith, f .1 .few, length-from);
-                each = record {
-                  some = λ i l. subst (λ (x : Item). 1 ≤ x .blocks) (item-from i l) (f .1 .each i (omega (arith, length-from)) .some);
-                  small = λ i l. subst (λ (x : Item). x .blocks ≤ 16) (item-from i l) (f .1 .each i (omega (arith, length-from)) .small);
-                };
-              }
-      go false e = refl
+-- an opening that was not refused has passed them all
+pub record Right (size k : ℕ) (xs : List ℕ) : Type 0 where
+  pub lengths : Lengths size xs
+  pub accepted : openingRefusal k (catalogIn xs) ≡ 0
 
-  pub open-taken :
-      (b l w : List ℕ) (cache : Cache) →
-      Opens k n blocks →
-      FirstOf n blocks b →
-      FirstOf n load l →
-      FirstOf n write w →
-      ((i : ℕ) → getD load i 0 ≤ 65535) →
-      ((i : ℕ) → getD write i 0 ≤ 65535) →
-      cache ≡ emptyOf k n b l w false →
-      Opened k (catalogFrom n blocks load write) (record { number = 0; cache = cache })
-  open-taken b l w cache o fb fl fw ll lw e =
-      record {
-        number = opens-taken o ll lw;
-        taken = λ z. subst (Becomes (opened k (catalogFrom n blocks load write))) (sym e) (new-becomes k n false blocks load write b l w (o .few) fb fl fw);
-        refused = λ z. absurd (z refl);
-        empty = λ i m. subst (λ (c : Cache). EmptyPlace c i) (sym e) (empty-place k n b l w false i);
-      }
-
-  pub open-refused :
-      (cache : Cache) →
-      (Opens k n blocks → ⊥) →
-      cache ≡ emptyOf 1 0 (replicate 256 0) (replicate 256 0) (replicate 256 0) true →
-      Opened k (catalogFrom n blocks load write) (record { number = 3; cache = cache })
-  open-refused cache o e =
-      record {
-        number = opens-refused o;
-        taken = λ z. absurd (let y : _≡_ {A = ℕ} 3 0 = z in omega arith);
-        refused = λ z. subst (Becomes refusedOpening) (sym e) nobody;
-        empty = λ i m. subst (λ (c : Cache). EmptyPlace c i) (sym e) (empty-place 1 0 (replicate 256 0) (replicate 256 0) (replicate 256 0) true i);
-      }
-    where
-      nobody : Becomes refusedOpening (emptyOf 1 0 (replicate 256 0) (replicate 256 0) (replicate 256 0) true)
-      nobody =
-          unfold catalogFrom tabFrom in
-          new-becomes 1 0 true (replicate 256 0) (replicate 256 0) (replicate 256 0) (replicate 256 0) (replicate 256 0) (replicate 256 0) (omega arith)
-          (first-none _ 256) (first-none _ 256) (first-none _ 256)
-
--- the cache of a refused opening is valid
-pub refused-valid : (r : Cache) → Becomes refusedOpening r → Valid r
-refused-valid r h = becomes-valid refusedOpening r standing h
+pub right : {size k n : ℕ} {xs : List ℕ} → n ≡ openingNumber size k xs → n ≡ 0 → Right size k xs
+unfolding openingNumber
+right {size = size} {k = k} {xs = xs} asked none = go (eqb size stateBytes) (eqb (length xs % 5) 0) (leb (length xs) 1280) refl refl refl (sym asked ∙ none)
   where
-    size : CapacityOk 1
-    size = record { low = omega arith; high = omega arith }
+    go :
+        (a b c : Bool) →
+        eqb size stateBytes ≡ a →
+        eqb (length xs % 5) 0 ≡ b →
+        leb (length xs) 1280 ≡ c →
+        cond a (cond (b && c) (openingRefusal k (catalogIn xs)) 3) 17 ≡ 0 →
+        Right size k xs
+    go true true true p q r e =
+        record { lengths = record { state = eqb-true size stateBytes p; whole = eqb-true (length xs % 5) 0 q; few = leb-true (length xs) 1280 r }; accepted = e }
+    go true true false p q r e = absurd (let y : _≡_ {A = ℕ} 3 0 = e in omega arith)
+    go true false c p q r e = absurd (let y : _≡_ {A = ℕ} 3 0 = e in omega arith)
+    go false b c p q r e = absurd (let y : _≡_ {A = ℕ} 17 0 = e in omega arith)
 
-    none : CatalogOk []
-    none = record { few = omega arith; each = λ i l. absurd (let z : i < 0 = l in omega arith) }
+-- ---- the items stored
 
-    standing : StandingOk refusedOpening
-    standing = unfold closes flush writeBacks tabFrom fold in ok-closes (opened 1 []) (ok-opened 1 [] size none)
+pub entered-none : {b : List ℕ} (xs : List ℕ) → Stands b (cacheOf b) → Stands b (enteredOf (cacheOf b) xs 0)
+unfolding storeTo
+entered-none xs s = s
+
+pub entered-more :
+    {b one two left : List ℕ} (c : Cache) (xs : List ℕ) (i : ℕ) {x y z : ℕ} →
+    Stands b (enteredOf c xs i) →
+    x ≡ itemIn xs i .blocks →
+    y ≡ itemIn xs i .load →
+    z ≡ itemIn xs i .write →
+    Stands one (withBlocks (cacheOf b) i x) →
+    Stands two (withItemLoadCost (cacheOf one) i y) →
+    Stands left (withItemWriteCost (cacheOf two) i z) →
+    Stands left (enteredOf c xs (i + 1))
+entered-more c xs i {x = x} {y = y} {z = z} s ex ey ez p q r =
+    stands-as r
+    (ap (λ (d : Cache). withItemWriteCost d i z) (q .cache)
+    ∙ ap (λ (d : Cache). withItemWriteCost (withItemLoadCost d i y) i z) (p .cache)
+    ∙ ap (λ (d : Cache). withItemWriteCost (withItemLoadCost (withBlocks d i x) i y) i z) (s .cache)
+    ∙ (λ j. withCatalog c (c .k) (c .n) (stored (λ n. itemIn xs n .blocks) (c .blocks) ex j) (stored (λ n. itemIn xs n .load) (c .load) ey j) (stored (λ n. itemIn xs n .write) (c .write) ez j)))
+  where
+    stored : (f : ℕ → ℕ) (l : List ℕ) {v : ℕ} → v ≡ f i → set (storeTo i f l) i v ≡ storeTo (i + 1) f l
+    stored f l e = ap (set (storeTo i f l) i) e ∙ sym (store-more i f l)
+
+-- ---- the whole opening
+
+-- capacity, count and items stored in a cleared state
+abbrev openedOf : ℕ → List ℕ → Cache
+openedOf k xs = enteredOf (withCount (withCapacity cleared k) (length xs / 5)) xs (length xs / 5)
+
+stored-column : (n : ℕ) (f : ℕ → ℕ) → n ≤ 256 → Column n f (storeTo n f (replicate 256 0))
+stored-column n f few =
+    record {
+      front = λ i l. store-at n f (replicate 256 0) i (omega (arith, length-replicate {A = ℕ} 256 0, few)) l;
+      rest = λ i m u. store-past n f (replicate 256 0) i m ∙ getD-replicate 256 i 0 0 u;
+    }
+
+opened-becomes : (k : ℕ) (xs : List ℕ) → length xs / 5 ≤ 256 → Becomes (opened k (catalogIn xs)) (openedOf k xs)
+unfolding catalogIn
+opened-becomes k xs few =
+    empty-becomes k (length xs / 5) (itemIn xs) false _ _ _ few (stored-column (length xs / 5) (λ i. itemIn xs i .blocks) few)
+    (stored-column (length xs / 5) (λ i. itemIn xs i .load) few) (stored-column (length xs / 5) (λ i. itemIn xs i .write) few)
+
+-- refused, every byte stays; else the bytes were cleared and capacity, count and items stored
+pub opening-refused : (b xs : List ℕ) (k n : ℕ) → n ≡ openingNumber (length b) k xs → n ≢ 0 → OpenedLent b k xs n b
+opening-refused b xs k n e d = record { answer = e; valid = λ z. absurd (d z); stands = λ z. absurd (d z); empty = λ z. absurd (d z); refused = λ z. refl }
+
+pub opening-done :
+    (b xs : List ℕ) (k n : ℕ) {one two three left : List ℕ} →
+    n ≡ openingNumber (length b) k xs →
+    n ≡ 0 →
+    Stands one cleared →
+    Stands two (withCapacity (cacheOf one) k) →
+    Stands three (withCount (cacheOf two) (length xs / 5)) →
+    Stands left (enteredOf (cacheOf three) xs (length xs / 5)) →
+    OpenedLent b k xs 0 left
+opening-done b xs k n {left = left} e z p q r s =
+    let ranges = right e z in
+    let good = opening-taken k (catalogIn xs) (ranges .accepted) in
+    let so : Stands left (openedOf k xs) =
+    stands-as s
+    (ap (λ (d : Cache). enteredOf d xs (length xs / 5)) (r .cache)
+    ∙ ap (λ (d : Cache). enteredOf (withCount d (length xs / 5)) xs (length xs / 5)) (q .cache)
+    ∙ ap (λ (d : Cache). enteredOf (withCount (withCapacity d k) (length xs / 5)) xs (length xs / 5)) (p .cache))
+    in
+    let stood = stands-become so (opened-becomes k xs (omega (arith, ranges .lengths .few))) in
+    record {
+      answer = sym z ∙ e;
+      valid = λ w. becomes-valid (ok-opened k (catalogIn xs) (good .0) (good .1)) stood;
+      stands = λ w. stood .cache .stands;
+      empty = λ w i l. subst (λ (c : Cache). EmptyPlace c i) (sym (so .cache)) (empty-place k (length xs / 5) _ _ _ false i l);
+      refused = λ w. absurd (w refl);
+    }

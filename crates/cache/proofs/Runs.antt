@@ -8,33 +8,30 @@ use native.Mathlib.Numerals.{add-one}
 use lib.ListN.{length, getD, drop, set, length-append, drop-of-length-le}
 use lib.Seq.{sets, drop-cons, append-snoc}
 use borrow.Author.Tests.{eq-eqb, ne-eqb}
-use Rattle.landlord.specs.Catalog.{Catalog}
 use Rattle.landlord.specs.Calls.{Call, take, close}
 use Rattle.landlord.proofs.Folds.{tab-length, tab-at}
-use Rattle.cache_state.specs.Cache.{Cache}
-use Rattle.cache_state.specs.Valid.{Valid}
-use Rattle.cache.specs.declared.Reply.{Reply}
-use Rattle.cache.specs.Contract.{Answers, Opened}
+use Rattle.cache.specs.Contract.{Kind, lent, Answers, OpenedLent}
 use Rattle.cache.specs.Chain.{Follows, none, then}
-use Rattle.cache.specs.Run.{callFrom, callAt, callsOf, RanCalls, Ran}
-use Rattle.cache.proofs.Season.{answers-valid, season-by-value}
-use Rattle.cache.proofs.Replies.{answers-called}
+use Rattle.cache.specs.Run.{callFrom, callAt, callsOf, RanCalls, RanLent}
+use Rattle.cache.proofs.Season.{season-lent}
+use Rattle.cache.proofs.Calls.{answers-called}
 
-pub call-takes : (c : Cache) (which kind i m : ℕ) (r : Reply) → which ≡ 0 → Answers c (take kind i m) r → Answers c (callFrom which kind i m) r
-call-takes c which kind i m r e h = rw (eq-eqb which 0 e) h
+-- a call from four numbers
+pub call-takes : (b left : List ℕ) (which kind i m n : ℕ) → which ≡ 0 → Answers lent b (take kind i m) n left → Answers lent b (callFrom which kind i m) n left
+call-takes b left which kind i m n e h = rw (eq-eqb which 0 e) h
 
-pub call-closes : (c : Cache) (which kind i m : ℕ) (r : Reply) → (which ≡ 0 → ⊥) → Answers c close r → Answers c (callFrom which kind i m) r
-call-closes c which kind i m r e h = rw (ne-eqb which 0 e) h
+pub call-closes : (b left : List ℕ) (which kind i m n : ℕ) → (which ≡ 0 → ⊥) → Answers lent b close n left → Answers lent b (callFrom which kind i m) n left
+call-closes b left which kind i m n e h = rw (ne-eqb which 0 e) h
 
 pub count-is : (xs : List ℕ) → length (callsOf xs) ≡ length xs / 4
 unfolding callsOf
 count-is xs = tab-length (length xs / 4) (callAt xs)
 
-pub call-is : (xs : List ℕ) (i : ℕ) → i < length xs / 4 → getD (callsOf xs) i close ≡ callAt xs i
+call-is : (xs : List ℕ) (i : ℕ) → i < length xs / 4 → getD (callsOf xs) i close ≡ callAt xs i
 unfolding callsOf
 call-is xs i l = tab-at (length xs / 4) (callAt xs) i close l
 
--- the same, where the code keeps four times the number of the call
+-- call i, where the code keeps four times its number
 pub call-at :
     (xs : List ℕ) (i at : ℕ) →
     i < length xs / 4 →
@@ -47,64 +44,67 @@ sets-more : (l vs : List ℕ) (at v : ℕ) → sets l at (vs ++ (v ∷ [])) ≡ 
 sets-more l [] at v = ap (λ (n : ℕ). set l n v) (let e : at ≡ at + 0 = omega arith in e)
 sets-more l (w ∷ vs) at v = sets-more (set l at w) vs (suc at) v ∙ ap (λ (n : ℕ). set (sets (set l at w) (suc at) vs) n v) (let e : suc at + length vs ≡ at + suc (length vs) = omega arith in e)
 
--- after i calls: the cache is valid, what is left to do from here leads to the answers from the start, and those so far are
+-- after i calls: the state is valid, what is left to do from here leads to the answers from the start, and those so far are
 -- noted
-pub record Going (c : Cache) (calls : List Call) (before : List ℕ) (i : ℕ) (q : Cache) (out : List ℕ) : Type 0 where
-  pub valid : Valid q
+pub record Going {C : Type 0} (kind : Kind C) (c : C) (calls : List Call) (before : List ℕ) (i : ℕ) (q : C) (out : List ℕ) : Type 0 where
+  pub valid : kind .Valid q
   pub numbers : List ℕ
   pub count : length numbers ≡ i
-  pub goes : (rest : List ℕ) (d : Cache) → Follows q (drop i calls) rest d → Follows c calls (numbers ++ rest) d
+  pub goes : (rest : List ℕ) (d : C) → Follows kind q (drop i calls) rest d → Follows kind c calls (numbers ++ rest) d
   pub noted : out ≡ sets before 0 numbers
 
-pub going-starts : (c : Cache) (calls : List Call) (before : List ℕ) → Valid c → Going c calls before 0 c before
-going-starts c calls before ok = record { valid = ok; numbers = []; count = refl; goes = λ rest d f. f; noted = refl }
+pub going-starts : {C : Type 0} (kind : Kind C) (c : C) (calls : List Call) (before : List ℕ) → kind .Valid c → Going kind c calls before 0 c before
+going-starts kind c calls before ok = record { valid = ok; numbers = []; count = refl; goes = λ rest d f. f; noted = refl }
 
 pub going-on :
-    (c q : Cache) (calls : List Call) (before out after : List ℕ) (i : ℕ) (call : Call) (r : Reply) →
+    {C : Type 0} (kind : Kind C) (c q r : C) (calls : List Call) (before out after : List ℕ) (i : ℕ) (call : Call) (number : ℕ) →
     i < length calls →
     getD calls i close ≡ call →
-    Answers q call r →
-    after ≡ set out i (r .number) →
-    Going c calls before i q out →
-    Going c calls before (i + 1) (r .cache) after
-going-on c q calls before out after i call r l e h noted g =
+    Answers kind q call number r →
+    after ≡ set out i number →
+    Going kind c calls before i q out →
+    Going kind c calls before (i + 1) r after
+going-on {C = C} kind c q r calls before out after i call number l e h noted g =
     record {
-      valid = answers-valid q call r (g .valid) h;
-      numbers = g .numbers ++ (r .number ∷ []);
-      count = length-append (g .numbers) (r .number ∷ []) ∙ (let z : length (g .numbers) + 1 ≡ i + 1 = omega (arith, g .count) in z);
-      goes = λ rest d f. subst (λ (z : List ℕ). Follows c calls z d) (sym (append-snoc (g .numbers) (r .number) rest)) (g .goes (r .number ∷ rest) d (steps rest d f));
-      noted = noted ∙ ap (λ (z : List ℕ). set z i (r .number)) (g .noted) ∙ ap (λ (n : ℕ). set (sets before 0 (g .numbers)) n (r .number)) (let z : i ≡ 0 + length (g .numbers) = omega (arith, g .count) in z) ∙ sym (sets-more before (g .numbers) 0 (r .number));
+      valid = h .valid;
+      numbers = g .numbers ++ (number ∷ []);
+      count = length-append (g .numbers) (number ∷ []) ∙ (let z : length (g .numbers) + 1 ≡ i + 1 = omega (arith, g .count) in z);
+      goes = λ rest d f. subst (λ (z : List ℕ). Follows kind c calls z d) (sym (append-snoc (g .numbers) number rest)) (g .goes (number ∷ rest) d (steps rest d f));
+      noted = noted ∙ ap (λ (z : List ℕ). set z i number) (g .noted) ∙ ap (λ (n : ℕ). set (sets before 0 (g .numbers)) n number) (let z : i ≡ 0 + length (g .numbers) = omega (arith, g .count) in z) ∙ sym (sets-more before (g .numbers) 0 number);
     }
   where
     left : drop i calls ≡ call ∷ drop (i + 1) calls
     left = drop-cons calls i close l ∙ (λ z. e z ∷ drop (sym (add-one i) z) calls)
 
-    steps : (rest : List ℕ) (d : Cache) → Follows (r .cache) (drop (i + 1) calls) rest d → Follows q (drop i calls) (r .number ∷ rest) d
-    steps rest d f = subst (λ (z : List Call). Follows q z (r .number ∷ rest) d) (sym left) (then (answers-called q call r (g .valid) h) f)
+    steps : (rest : List ℕ) (d : C) → Follows kind r (drop (i + 1) calls) rest d → Follows kind q (drop i calls) (number ∷ rest) d
+    steps rest d f = subst (λ (z : List Call). Follows kind q z (number ∷ rest) d) (sym left) (then (answers-called kind q r call number (g .valid) h) f)
 
-pub going-ends : (c q : Cache) (calls : List Call) (before out : List ℕ) (i : ℕ) → length calls ≤ i → Going c calls before i q out → RanCalls c calls before out q
-going-ends c q calls before out i l g =
+pub going-ends : {C : Type 0} (kind : Kind C) (c q : C) (calls : List Call) (before out : List ℕ) (i : ℕ) → length calls ≤ i → Going kind c calls before i q out → RanCalls kind c calls before out q
+going-ends kind c q calls before out i l g =
     record {
       numbers = g .numbers ++ [];
-      follows = g .goes [] q (subst (λ (z : List Call). Follows q z [] q) (sym (drop-of-length-le calls l)) none);
+      follows = g .goes [] q (subst (λ (z : List Call). Follows kind q z [] q) (sym (drop-of-length-le calls l)) none);
       noted = g .noted ∙ ap (sets before 0) (sym (append-nil (g .numbers)));
     }
 
 -- the whole list: a refused opening, and an accepted one, of which the season theorem holds
-pub run-refused : (k : ℕ) (cat : Catalog) (calls : List Call) (before : List ℕ) (r : Reply) → Opened k cat r → r .number ≢ 0 → Ran k cat calls before before r
-run-refused k cat calls before r o e =
-    record { number = o .number; refused = λ z. (refl, o .refused z); numbers = []; season = λ z. absurd (e z) }
+pub run-refused : (b xs : List ℕ) (k : ℕ) (calls : List Call) (before left : List ℕ) (n : ℕ) → OpenedLent b k xs n left → n ≢ 0 → RanLent b k xs calls before before n left
+run-refused b xs k calls before left n o e =
+    record { answer = o .answer; refused = λ z. (o .refused z, refl); numbers = []; season = λ z. absurd (e z) }
 
 pub run-taken :
-    (k : ℕ) (cat : Catalog) (calls : List Call) (before after : List ℕ) (first : Reply) (d : Cache) →
-    Opened k cat first →
-    first .number ≡ 0 →
-    RanCalls (first .cache) calls before after d →
-    Ran k cat calls before after (record { number = 0; cache = d })
-run-taken k cat calls before after first d o e ran =
+    (b xs first : List ℕ) (k : ℕ) (calls : List Call) (before after left : List ℕ) (n : ℕ) →
+    OpenedLent b k xs n first →
+    n ≡ 0 →
+    RanCalls lent first calls before after left →
+    RanLent b k xs calls before after 0 left
+run-taken b xs first k calls before after left n o e ran =
     record {
-      number = sym e ∙ o .number;
+      answer = sym e ∙ o .answer;
       refused = λ z. absurd (z refl);
       numbers = ran .numbers;
-      season = λ z. (season-by-value k cat calls (ran .numbers) d (record { first = first; opening = o; accepted = e; follows = ran .follows }), ran .noted);
+      season = λ z. (
+        season-lent k xs calls (ran .numbers) left (record { before = b; first = first; opening = subst (λ (m : ℕ). OpenedLent b k xs m first) e o; follows = ran .follows }),
+        ran .noted,
+      );
     }

@@ -8,10 +8,8 @@ use Rattle.landlord.specs.Catalog.{Catalog}
 use Rattle.landlord.specs.Slot.{writeFirst}
 use Rattle.landlord.specs.Figures.{opened, season, totalCost}
 use Rattle.landlord.specs.Plan.{Plan, price, costs}
-use Rattle.landlord.specs.Calls.{Call, close, logOf, refusal, ruleOver}
-use Rattle.catalog_bytes.specs.Catalogs.{catalogIn}
+use Rattle.landlord.specs.Calls.{Call, close, openingRefusal, logOf, refusal, ruleOver}
 use Rattle.layout.specs.Layout.{atLoadCost, atWriteCost, number}
-use Rattle.layout.specs.Stands.{ValidBytes}
 use Rattle.cache.specs.Contract.{Kind, lent, Called, OpenedLent}
 
 -- from c, by these calls with these numbers as answers, to d
@@ -25,6 +23,7 @@ pub data Follows {C : Type 0} (kind : Kind C) : C → List Call → List ℕ →
 
 -- what an opening that was not refused gives
 pub record Begins {C : Type 0} (kind : Kind C) (k : ℕ) (cat : Catalog) (first : C) : Type 0 where
+  pub accepted : openingRefusal k cat ≡ 0
   pub valid : kind .Valid first
   pub stands : kind .view first ≡ opened k cat
 

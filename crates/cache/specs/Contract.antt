@@ -25,8 +25,8 @@ pub record Kind (C : Type 0) : Type 1 where
 abbrev pub lent : Kind (List ℕ)
 lent = record { view = λ b. view (cacheOf b); Valid = ValidBytes }
 
--- A call on a valid state: the number that the table gives; a valid state where the rule stands after the call (there is only one:
--- layout's and cache_state's laws `..-one`); and, refused, the state that was handed in.
+-- A call on a valid state: the number that the table gives; a valid state where the rule stands after the call (there is only one
+-- such list of bytes: proofs/Tells.antt); and, refused, the state that was handed in.
 pub record Answers {C : Type 0} (kind : Kind C) (c : C) (call : Call) (number : ℕ) (d : C) : Type 0 where
   pub answer : number ≡ refusalNow (kind .view c) call
   pub valid : kind .Valid d

@@ -1,14 +1,14 @@
 -- What the functions of an opening in lent bytes give. Assumes nothing.
 use mathlib.Core.Path.{_≡_}
+use mathlib.Core.Bool.{Bool}
 use mathlib.Core.List.{List}
 use Prim.Native.Nat.{ℕ, _/_, _≤_, _<_}
-use lib.ListN.{length}
+use lib.ListN.{length, getD}
 use Rattle.catalog_bytes.specs.Catalogs.{itemIn}
 use Rattle.cache_state.specs.Cache.{Cache}
-use Rattle.cache_state.specs.With.{withCatalog}
+use Rattle.cache_state.specs.With.{withCatalog, withClosed}
 use Rattle.cache_room.specs.Stores.{storeTo}
-use Rattle.layout.specs.Layout.{cacheOf}
-use Rattle.layout.specs.Stands.{Readable}
+use Rattle.layout.specs.Stands.{Readable, cleared}
 
 -- the blocks of the first n items are in range; costs are by their width
 pub record BlocksIn (n : ℕ) (xs : List ℕ) : Type 0 where
@@ -27,6 +27,15 @@ enteredOf c xs n =
     (storeTo n (λ i. itemIn xs i .blocks) (c .blocks))
     (storeTo n (λ i. itemIn xs i .load) (c .load))
     (storeTo n (λ i. itemIn xs i .write) (c .write))
+
+-- a cache of these capacity and catalog, in which nothing is held and nothing counted
+abbrev pub emptyWith : ℕ → ℕ → List ℕ → List ℕ → List ℕ → Bool → Cache
+emptyWith k n blocks load write isClosed = withClosed (withCatalog cleared k n blocks load write) isClosed
+
+-- a number of each of n items, and 0 past them
+pub record Column (n : ℕ) (f : ℕ → ℕ) (r : List ℕ) : Type 0 where
+  pub front : (i : ℕ) → i < n → getD r i 0 ≡ f i
+  pub rest : (i : ℕ) → n ≤ i → i < 256 → getD r i 0 ≡ 0
 
 -- what storing them asks
 pub record Enterable (b : List ℕ) (n : ℕ) (xs : List ℕ) : Type 0 where

@@ -1,8 +1,7 @@
 // The calls on a state, in place on its bytes: open, step, close; and a list of them run. Every refusal is decided before the first
 // store, so a refused call leaves every byte as it was.
 ghost use mathlib.Core.Path.{_≡_};
-ghost use Prim.Native.Nat.{_/_, _≤_};
-ghost use lib.ListN.{length, set};
+ghost use lib.ListN.{set};
 ghost use Rattle.landlord.specs.Slot.{writeFirst};
 ghost use Rattle.landlord.specs.Figures.{took};
 ghost use Rattle.landlord.specs.Calls.{inRange, refusalNow, stepOf, take, close};

@@ -3,7 +3,7 @@
 // the crate `validity`.
 ghost use mathlib.Core.Path.{_≡_};
 ghost use mathlib.Core.Bool.{cond};
-ghost use Prim.Native.Nat.{_+_, _*_, _≤_, _<_};
+ghost use Prim.Native.Nat.{_≤_, _<_};
 ghost use lib.ListN.{length, getD};
 ghost use Rattle.landlord.specs.Fold.{sumTo};
 ghost use Rattle.landlord.specs.Rule.{used, heldCount};
@@ -12,7 +12,7 @@ ghost use Rattle.validity.specs.Tests.{CountsOk};
 ghost use Rattle.cache_state.specs.View.{stateOf, countsOf};
 ghost use Rattle.cache_state.specs.Valid.{Valid};
 ghost use Rattle.cache_state.specs.Parts.{PastOk, EntriesOk, SumsOf};
-ghost use Rattle.layout.specs.Layout.{stateBytes, cacheOf, numbers};
+ghost use Rattle.layout.specs.Layout.{stateBytes, cacheOf};
 ghost use Rattle.layout.specs.Stands.{ValidBytes};
 ghost use Rattle.cache_check.specs.Blanks.{Zeros, BlankRun, BlankFlags, RunAt, Counted};
 
@@ -86,7 +86,6 @@ fn entries_ok(b: &[u8], n: usize) -> bool
     requires { ⌜ Counted (now b) n ⌝ }
     ensures { λ r. ⌜ Decided (EntriesOk (cacheOf (now (b .entry)))) r ⌝ }
 {
-    let words = layout::dirty(b);
     let closed = layout::closed(b);
     let steps = layout::steps(b);
     let mut i: usize = 0;
@@ -96,7 +95,7 @@ fn entries_ok(b: &[u8], n: usize) -> bool
             layout::item_load_cost(b, i),
             layout::item_write_cost(b, i),
             layout::held(b, i),
-            marks::is_marked(words, i),
+            layout::is_dirty(b, i),
             closed,
             layout::load_credit(b, i),
             layout::write_credit(b, i),

@@ -2,13 +2,13 @@
 use mathlib.Core.Path.{_≡_, sym, ap, subst, _∙_}
 use mathlib.Core.Bool.{Bool, false, cond}
 use mathlib.Core.List.{List, [], _∷_}
-use Prim.Native.Nat.{ℕ, _+_, _*_, _/_, _<_}
+use Prim.Native.Nat.{ℕ, _*_, _≤_, _<_}
 use native.Mathlib.Omega.{arith}
 use lib.Dec.{eqb}
-use lib.ListN.{getD, set}
+use lib.ListN.{set}
 use Rattle.landlord.specs.Fold.{tab, fold}
 use Rattle.landlord.specs.Slot.{Slot, absent, isDirty, writeFirst, lose}
-use Rattle.landlord.specs.Rule.{size, slotAt, blocksAt, rank, victim, evict, evictItem, evicted}
+use Rattle.landlord.specs.Rule.{size, slotAt, blocksAt, rank, used, victim, evict, evictItem, evicted}
 use Rattle.landlord.specs.Figures.{Use, tally, moved}
 use Rattle.landlord.proofs.Folds.{tab-eq}
 use Rattle.landlord.proofs.Keeps.{victim-least}
@@ -19,8 +19,8 @@ use Rattle.cache_state.specs.View.{dirtyAt, slotOf, catalogOf, slotsOf, usesOf,
 use Rattle.cache_state.specs.Valid.{Normal, Valid}
 use Rattle.cache_state.specs.Becomes.{Becomes}
 use Rattle.cache_state.proofs.Views.{size-is, slot-is, blocks-is, use-is}
-use Rattle.cache_room.specs.Room.{chargedOf, droppedOf, Dropped, countedOf, Countable, Crowded}
-use Rattle.cache_room.proofs.Views.{dirty-is, rank-is}
+use Rattle.cache_room.specs.Room.{chargedOf, droppedOf, Dropped, countedOf, Countable}
+use Rattle.cache_room.proofs.Views.{rankOf, dirty-is, rank-is}
 use Rattle.cache_room.proofs.Stores.{Sizes, charged-slot, charged-sizes, charged-normal, dropped-slot, dropped-sizes, dropped-normal, counted-normal, counted-view}
 
 -- The three together: item v, which has rank m, is evicted; d says whether it was dirty, and ws are the marks without it.
@@ -72,8 +72,8 @@ module _
       })
 
 -- the victim of a cache that holds something
-pub victim-known : (c : Cache) {v : ℕ} → Crowded c → v ≡ victim (stateOf c) → v < c .n
-victim-known c so e = let b : victim (stateOf c) < size (stateOf c) = victim-least (stateOf c) (so .some) .below in omega (arith, size-is c)
+pub victim-known : (c : Cache) {v : ℕ} → 1 ≤ used (stateOf c) → v ≡ victim (stateOf c) → v < c .n
+victim-known c some e = let b : victim (stateOf c) < size (stateOf c) = victim-least (stateOf c) some .below in omega (arith, size-is c)
 
 -- A cache on its way through an eviction: `charged`, then `dropped`.
 pub record Leaving (c : Cache) (v m : ℕ) (charged dropped : Cache) : Type 0 where
@@ -108,14 +108,15 @@ countable c {v} ch e ok l so =
 pub evict-becomes :
     (c : Cache) {v m : ℕ} (ch e : Cache) {d : Bool} (r : Cache) →
     Sizes c →
-    Crowded c →
+    Normal c →
+    1 ≤ used (stateOf c) →
     v ≡ victim (stateOf c) →
-    m ≡ (getD (c .loadcredit) v 0 + getD (c .writecredit) v 0) / getD (c .blocks) v 0 →
+    m ≡ rankOf c v →
     d ≡ dirtyAt c v →
     Leaving c v m ch e →
     r ≡ countedOf e v d →
     Becomes (moved (view c) (evict writeFirst (stateOf c)) (c .closed)) r
-evict-becomes c {v} {m} ch e {d} r sizes crowd least is was so counts =
+evict-becomes c {v} {m} ch e {d} r sizes ok some least is was so counts =
     subst (Becomes (moved (view c) (evict writeFirst (stateOf c)) (c .closed)))
     (sym (counts ∙ ap (λ (q : Cache). countedOf q v d) (leaving c ch e so)))
     (record {
@@ -129,11 +130,8 @@ evict-becomes c {v} {m} ch e {d} r sizes crowd least is was so counts =
           (left-normal c v m (e .dirty) d sizes ok l worth un was) l d;
     })
   where
-    ok : Normal c
-    ok = crowd .valid .fields
-
     l : v < c .n
-    l = victim-known c crowd least
+    l = victim-known c some least
 
     worth : m ≡ rank (stateOf c) v
     worth = is ∙ sym (rank-is c ok v l)

@@ -4,10 +4,11 @@ use mathlib.Core.Bool.{Bool, cond}
 use mathlib.Core.List.{List}
 use Prim.Native.Nat.{ℕ, zero, suc, _+_, _≤_, _<_}
 use native.Mathlib.Numerals.{add-one}
+use native.Mathlib.Nat.{le-refl}
 use native.Mathlib.Decide.{ℕ-discrete}
 use native.Mathlib.Omega.{arith}
 use lib.ListN.{length, getD, set, length-set}
-use lib.Seq.{getD-set-same, getD-set-other}
+use lib.Seq.{getD-set-same, getD-set-other, set-getD}
 use Rattle.landlord.specs.Fold.{bestTo}
 use Rattle.cache_room.specs.Stores.{storeTo}
 
@@ -41,6 +42,11 @@ pub store-past : (n : ℕ) (f : ℕ → ℕ) (xs : List ℕ) (i : ℕ) → n ≤
 unfolding storeTo
 store-past zero f xs i l = refl
 store-past (suc n) f xs i l = getD-set-other (storeTo n f xs) n i (f n) 0 (omega arith) ∙ store-past n f xs i (omega arith)
+
+-- what stands at a place already need not be stored
+pub store-skip : (n : ℕ) (f : ℕ → ℕ) (xs : List ℕ) → f n ≡ getD xs n 0 → storeTo n f xs ≡ storeTo (n + 1) f xs
+store-skip n f xs e =
+    sym (store-more n f xs ∙ ap (set (storeTo n f xs) n) (e ∙ sym (store-past n f xs n (le-refl n))) ∙ set-getD (storeTo n f xs) n 0)
 
 pub store-at : (n : ℕ) (f : ℕ → ℕ) (xs : List ℕ) (i : ℕ) → n ≤ length xs → i < n → getD (storeTo n f xs) i 0 ≡ f i
 unfolding storeTo

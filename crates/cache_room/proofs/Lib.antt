@@ -3,3 +3,4 @@ pub mod Views
 pub mod Stores
 pub mod Evicts
 pub mod Rooms
+pub mod Bytes

@@ -1,25 +1,24 @@
 -- The loop that makes room, against the rule's: what is left to do from where it stands. Assumes nothing.
 use mathlib.Core.Path.{_≡_, refl, sym, ap, subst, _∙_}
 use mathlib.Core.Bool.{Bool, true, false, cond}
-use Prim.Native.Nat.{ℕ, zero, suc, _+_, _≤_, _<_}
+use Prim.Native.Nat.{ℕ, zero, suc, _+_, _-_, _≤_, _<_}
 use native.Mathlib.Omega.{arith}
 use borrow.Author.Tests.{le-leb, lt-leb}
-use lib.ListN.{getD}
+use lib.ListN.{length, getD}
 use Rattle.landlord.specs.Fold.{fold}
 use Rattle.landlord.specs.Slot.{Split, held, writeFirst}
-use Rattle.landlord.specs.Rule.{State, Moved, stay, joined, blocksAt, used, heldCount, victim, evict, evictFor, makeRoom}
+use Rattle.landlord.specs.Rule.{State, Moved, stay, joined, size, blocksAt, used, heldCount, victim, evict, evictFor, makeRoom}
 use Rattle.landlord.specs.Figures.{Standing, moved}
 use Rattle.landlord.specs.Claims.{Least}
 use Rattle.landlord.specs.Valid.{StandingOk}
 use Rattle.landlord.proofs.Slots.{write-first-ok}
-use Rattle.landlord.proofs.Keeps.{victim-least, evict-count, evict-catalog}
+use Rattle.landlord.proofs.Keeps.{victim-least, evict-used, evict-count, evict-catalog}
 use Rattle.landlord.proofs.Valid.{ok-evict, moved-joined}
 use Rattle.cache_state.specs.Cache.{Cache}
 use Rattle.cache_state.specs.View.{stateOf, view}
-use Rattle.cache_state.specs.Valid.{Valid}
+use Rattle.cache_state.specs.Valid.{Normal, Valid}
 use Rattle.cache_state.specs.Becomes.{Becomes}
-use Rattle.cache_state.proofs.Views.{blocks-is, held-is}
-use Rattle.cache_room.specs.Room.{Crowded, Wanted}
+use Rattle.cache_state.proofs.Views.{size-is, blocks-is, held-is}
 
 -- the rule's loop, from where it stands: nothing more to do, or an eviction and the loop again
 room-enough : (split : Split) (k blocks t : ℕ) (x : State) → used x + blocks ≤ k → evictFor t split k blocks x ≡ stay x
@@ -60,78 +59,109 @@ for-more k blocks v fits l =
     ∙ moved-joined v (evict writeFirst x) (evictFor (heldCount (evict writeFirst x .state)) writeFirst k blocks (evict writeFirst x .state)) (v .closed)
     (evict-catalog writeFirst (victim x) x))
 
--- The loop, on its way from q₀ to room for `blocks` in k.
-pub record Going (k blocks : ℕ) (q₀ q : Cache) : Type 0 where
+-- The loop, on its way from q₀ to room for `blocks` in k; u are the blocks held.
+pub record Going (k blocks : ℕ) (q₀ q : Cache) (u : ℕ) : Type 0 where
   pub valid : Valid q
+  pub count : q .n ≡ q₀ .n
+  pub taken : u ≡ used (stateOf q)
   pub goal : roomFor k blocks (view q) ≡ roomFor k blocks (view q₀)
 
-pub going-starts : {k blocks : ℕ} (q : Cache) → Valid q → Going k blocks q q
-going-starts q ok = record { valid = ok; goal = refl }
+pub going-starts : {k blocks : ℕ} (q : Cache) {u : ℕ} → Valid q → u ≡ used (stateOf q) → Going k blocks q q u
+going-starts q ok e = record { valid = ok; count = refl; taken = e; goal = refl }
 
--- room is wanting, so something is held
-pub crowded : {k blocks : ℕ} (q₀ q : Cache) {u : ℕ} → Going k blocks q₀ q → u ≡ used (stateOf q) → blocks ≤ k → k < u + blocks → Crowded q
-crowded q₀ q so e fits l = record { valid = so .valid; some = omega arith }
+-- One eviction more, that frees f blocks: they were held, the loop goes on without them, and one item fewer is held.
+pub record Gone (k blocks : ℕ) (q₀ q r : Cache) (u f : ℕ) : Type 0 where
+  pub within : f ≤ u
+  pub going : Going k blocks q₀ r (u - f)
+  pub less : heldCount (stateOf r) < heldCount (stateOf q)
 
-module _
-    {k blocks : ℕ} (q₀ q r : Cache) {u : ℕ} (so : Going k blocks q₀ q) (e : u ≡ used (stateOf q)) (fits : blocks ≤ k) (l : k < u + blocks)
-    (out : Becomes (evictedFrom (view q)) r) where
-  low : Least (stateOf q) (victim (stateOf q))
-  low = victim-least (stateOf q) (omega arith)
+pub going-on :
+    {k blocks : ℕ} (q₀ q r : Cache) {u f : ℕ} →
+    Going k blocks q₀ q u →
+    blocks ≤ k →
+    k < u + blocks →
+    f ≡ getD (q .blocks) (victim (stateOf q)) 0 →
+    Becomes (evictedFrom (view q)) r →
+    Gone k blocks q₀ q r u f
+going-on {k} {blocks} q₀ q r {u} {f} so fits l is out =
+    record {
+      within = omega (arith, freed);
+      going =
+          record {
+            valid =
+                record {
+                  fields = out .fields;
+                  rule = subst StandingOk (sym (out .stands)) (ok-evict writeFirst (view q) write-first-ok (so .valid .rule) low);
+                };
+            count = same-count ∙ so .count;
+            taken = omega (arith, freed);
+            goal = ap (roomFor k blocks) (out .stands) ∙ for-more k blocks (view q) fits (omega arith) ∙ so .goal;
+          };
+      less =
+          omega (
+            arith,
+            ap (λ (v : Standing). heldCount (v .state)) (out .stands),
+            evict-count writeFirst (victim (stateOf q)) (stateOf q) (low .below) (low .isHeld),
+          );
+    }
+  where
+    low : Least (stateOf q) (victim (stateOf q))
+    low = victim-least (stateOf q) (omega arith)
 
-  pub going-on : Going k blocks q₀ r
-  going-on =
-      record {
-        valid =
-            record {
-              fields = out .fields;
-              rule = subst StandingOk (sym (out .stands)) (ok-evict writeFirst (view q) write-first-ok (so .valid .rule) low);
-            };
-        goal = ap (roomFor k blocks) (out .stands) ∙ for-more k blocks (view q) fits (omega arith) ∙ so .goal;
-      }
+    -- the blocks held before are those held after and those freed
+    freed : used (stateOf r) + f ≡ u
+    freed =
+        let known : victim (stateOf q) < q .n = omega (arith, low .below, size-is q) in
+        omega (
+          arith,
+          ap (λ (v : Standing). used (v .state)) (out .stands),
+          evict-used writeFirst (victim (stateOf q)) (stateOf q) (low .below) (low .isHeld),
+          blocks-is q (victim (stateOf q)) known,
+        )
 
-  -- one item fewer is held
-  pub going-less : heldCount (stateOf r) < heldCount (stateOf q)
-  going-less =
-      omega (
-        arith,
-        ap (λ (v : Standing). heldCount (v .state)) (out .stands),
-        evict-count writeFirst (victim (stateOf q)) (stateOf q) (low .below) (low .isHeld),
-      )
+    same-count : r .n ≡ q .n
+    same-count =
+        sym (size-is r)
+        ∙ ap (λ (v : Standing). size (v .state)) (out .stands)
+        ∙ ap length (evict-catalog writeFirst (victim (stateOf q)) (stateOf q))
+        ∙ size-is q
 
 -- a hit: nothing is to be done
 pub room-hit :
     (c : Cache) (i : ℕ) →
-    Wanted c i →
+    Normal c →
+    i < c .n →
     getD (c .held) i false ≡ true →
     Becomes (moved (view c) (makeRoom writeFirst (c .k) i (stateOf c)) (c .closed)) c
 unfolding makeRoom fold
-room-hit c i w h =
+room-hit c i ok l h =
     record {
       stands =
           sym (ap (λ (t : Bool).
           moved (view c) (cond t (stay (stateOf c)) (evictFor (heldCount (stateOf c)) writeFirst (c .k) (blocksAt (stateOf c) i) (stateOf c))) (c .closed))
-          (held-is c i (w .known) ∙ h));
-      fields = w .valid .fields;
+          (held-is c i l ∙ h));
+      fields = ok;
     }
 
 -- a miss: the loop's end is what was asked for
 pub room-miss :
-    (c q : Cache) (i : ℕ) {u : ℕ} →
-    Wanted c i →
+    (c q : Cache) (i : ℕ) {k blocks u : ℕ} →
+    k ≡ c .k →
+    blocks ≡ getD (c .blocks) i 0 →
+    i < c .n →
     getD (c .held) i false ≡ false →
-    Going (c .k) (getD (c .blocks) i 0) c q →
-    u ≡ used (stateOf q) →
-    u + getD (c .blocks) i 0 ≤ c .k →
+    Going k blocks c q u →
+    u + blocks ≤ k →
     Becomes (moved (view c) (makeRoom writeFirst (c .k) i (stateOf c)) (c .closed)) q
 unfolding makeRoom
-room-miss c q i w h so e l =
+room-miss c q i {k} {blocks} ek eb l h so enough =
     record {
       stands =
-          sym (for-enough (c .k) (getD (c .blocks) i 0) (view q) (omega arith))
+          sym (for-enough k blocks (view q) (omega arith))
           ∙ so .goal
+          ∙ (λ z. roomFor (ek z) ((eb ∙ sym (blocks-is c i l)) z) (view c))
           ∙ sym (ap (λ (t : Bool).
           moved (view c) (cond t (stay (stateOf c)) (evictFor (heldCount (stateOf c)) writeFirst (c .k) (blocksAt (stateOf c) i) (stateOf c))) (c .closed))
-          (held-is c i (w .known) ∙ h)
-          ∙ ap (λ (b : ℕ). roomFor (c .k) b (view c)) (blocks-is c i (w .known)));
+          (held-is c i l ∙ h));
       fields = so .valid .fields;
     }

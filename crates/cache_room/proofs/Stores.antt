@@ -24,7 +24,7 @@ use Rattle.cache_state.specs.View.{dirtyAt, slotFrom, slotOf, usageOf, catalogO
 use Rattle.cache_state.specs.Valid.{Blank, Emptied, Normal}
 use Rattle.cache_state.proofs.Views.{size-is, item-is, use-is}
 use Rattle.cache_room.specs.Room.{withCounts, loadLeft, writeLeft, chargedOf, droppedOf, countedOf, mostCredit, withSlots}
-use Rattle.cache_room.proofs.Laws.{store-length, store-at, store-past, store-start, store-more}
+use Rattle.cache_room.proofs.Laws.{store-length, store-at, store-past, store-start, store-more, store-skip}
 
 -- the arrays that an eviction changes have their 256 places
 pub record Sizes (c : Cache) : Type 0 where
@@ -94,6 +94,14 @@ pub charge-more :
     b ≡ writeLeft c m i →
     withSlots q (q .held) (set (q .loadcredit) i a) (set (q .writecredit) i b) (q .dirty) ≡ chargedOf c m (i + 1)
 charge-more c q m i e f g = simp (store-more, e, f, g)
+
+-- an item without credits has nothing to lose
+pub charge-skip : (c : Cache) (m i : ℕ) → Emptied c i → chargedOf c m i ≡ chargedOf c m (i + 1)
+charge-skip c m i x =
+    let a : loadLeft c m i ≡ getD (c .loadcredit) i 0 = omega (arith, x .loadCredit) in
+    let b : writeLeft c m i ≡ getD (c .writecredit) i 0 = omega (arith, x .writeCredit) in
+    λ z.
+    withSlots c (c .held) (store-skip i (loadLeft c m) (c .loadcredit) a z) (store-skip i (writeLeft c m) (c .writecredit) b z) (c .dirty)
 
 -- every item is charged
 module _ (c : Cache) (m : ℕ) (sizes : Sizes c) (ok : Normal c) where

@@ -10,7 +10,7 @@ use Rattle.landlord.specs.Figures.{totalsOf}
 use Rattle.marks.specs.Marks.{marks}
 use Rattle.cache_state.specs.Cache.{Cache}
 use Rattle.cache_state.specs.View.{stateOf}
-use Rattle.cache_state.specs.Valid.{Normal, Valid}
+use Rattle.cache_state.specs.Valid.{Normal}
 pub use Rattle.cache_state.specs.With.{withSlots, withFigures}
 use Rattle.layout.specs.Layout.{cacheOf}
 use Rattle.layout.specs.Stands.{Readable, ValidBytes, ValidAt}
@@ -25,17 +25,6 @@ pub record Ranked (a b blocks : ℕ) : Type 0 where
   pub some : 1 ≤ blocks
   pub load : a ≤ mostCredit
   pub write : b ≤ mostCredit
-
--- a cache in which something is held, so that there is a victim
-pub record Crowded (c : Cache) : Type 0 where
-  pub valid : Valid c
-  pub some : 1 ≤ used (stateOf c)
-
--- an item that a cache can hold
-pub record Wanted (c : Cache) (i : ℕ) : Type 0 where
-  pub valid : Valid c
-  pub known : i < c .n
-  pub fits : getD (c .blocks) i 0 ≤ c .k
 
 -- c with other counts of evictions, of dirty evictions, of writebacks (in all, their cost, and by item)
 abbrev pub withCounts : Cache → ℕ → ℕ → ℕ → ℕ → List ℕ → Cache
@@ -56,11 +45,6 @@ loadLeft c m i = getD (c .loadcredit) i 0 - (lossAt c m i - getD (c .writecredit
 -- the items below n have lost m for each block
 abbrev pub chargedOf : Cache → ℕ → ℕ → Cache
 chargedOf c m n = withSlots c (c .held) (storeTo n (loadLeft c m) (c .loadcredit)) (storeTo n (writeLeft c m) (c .writecredit)) (c .dirty)
-
--- a rank is at most the two credits, and a catalog has at most 256 items
-pub record Chargeable (c : Cache) (m : ℕ) : Type 0 where
-  pub few : c .n ≤ 256
-  pub rank : m ≤ mostCredit + mostCredit
 
 -- item v is dropped; d are the words of the dirty marks
 abbrev pub droppedOf : Cache → ℕ → List ℕ → Cache
@@ -86,9 +70,9 @@ pub record Countable (c : Cache) (v : ℕ) : Type 0 where
   pub itemWritebacks : getD (c .itemwritebacks) v 0 ≤ 1000000
   pub writeCost : c .writecost ≤ 65535 * 1000000
 
--- ---- the same of the bytes of a state
+-- ---- of the bytes of a state
 
--- bytes of n items that can be charged; what is not held has no credit
+-- bytes of n items that can be charged: what is not held has no credit, and a rank is at most the two credits
 pub record ChargeableAt (b : List ℕ) (n m : ℕ) : Type 0 where
   pub reads : Readable b
   pub count : n ≡ cacheOf b .n

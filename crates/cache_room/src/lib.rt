@@ -1,5 +1,5 @@
 // Room for an item, in place on the state's bytes: the victim, its eviction, and evictions until the item fits.
-ghost use Prim.Native.Nat.{_+_, _-_, _/_, _≤_, _<_};
+ghost use Prim.Native.Nat.{_+_, _-_, _/_, _<_};
 ghost use mathlib.Core.Path.{_≡_};
 ghost use lib.ListN.{getD};
 ghost use Rattle.landlord.specs.Slot.{writeFirst};
@@ -118,7 +118,7 @@ pub fn evict(b: &mut [u8], n: usize) -> u8
         layout::write_credit(b, v),
         blocks,
     );
-    let dirty = marks::is_marked(layout::dirty(b), v);
+    let dirty = layout::is_dirty(b, v);
     charge(b, n, least);
     drop_item(b, v);
     count(b, v, dirty);

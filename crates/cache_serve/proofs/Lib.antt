@@ -3,4 +3,6 @@ pub mod Changes
 pub mod Bounds
 pub mod Serves
 pub mod Flushes
-pub mod Landings
+pub mod Writebacks
+pub mod Counts
+pub mod InPlace

@@ -23,7 +23,8 @@ use Rattle.cache_state.specs.View.{dirtyAt, slotFrom, slotOf, usageOf, catalogO
 use Rattle.cache_state.specs.Valid.{Normal}
 use Rattle.cache_state.specs.Becomes.{Becomes}
 use Rattle.cache_state.proofs.Views.{size-is, slots-length, item-is, slot-is, use-is, held-is}
-use Rattle.cache_serve.specs.Stores.{Sizes, hitOf, loadedOf, refilledOf, writtenOf, Wrote}
+use Rattle.layout.specs.Layout.{Whole}
+use Rattle.cache_serve.specs.Stores.{hitOf, loadedOf, refilledOf, writtenOf, Wrote}
 use Rattle.cache_serve.specs.Ready.{Servable, Writable}
 use Rattle.cache_serve.proofs.Changes.{OnlyAt, stands-but, normal-but, plus-none}
 use Rattle.cache_serve.proofs.Bounds.{item-tenths}
@@ -79,7 +80,7 @@ read-becomes c r i e ok l o at event about total here =
 -- a read of an item that is held
 pub read-hit :
     (c : Cache) (i : ℕ) →
-    Sizes c →
+    Whole c →
     Servable c i →
     getD (c .held) i false ≡ true →
     Becomes (moved (view c) (serveRead i (stateOf c)) (c .closed)) (refilledOf (hitOf c) i)
@@ -102,7 +103,7 @@ read-hit c i s ok h =
     (record {
       holds = h;
       dirty = refl;
-      load = getD-set-same (c .loadcredit) i (full (getD (c .load) i 0)) 0 (omega (arith, s .loadCredit, ok .item, ok .valid .fields .few));
+      load = getD-set-same (c .loadcredit) i (full (getD (c .load) i 0)) 0 (omega (arith, s .loadcredit, ok .item, ok .valid .fields .few));
       write = refl;
     })
     (sym (ap (λ (t : Bool). cond t (hit i) (loaded i)) (held-is c i (ok .item) ∙ h)))
@@ -113,14 +114,14 @@ read-hit c i s ok h =
 -- a read of an item that is not held
 pub read-load :
     (c : Cache) (i : ℕ) →
-    Sizes c →
+    Whole c →
     Servable c i →
     getD (c .held) i false ≡ false →
     Becomes (moved (view c) (serveRead i (stateOf c)) (c .closed)) (refilledOf (loadedOf c i) i)
 read-load c i s ok h =
     let place : i < 256 = omega (arith, ok .item, ok .valid .fields .few) in
     let one : getD (set (c .itemloads) i (getD (c .itemloads) i 0 + 1)) i 0 ≡ getD (c .itemloads) i 0 + 1 =
-    getD-set-same (c .itemloads) i (getD (c .itemloads) i 0 + 1) 0 (omega (arith, s .loads)) in
+    getD-set-same (c .itemloads) i (getD (c .itemloads) i 0 + 1) 0 (omega (arith, s .itemloads)) in
     read-becomes c (refilledOf (loadedOf c i) i) i (loaded i) (ok .valid .fields) (ok .item)
     (record {
       fixed = refl;
@@ -139,7 +140,7 @@ read-load c i s ok h =
     (record {
       holds = getD-set-same (c .held) i true false (omega (arith, s .held));
       dirty = refl;
-      load = getD-set-same (c .loadcredit) i (full (getD (c .load) i 0)) 0 (omega (arith, s .loadCredit));
+      load = getD-set-same (c .loadcredit) i (full (getD (c .load) i 0)) 0 (omega (arith, s .loadcredit));
       write = refl;
     })
     (sym (ap (λ (t : Bool). cond t (hit i) (loaded i)) (held-is c i (ok .item) ∙ h)))
@@ -157,7 +158,7 @@ writeOver i minutes x =
 
 wrote-becomes :
     (c : Cache) (i minutes : ℕ) (d : List ℕ) →
-    Sizes c →
+    Whole c →
     Normal c →
     i < c .n →
     getD (c .held) i false ≡ true →
@@ -181,7 +182,7 @@ wrote-becomes c i minutes d s ok l h m =
     more = getD-set-same (c .tenths) i (getD (c .tenths) i 0 + tenthsOf minutes) 0 (omega (arith, s .tenths, ok .few))
 
     filled : getD (set (c .writecredit) i (full (getD (c .write) i 0))) i 0 ≡ full (getD (c .write) i 0)
-    filled = getD-set-same (c .writecredit) i (full (getD (c .write) i 0)) 0 (omega (arith, s .writeCredit, ok .few))
+    filled = getD-set-same (c .writecredit) i (full (getD (c .write) i 0)) 0 (omega (arith, s .writecredit, ok .few))
 
     mark : dirtyAt r i ≡ true
     mark = marked-set-same (c .dirty) d i true m place
@@ -254,12 +255,13 @@ module _ (c q : Cache) (i : ℕ) (ok : Servable c i) (read : Becomes (moved (vie
 
   pub write-becomes :
       (r : Cache) (minutes : ℕ) →
+      Whole q →
       Wrote q i minutes r →
       Becomes (moved (view c) (serveWrite i minutes (stateOf c)) (c .closed)) r
   unfolding fold
-  write-becomes r minutes w =
+  write-becomes r minutes s w =
       let a : Becomes (moved (view q) (writeOver i minutes (stateOf q)) (q .closed)) (writtenOf q i minutes (r .dirty)) =
-      wrote-becomes q i minutes (r .dirty) (w .sizes) (read .fields) still-in now-held (w .mark) in
+      wrote-becomes q i minutes (r .dirty) s (read .fields) still-in now-held (w .mark) in
       let x : State = stateOf c in
       let top : ℕ = full (itemAt (x .catalog) i .write) in
       let twice : set (set (x .slots) i (readSlot x i)) i (written top (slotAt (put x i (readSlot x i)) i)) ≡ set (x .slots) i (written top (readSlot x i)) =

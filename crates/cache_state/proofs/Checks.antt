@@ -6,7 +6,6 @@ use mathlib.Core.List.{List, _∷_}
 use Prim.Native.Nat.{ℕ, zero, suc, _+_, _-_, _≤_, _<_}
 use native.Mathlib.Numerals.{add-one}
 use native.Mathlib.Omega.{arith}
-use borrow.Author.Count.{below-more}
 use lib.ListN.{getD}
 use Rattle.landlord.specs.Fold.{sumTo}
 use Rattle.landlord.specs.Catalog.{ItemOk, itemAt}
@@ -19,11 +18,11 @@ use Rattle.landlord.proofs.Sums.{sum-eq}
 use Rattle.marks.specs.Marks.{marked, tabFrom, marks, countSet}
 use Rattle.cache_state.specs.Cache.{Cache}
 use Rattle.cache_state.specs.View.{itemOf, dirtyAt, catalogOf, stateOf, countsOf, figuresOf, view}
-use Rattle.cache_state.specs.Valid.{Blank, Normal, Valid}
+use Rattle.cache_state.specs.Valid.{Normal, Valid}
 use Rattle.validity.specs.Tests.{CountsOk}
-use Rattle.cache_state.specs.Parts.{NothingAt, PastOk, EntryAt, EntriesOk, SumsOf}
+use Rattle.cache_state.specs.Parts.{PastOk, EntryAt, EntriesOk, SumsOf}
 use Rattle.validity.specs.Decided.{Decided}
-use Rattle.validity.proofs.Decides.{no, sure, denied, granted}
+use Rattle.validity.proofs.Decides.{no, sure, denied}
 use Rattle.cache_state.proofs.Views.{size-is, slots-length, uses-length, item-is, slot-is, use-is, from-dirty, from-load, from-write}
 
 -- ---- sums, as the loops make them
@@ -93,55 +92,9 @@ dirty-count c v =
     ∙ sum-eq 256 _ _ (λ i l. let q : i ≡ 0 + i = omega arith in ap (λ (z : ℕ). cond (dirtyAt c z) 1 0) q)
     ∙ sym (count-sum 256 (marked (c .dirty)) 0)
 
--- ---- the turns and the ends of the two loops that test each place
-
-blank-of : (c : Cache) (i : ℕ) → NothingAt c i → Blank c i
-blank-of c i o =
-    record {
-      blocks = o .noBlocks;
-      load = o .noLoad;
-      write = o .noWrite;
-      held = o .notHeld;
-      loadCredit = o .noLoadCredit;
-      writeCredit = o .noWriteCredit;
-      dirty = o .notMarked;
-      tenths = o .noTenths;
-      loads = o .noLoads;
-      writebacks = o .noWritebacks;
-    }
-
-nothing-of : (c : Cache) (i : ℕ) → Blank c i → NothingAt c i
-nothing-of c i b =
-    record {
-      noBlocks = b .blocks;
-      noLoad = b .load;
-      noWrite = b .write;
-      notHeld = b .held;
-      noLoadCredit = b .loadCredit;
-      noWriteCredit = b .writeCredit;
-      notMarked = b .dirty;
-      noTenths = b .tenths;
-      noLoads = b .loads;
-      noWritebacks = b .writebacks;
-    }
-
--- the places from the catalog's end to i are blank
-abbrev pub BlankTo : Cache → ℕ → Type 0
-BlankTo c i = (j : ℕ) → j < i → c .n ≤ j → Blank c j
+-- ---- the end of the loop that tests each item
 
 module _ (c : Cache) where
-  pub past-begins : BlankTo c (c .n)
-  past-begins j l m = absurd (let z : j < c .n = l in let y : c .n ≤ j = m in omega arith)
-
-  pub past-fails : (i : ℕ) {r : Bool} → c .n ≤ i → i < 256 → Decided (NothingAt c i) r → not r ≡ true → Decided (PastOk c) false
-  past-fails i l m d e = no (λ p. denied d e (nothing-of c i (p .each i l m)))
-
-  pub past-turns : (i : ℕ) {r : Bool} → BlankTo c i → Decided (NothingAt c i) r → not r ≡ false → BlankTo c (i + 1)
-  past-turns i h d e = below-more (λ j. c .n ≤ j → Blank c j) i h (λ l. blank-of c i (granted d e))
-
-  pub past-ends : (i : ℕ) → 256 ≤ i → BlankTo c i → Decided (PastOk c) true
-  past-ends i l h = sure record { each = λ j m b. h j (omega arith) m }
-
   pub entries-fail : (i : ℕ) {r : Bool} → i < c .n → Decided (EntryAt c i) r → not r ≡ true → Decided (EntriesOk c) false
   entries-fail i l d e = no (λ p. denied d e (p .each i l))
 

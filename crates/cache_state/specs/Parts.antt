@@ -1,21 +1,15 @@
--- What the parts of the check of validity decide: the tests of the crate `validity`, on the fields of a cache.
--- proofs/Checks.antt shows that together they are validity. Assumes nothing.
+-- What the parts of the check of validity decide, on the fields of a cache: that the places past the catalog are blank, and what the
+-- tests of the crate `validity` find. proofs/Checks.antt shows that together they are validity. Assumes nothing.
 use Prim.Native.Nat.{ℕ, _≤_, _<_}
 use mathlib.Core.Bool.{false}
 use lib.ListN.{getD}
 use Rattle.landlord.specs.Fold.{sumTo}
 use Rattle.landlord.specs.Rule.{used, heldCount}
 use Rattle.marks.specs.Marks.{marks, countSet}
-use Rattle.validity.specs.Tests.{Nothing, EntryOk, SumsOk}
+use Rattle.validity.specs.Tests.{EntryOk, SumsOk}
 use Rattle.cache_state.specs.Cache.{Cache}
 use Rattle.cache_state.specs.Valid.{Blank}
 use Rattle.cache_state.specs.View.{dirtyAt, stateOf}
-
--- nothing stands at place i: what `blank` decides of its numbers, and the same as `Blank`
-abbrev pub NothingAt : Cache → ℕ → Type 0
-NothingAt c i =
-    Nothing (getD (c .blocks) i 0) (getD (c .load) i 0) (getD (c .write) i 0) (getD (c .held) i false) (getD (c .loadcredit) i 0)
-    (getD (c .writecredit) i 0) (dirtyAt c i) (getD (c .tenths) i 0) (getD (c .itemloads) i 0) (getD (c .itemwritebacks) i 0)
 
 -- every place past the catalog is blank
 pub record PastOk (c : Cache) : Type 0 where

@@ -6,8 +6,9 @@ ghost use Rattle.landlord.specs.Calls.{take, close, callOf};
 ghost use Rattle.validity.specs.Decided.{Decided};
 ghost use Rattle.cache.specs.Contract.{Called};
 ghost use Rattle.cache.specs.Run.{callsOf};
+ghost use Rattle.cache.specs.Opening.{emptyWith};
 ghost use Rattle.cache_value.specs.Struct.{recordOf, byValue};
-ghost use Rattle.cache_value.specs.Opening.{FirstOf, BlocksOk, Opens, emptyOf};
+ghost use Rattle.cache_value.specs.Opening.{FirstOf, BlocksOk, Opens};
 ghost use Rattle.cache_value.specs.Contract.{catalogFrom, answerTo, Opened, CalledBy, OpenedBy};
 ghost use Rattle.cache_value.specs.Chain.{Ran};
 use landlord::Refusal;
@@ -135,7 +136,7 @@ fn empty(
     write: [u16; 256],
     closed: bool,
 ) -> Cache
-    ensures { λ r. ⌜ recordOf r ≡ emptyOf k n blocks load write closed ⌝ }
+    ensures { λ r. ⌜ recordOf r ≡ emptyWith k n blocks load write closed ⌝ }
 {
     Cache {
         k: k,

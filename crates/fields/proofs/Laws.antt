@@ -7,7 +7,7 @@ use Prim.Native.Nat.{ℕ, zero, suc, _+_, _*_, _/_, _%_, _^_, _≤_, _<_}
 use native.Mathlib.Nat.{add-zero, suc-add, add-suc, zero-mul, pow-zero, pow-suc, one-le-pow}
 use native.Mathlib.Omega.{arith}
 use lib.Dec.{eqb}
-use lib.ListN.{length, take, drop, getD, set, length-append, length-drop, length-set, take-append-drop, drop-of-length-le}
+use lib.ListN.{length, take, drop, getD, set, replicate, length-append, length-drop, length-set, take-append-drop, drop-of-length-le}
 use lib.Seq.{sets, set-append-left, sets-eq, length-take-le, take-at, drop-at, drop-append-add, drop-drop, take-add, take-length, getD-drop}
 use Rattle.fields.specs.LittleEndian.{Below, le, un, run, unrun, flags, unflags}
 
@@ -186,6 +186,27 @@ flags-unflags (suc n) (b ∷ bs) l h =
 -- the same at a place
 pub flags-back : (n at : ℕ) (bs : List ℕ) → at + n ≤ length bs → ((i : ℕ) → i < n → getD bs (at + i) 0 < 2) → flags (unflags n (drop at bs)) ≡ take n (drop at bs)
 flags-back n at bs l h = flags-unflags n (drop at bs) (omega (arith, length-drop at bs)) (λ i k. rw getD-drop (h i k))
+
+-- ---- bytes that are all 0
+
+-- they stand for 0, for numbers that are all 0, and for flags that are all false
+pub un-blank : (w : ℕ) (bs : List ℕ) → Below 1 bs → un (take w bs) ≡ 0
+unfolding un
+un-blank zero bs h = refl
+un-blank (suc w) [] h = refl
+un-blank (suc w) (b ∷ bs) h = omega (arith, h zero, un-blank w bs (λ i. h (suc i)))
+
+pub unrun-blank : (w n : ℕ) (bs : List ℕ) → Below 1 bs → unrun w n bs ≡ replicate n 0
+unfolding unrun
+unrun-blank w zero bs h = refl
+unrun-blank w (suc n) bs h = rw (un-blank w bs h, unrun-blank w n (drop w bs) (below-drop 1 w bs h))
+
+pub unflags-blank : (n : ℕ) (bs : List ℕ) → Below 1 bs → unflags n bs ≡ replicate n false
+unfolding unflags
+unflags-blank zero bs h = refl
+unflags-blank (suc n) bs h =
+    let e : getD bs 0 0 ≡ 0 = omega (arith, h 0) in
+    rw (e, unflags-blank n (drop 1 bs) (below-drop 1 1 bs h))
 
 -- ---- stores one after another
 

@@ -1,4 +1,6 @@
-pub mod Rounds
 pub mod Rows
-mod Stores
+pub mod Rounds
+pub mod Places
+pub mod Stores
+mod Clears
 mod Tests

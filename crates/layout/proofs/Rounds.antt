@@ -1,44 +1,45 @@
--- The layout loses nothing: a cache that fits, stored and read back, is that cache, and bytes whose flags are 0 or 1, read and stored
+-- The layout loses nothing: a cache that fits, stored and read back, is that cache, and bytes that the layout allows, read and stored
 -- again, are those bytes. Assumes nothing.
-use mathlib.Core.Path.{_≡_, refl, ap, _∙_}
+use mathlib.Core.Path.{_≡_, refl, sym, ap, _∙_}
 use mathlib.Core.List.{List, [], _++_, append-nil}
 use mathlib.Core.Bool.{Bool, true, false, not}
 use Prim.Native.Nat.{ℕ, suc, _+_, _*_, _^_, _≤_, _<_}
 use native.Mathlib.Omega.{arith}
 use lib.Dec.{eqb}
-use lib.ListN.{length, take, drop, getD, length-drop}
+use lib.ListN.{length, drop, getD, length-drop}
 use lib.Seq.{take-all, getD-drop}
-use Rattle.fields.specs.LittleEndian.{Below, le, un, run, unrun, flags, unflags}
+use Rattle.fields.specs.LittleEndian.{Below, le, run, flags, unflags}
 use Rattle.fields.proofs.Laws.{length-unrun, length-unflags, un-front, un-take-lt, below-drop, rejoin, le-back, unrun-lt, unrun-run, run-back, flags-lt, unflags-flags, flag-byte, flags-back}
 use Rattle.cache_state.specs.Cache.{Cache}
-use Rattle.layout.specs.Layout.{stateBytes, joined, rows, bytesOf, cacheOf, flag, Flagged, Whole, Fits}
-use Rattle.layout.proofs.Rows.{Packed, end, number, numbers, marks, packed-length, packed-below, reach}
+use Rattle.layout.specs.Layout.{stateBytes, format, joined, rows, bytesOf, number, numbers, cacheOf, flag, Allowed, Whole, Fits, atFormat, atCapacity, atCount, atClosed, atSteps, atHits, atLoads, atEvictions, atDirtyEvictions, atWritebacks, atFlushes, atLoadCost, atWriteCost, atDirty, atLoadCredits, atWriteCredits, atTenths, atItemLoads, atItemWritebacks, atItemLoadCosts, atItemWriteCosts, atBlocks, atHeld}
+use Rattle.layout.proofs.Rows.{Packed, end, number-row, numbers-row, flags-row, packed-length, packed-below, reach}
 
 -- the fields lie end to end
 pub packed : (c : Cache) → Whole c → Packed 0 (rows c) stateBytes
 unfolding rows
 packed c w =
-    number 4 (c .k)
-    (number 4 (c .n)
-    (number 4 (c .steps)
-    (number 4 (c .hits)
-    (number 4 (c .loads)
-    (number 4 (c .evictions)
-    (number 4 (c .dirtyevictions)
-    (number 4 (c .writebacks)
-    (number 4 (c .flushes)
-    (number 4 (flag (c .closed))
-    (number 8 (c .loadcost)
-    (number 8 (c .writecost)
-    (numbers 8 4 (c .dirty) (w .dirty)
-    (numbers 8 256 (c .loadcredit) (w .loadcredit)
-    (numbers 8 256 (c .writecredit) (w .writecredit)
-    (numbers 4 256 (c .tenths) (w .tenths)
-    (numbers 4 256 (c .itemloads) (w .itemloads)
-    (numbers 4 256 (c .itemwritebacks) (w .itemwritebacks)
-    (numbers 2 256 (c .load) (w .load)
-    (numbers 2 256 (c .write) (w .write)
-    (numbers 1 256 (c .blocks) (w .blocks) (marks 256 (c .held) (w .held) end)))))))))))))))))))))
+    number-row 4 format
+    (number-row 4 (c .k)
+    (number-row 2 (c .n)
+    (number-row 2 (flag (c .closed))
+    (number-row 4 (c .steps)
+    (number-row 4 (c .hits)
+    (number-row 4 (c .loads)
+    (number-row 4 (c .evictions)
+    (number-row 4 (c .dirtyevictions)
+    (number-row 4 (c .writebacks)
+    (number-row 4 (c .flushes)
+    (number-row 8 (c .loadcost)
+    (number-row 8 (c .writecost)
+    (numbers-row 8 4 (c .dirty) (w .dirty)
+    (numbers-row 8 256 (c .loadcredit) (w .loadcredit)
+    (numbers-row 8 256 (c .writecredit) (w .writecredit)
+    (numbers-row 4 256 (c .tenths) (w .tenths)
+    (numbers-row 4 256 (c .itemloads) (w .itemloads)
+    (numbers-row 4 256 (c .itemwritebacks) (w .itemwritebacks)
+    (numbers-row 2 256 (c .load) (w .load)
+    (numbers-row 2 256 (c .write) (w .write)
+    (numbers-row 1 256 (c .blocks) (w .blocks) (flags-row 256 (c .held) (w .held) end))))))))))))))))))))))
 
 -- so the bytes of a cache are all the bytes of the state
 pub length-whole : (c : Cache) → Whole c → length (bytesOf c) ≡ stateBytes
@@ -56,14 +57,14 @@ bytesOf-below c f = packed-below (packed c (f .whole))
 -- ---- stored and read back
 
 -- what the reader finds where a number, numbers or flags stand
-number-at : (w v at : ℕ) (b rest : List ℕ) → v < 256 ^ w → drop at b ≡ le w v ++ rest → un (take w (drop at b)) ≡ v
-number-at w v at b rest h e = rw e (un-front w v rest h)
+number-found : (w v at : ℕ) (b rest : List ℕ) → v < 256 ^ w → drop at b ≡ le w v ++ rest → number b at w ≡ v
+number-found w v at b rest h e = rw e (un-front w v rest h)
 
-numbers-at : (w n at : ℕ) (vs b rest : List ℕ) → length vs ≡ n → Below (256 ^ w) vs → drop at b ≡ run w vs ++ rest → unrun w n (drop at b) ≡ vs
-numbers-at w n at vs b rest l h e = rw e (unrun-run w n vs rest l h)
+numbers-found : (w n at : ℕ) (vs b rest : List ℕ) → length vs ≡ n → Below (256 ^ w) vs → drop at b ≡ run w vs ++ rest → numbers b at n w ≡ vs
+numbers-found w n at vs b rest l h e = rw e (unrun-run w n vs rest l h)
 
-flags-at : (n at : ℕ) (fs : List Bool) (b rest : List ℕ) → length fs ≡ n → drop at b ≡ flags fs ++ rest → unflags n (drop at b) ≡ fs
-flags-at n at fs b rest l e = rw e (unflags-flags n fs rest l)
+flags-found : (n at : ℕ) (fs : List Bool) (b rest : List ℕ) → length fs ≡ n → drop at b ≡ flags fs ++ rest → unflags n (drop at b) ≡ fs
+flags-found n at fs b rest l e = rw e (unflags-flags n fs rest l)
 
 -- a flag is the number 0 or 1, and is told by it
 flag-lt : (f : Bool) → flag f < 2
@@ -76,139 +77,148 @@ flag-told false = refl
 
 module _ (c : Cache) (f : Fits c) where
   -- the field of row `n`
-  stands : (n : ℕ) → n < 22 → drop (getD (rows c) n (0, []) .0) (bytesOf c) ≡ getD (rows c) n (0, []) .1 ++ joined (drop (suc n) (rows c))
+  row-at : (n : ℕ) → n < 23 → drop (getD (rows c) n (0, []) .0) (bytesOf c) ≡ getD (rows c) n (0, []) .1 ++ joined (drop (suc n) (rows c))
   unfolding bytesOf rows
-  stands n l = reach (packed c (f .whole)) n (getD (rows c) n (0, []) .0) l (omega arith)
+  row-at n l = reach (packed c (f .whole)) n (getD (rows c) n (0, []) .0) l (omega arith)
 
   -- the cache's own flag
-  closed-at : un (take 4 (drop 36 (bytesOf c))) ≡ flag (c .closed)
+  closed-at : number (bytesOf c) atClosed 2 ≡ flag (c .closed)
   unfolding rows
-  closed-at = number-at 4 (flag (c .closed)) 36 (bytesOf c) _ (omega (arith, flag-lt (c .closed))) (stands 9 (omega arith))
+  closed-at = number-found 2 (flag (c .closed)) atClosed (bytesOf c) _ (omega (arith, flag-lt (c .closed))) (row-at 3 (omega arith))
 
   -- a cache that fits, stored and read back, is that cache
   pub round : cacheOf (bytesOf c) ≡ c
   unfolding rows
   round = λ i.
       record {
-        k = number-at 4 (c .k) 0 (bytesOf c) _ (f .k) (stands 0 (omega arith)) i;
-        n = number-at 4 (c .n) 4 (bytesOf c) _ (f .n) (stands 1 (omega arith)) i;
-        steps = number-at 4 (c .steps) 8 (bytesOf c) _ (f .steps) (stands 2 (omega arith)) i;
-        hits = number-at 4 (c .hits) 12 (bytesOf c) _ (f .hits) (stands 3 (omega arith)) i;
-        loads = number-at 4 (c .loads) 16 (bytesOf c) _ (f .loads) (stands 4 (omega arith)) i;
-        evictions = number-at 4 (c .evictions) 20 (bytesOf c) _ (f .evictions) (stands 5 (omega arith)) i;
-        dirtyevictions = number-at 4 (c .dirtyevictions) 24 (bytesOf c) _ (f .dirtyevictions) (stands 6 (omega arith)) i;
-        writebacks = number-at 4 (c .writebacks) 28 (bytesOf c) _ (f .writebacks) (stands 7 (omega arith)) i;
-        flushes = number-at 4 (c .flushes) 32 (bytesOf c) _ (f .flushes) (stands 8 (omega arith)) i;
+        k = number-found 4 (c .k) atCapacity (bytesOf c) _ (f .k) (row-at 1 (omega arith)) i;
+        n = number-found 2 (c .n) atCount (bytesOf c) _ (f .n) (row-at 2 (omega arith)) i;
         closed = (ap (λ (v : ℕ). not (eqb v 0)) closed-at ∙ flag-told (c .closed)) i;
-        loadcost = number-at 8 (c .loadcost) 40 (bytesOf c) _ (f .loadcost) (stands 10 (omega arith)) i;
-        writecost = number-at 8 (c .writecost) 48 (bytesOf c) _ (f .writecost) (stands 11 (omega arith)) i;
-        dirty = numbers-at 8 4 56 (c .dirty) (bytesOf c) _ (f .whole .dirty) (f .dirty) (stands 12 (omega arith)) i;
-        loadcredit = numbers-at 8 256 88 (c .loadcredit) (bytesOf c) _ (f .whole .loadcredit) (f .loadcredit) (stands 13 (omega arith)) i;
-        writecredit = numbers-at 8 256 2136 (c .writecredit) (bytesOf c) _ (f .whole .writecredit) (f .writecredit) (stands 14 (omega arith)) i;
-        tenths = numbers-at 4 256 4184 (c .tenths) (bytesOf c) _ (f .whole .tenths) (f .tenths) (stands 15 (omega arith)) i;
-        itemloads = numbers-at 4 256 5208 (c .itemloads) (bytesOf c) _ (f .whole .itemloads) (f .itemloads) (stands 16 (omega arith)) i;
-        itemwritebacks = numbers-at 4 256 6232 (c .itemwritebacks) (bytesOf c) _ (f .whole .itemwritebacks) (f .itemwritebacks) (stands 17 (omega arith)) i;
-        load = numbers-at 2 256 7256 (c .load) (bytesOf c) _ (f .whole .load) (f .load) (stands 18 (omega arith)) i;
-        write = numbers-at 2 256 7768 (c .write) (bytesOf c) _ (f .whole .write) (f .write) (stands 19 (omega arith)) i;
-        blocks = numbers-at 1 256 8280 (c .blocks) (bytesOf c) _ (f .whole .blocks) (f .blocks) (stands 20 (omega arith)) i;
-        held = flags-at 256 8536 (c .held) (bytesOf c) _ (f .whole .held) (stands 21 (omega arith)) i;
+        steps = number-found 4 (c .steps) atSteps (bytesOf c) _ (f .steps) (row-at 4 (omega arith)) i;
+        hits = number-found 4 (c .hits) atHits (bytesOf c) _ (f .hits) (row-at 5 (omega arith)) i;
+        loads = number-found 4 (c .loads) atLoads (bytesOf c) _ (f .loads) (row-at 6 (omega arith)) i;
+        evictions = number-found 4 (c .evictions) atEvictions (bytesOf c) _ (f .evictions) (row-at 7 (omega arith)) i;
+        dirtyevictions = number-found 4 (c .dirtyevictions) atDirtyEvictions (bytesOf c) _ (f .dirtyevictions) (row-at 8 (omega arith)) i;
+        writebacks = number-found 4 (c .writebacks) atWritebacks (bytesOf c) _ (f .writebacks) (row-at 9 (omega arith)) i;
+        flushes = number-found 4 (c .flushes) atFlushes (bytesOf c) _ (f .flushes) (row-at 10 (omega arith)) i;
+        loadcost = number-found 8 (c .loadcost) atLoadCost (bytesOf c) _ (f .loadcost) (row-at 11 (omega arith)) i;
+        writecost = number-found 8 (c .writecost) atWriteCost (bytesOf c) _ (f .writecost) (row-at 12 (omega arith)) i;
+        dirty = numbers-found 8 4 atDirty (c .dirty) (bytesOf c) _ (f .whole .dirty) (f .dirty) (row-at 13 (omega arith)) i;
+        loadcredit = numbers-found 8 256 atLoadCredits (c .loadcredit) (bytesOf c) _ (f .whole .loadcredit) (f .loadcredit) (row-at 14 (omega arith)) i;
+        writecredit = numbers-found 8 256 atWriteCredits (c .writecredit) (bytesOf c) _ (f .whole .writecredit) (f .writecredit) (row-at 15 (omega arith)) i;
+        tenths = numbers-found 4 256 atTenths (c .tenths) (bytesOf c) _ (f .whole .tenths) (f .tenths) (row-at 16 (omega arith)) i;
+        itemloads = numbers-found 4 256 atItemLoads (c .itemloads) (bytesOf c) _ (f .whole .itemloads) (f .itemloads) (row-at 17 (omega arith)) i;
+        itemwritebacks = numbers-found 4 256 atItemWritebacks (c .itemwritebacks) (bytesOf c) _ (f .whole .itemwritebacks) (f .itemwritebacks) (row-at 18 (omega arith)) i;
+        load = numbers-found 2 256 atItemLoadCosts (c .load) (bytesOf c) _ (f .whole .load) (f .load) (row-at 19 (omega arith)) i;
+        write = numbers-found 2 256 atItemWriteCosts (c .write) (bytesOf c) _ (f .whole .write) (f .write) (row-at 20 (omega arith)) i;
+        blocks = numbers-found 1 256 atBlocks (c .blocks) (bytesOf c) _ (f .whole .blocks) (f .blocks) (row-at 21 (omega arith)) i;
+        held = flags-found 256 atHeld (c .held) (bytesOf c) _ (f .whole .held) (row-at 22 (omega arith)) i;
       }
 
-  -- the flags of a cache are stored as 0 or 1
-  pub flagged-bytesOf : Flagged (bytesOf c)
+  -- the number of the layout stands at the head, and the flags are stored as 0 or 1
+  pub allowed-bytesOf : Allowed (bytesOf c)
   unfolding rows
-  flagged-bytesOf = record {
+  allowed-bytesOf = record {
+    format = number-found 4 format atFormat (bytesOf c) _ (omega arith) (row-at 0 (omega arith));
     closed = rw closed-at (flag-lt (c .closed));
-    held = λ i l. rw (← getD-drop 8536 (bytesOf c) i 0, stands 21 (omega arith), append-nil (flags (c .held))) (flags-lt (c .held) i);
+    held = λ i l. rw (← getD-drop atHeld (bytesOf c) i 0, row-at 22 (omega arith), append-nil (flags (c .held))) (flags-lt (c .held) i);
   }
 
 -- ---- read and stored again
 
+-- whatever the bytes, each list that is read has all its places
+pub whole : (b : List ℕ) → Whole (cacheOf b)
+whole b = record {
+  dirty = length-unrun 8 4 (drop atDirty b);
+  loadcredit = length-unrun 8 256 (drop atLoadCredits b);
+  writecredit = length-unrun 8 256 (drop atWriteCredits b);
+  tenths = length-unrun 4 256 (drop atTenths b);
+  itemloads = length-unrun 4 256 (drop atItemLoads b);
+  itemwritebacks = length-unrun 4 256 (drop atItemWritebacks b);
+  load = length-unrun 2 256 (drop atItemLoadCosts b);
+  write = length-unrun 2 256 (drop atItemWriteCosts b);
+  blocks = length-unrun 1 256 (drop atBlocks b);
+  held = length-unflags 256 (drop atHeld b);
+}
+
 module _ (b : List ℕ) (h : Below 256 b) where
   -- a number, or each of several, that is read has room in the bytes that it was read from
-  number-fits : (w at : ℕ) → un (take w (drop at b)) < 256 ^ w
+  number-fits : (w at : ℕ) → number b at w < 256 ^ w
   number-fits w at = un-take-lt w (drop at b) (below-drop 256 at b h)
 
-  numbers-fit : (w n at : ℕ) → Below (256 ^ w) (unrun w n (drop at b))
+  numbers-fit : (w n at : ℕ) → Below (256 ^ w) (numbers b at n w)
   numbers-fit w n at = unrun-lt w n (drop at b) (below-drop 256 at b h)
 
   -- what bytes stand for has room in the layout
   pub fits : Fits (cacheOf b)
   fits = record {
-    whole = record {
-      dirty = length-unrun 8 4 (drop 56 b);
-      loadcredit = length-unrun 8 256 (drop 88 b);
-      writecredit = length-unrun 8 256 (drop 2136 b);
-      tenths = length-unrun 4 256 (drop 4184 b);
-      itemloads = length-unrun 4 256 (drop 5208 b);
-      itemwritebacks = length-unrun 4 256 (drop 6232 b);
-      load = length-unrun 2 256 (drop 7256 b);
-      write = length-unrun 2 256 (drop 7768 b);
-      blocks = length-unrun 1 256 (drop 8280 b);
-      held = length-unflags 256 (drop 8536 b);
-    };
-    k = number-fits 4 0;
-    n = number-fits 4 4;
-    steps = number-fits 4 8;
-    hits = number-fits 4 12;
-    loads = number-fits 4 16;
-    evictions = number-fits 4 20;
-    dirtyevictions = number-fits 4 24;
-    writebacks = number-fits 4 28;
-    flushes = number-fits 4 32;
-    loadcost = number-fits 8 40;
-    writecost = number-fits 8 48;
-    dirty = numbers-fit 8 4 56;
-    loadcredit = numbers-fit 8 256 88;
-    writecredit = numbers-fit 8 256 2136;
-    tenths = numbers-fit 4 256 4184;
-    itemloads = numbers-fit 4 256 5208;
-    itemwritebacks = numbers-fit 4 256 6232;
-    load = numbers-fit 2 256 7256;
-    write = numbers-fit 2 256 7768;
-    blocks = numbers-fit 1 256 8280;
+    whole = whole b;
+    k = number-fits 4 atCapacity;
+    n = number-fits 2 atCount;
+    steps = number-fits 4 atSteps;
+    hits = number-fits 4 atHits;
+    loads = number-fits 4 atLoads;
+    evictions = number-fits 4 atEvictions;
+    dirtyevictions = number-fits 4 atDirtyEvictions;
+    writebacks = number-fits 4 atWritebacks;
+    flushes = number-fits 4 atFlushes;
+    loadcost = number-fits 8 atLoadCost;
+    writecost = number-fits 8 atWriteCost;
+    dirty = numbers-fit 8 4 atDirty;
+    loadcredit = numbers-fit 8 256 atLoadCredits;
+    writecredit = numbers-fit 8 256 atWriteCredits;
+    tenths = numbers-fit 4 256 atTenths;
+    itemloads = numbers-fit 4 256 atItemLoads;
+    itemwritebacks = numbers-fit 4 256 atItemWritebacks;
+    load = numbers-fit 2 256 atItemLoadCosts;
+    write = numbers-fit 2 256 atItemWriteCosts;
+    blocks = numbers-fit 1 256 atBlocks;
   }
 
 module _ (b : List ℕ) (e : length b ≡ stateBytes) (h : Below 256 b) where
   -- a number, or numbers, and the bytes that follow
-  number-back : (w at : ℕ) (rest : List ℕ) → at + w ≤ stateBytes → rest ≡ drop (at + w) b → le w (un (take w (drop at b))) ++ rest ≡ drop at b
+  number-back : (w at : ℕ) (rest : List ℕ) → at + w ≤ stateBytes → rest ≡ drop (at + w) b → le w (number b at w) ++ rest ≡ drop at b
   number-back w at rest l r = rw (r, le-back w at b (omega arith) h) (rejoin b at w (at + w) refl)
 
-  numbers-back : (w n at : ℕ) (rest : List ℕ) → at + n * w ≤ stateBytes → rest ≡ drop (at + n * w) b → run w (unrun w n (drop at b)) ++ rest ≡ drop at b
+  numbers-back : (w n at : ℕ) (rest : List ℕ) → at + n * w ≤ stateBytes → rest ≡ drop (at + n * w) b → run w (numbers b at n w) ++ rest ≡ drop at b
   numbers-back w n at rest l r = rw (r, run-back w n at b (omega arith) h) (rejoin b at (n * w) (at + n * w) refl)
 
-  module _ (g : Flagged b) where
-    -- the two kinds of flags
-    closed-back : (rest : List ℕ) → rest ≡ drop 40 b → le 4 (flag (not (eqb (un (take 4 (drop 36 b))) 0))) ++ rest ≡ drop 36 b
-    closed-back rest r = rw (flag-byte (un (take 4 (drop 36 b))) (g .closed)) (number-back 4 36 rest (omega arith) r)
+  module _ (g : Allowed b) where
+    -- the number of the layout, and the two kinds of flags
+    format-back : (rest : List ℕ) → rest ≡ drop atCapacity b → le 4 format ++ rest ≡ b
+    format-back rest r = ap (λ (v : ℕ). le 4 v ++ rest) (sym (g .format)) ∙ number-back 4 atFormat rest (omega arith) r
 
-    held-back : flags (unflags 256 (drop 8536 b)) ++ [] ≡ drop 8536 b
+    closed-back : (rest : List ℕ) → rest ≡ drop atSteps b → le 2 (flag (not (eqb (number b atClosed 2) 0))) ++ rest ≡ drop atClosed b
+    closed-back rest r = rw (flag-byte (number b atClosed 2) (g .closed)) (number-back 2 atClosed rest (omega arith) r)
+
+    held-back : flags (unflags 256 (drop atHeld b)) ++ [] ≡ drop atHeld b
     held-back =
-        rw (append-nil, flags-back 256 8536 b (omega arith) (g .held))
-        (take-all 256 (drop 8536 b) (omega (arith, length-drop 8536 b)))
+        rw (append-nil, flags-back 256 atHeld b (omega arith) (g .held))
+        (take-all 256 (drop atHeld b) (omega (arith, length-drop atHeld b)))
 
-    -- bytes whose flags are 0 or 1, read and stored again, are those bytes
+    -- bytes that the layout allows, read and stored again, are those bytes
     pub back : bytesOf (cacheOf b) ≡ b
     unfolding bytesOf rows
     back =
-        number-back 4 0 _ (omega arith)
-        (number-back 4 4 _ (omega arith)
-        (number-back 4 8 _ (omega arith)
-        (number-back 4 12 _ (omega arith)
-        (number-back 4 16 _ (omega arith)
-        (number-back 4 20 _ (omega arith)
-        (number-back 4 24 _ (omega arith)
-        (number-back 4 28 _ (omega arith)
-        (number-back 4 32 _ (omega arith)
+        format-back _
+        (number-back 4 atCapacity _ (omega arith)
+        (number-back 2 atCount _ (omega arith)
         (closed-back _
-        (number-back 8 40 _ (omega arith)
-        (number-back 8 48 _ (omega arith)
-        (numbers-back 8 4 56 _ (omega arith)
-        (numbers-back 8 256 88 _ (omega arith)
-        (numbers-back 8 256 2136 _ (omega arith)
-        (numbers-back 4 256 4184 _ (omega arith)
-        (numbers-back 4 256 5208 _ (omega arith)
-        (numbers-back 4 256 6232 _ (omega arith)
-        (numbers-back 2 256 7256 _ (omega arith)
-        (numbers-back 2 256 7768 _ (omega arith)
-        (numbers-back 1 256 8280 _ (omega arith) held-back))))))))))))))))))))
+        (number-back 4 atSteps _ (omega arith)
+        (number-back 4 atHits _ (omega arith)
+        (number-back 4 atLoads _ (omega arith)
+        (number-back 4 atEvictions _ (omega arith)
+        (number-back 4 atDirtyEvictions _ (omega arith)
+        (number-back 4 atWritebacks _ (omega arith)
+        (number-back 4 atFlushes _ (omega arith)
+        (number-back 8 atLoadCost _ (omega arith)
+        (number-back 8 atWriteCost _ (omega arith)
+        (numbers-back 8 4 atDirty _ (omega arith)
+        (numbers-back 8 256 atLoadCredits _ (omega arith)
+        (numbers-back 8 256 atWriteCredits _ (omega arith)
+        (numbers-back 4 256 atTenths _ (omega arith)
+        (numbers-back 4 256 atItemLoads _ (omega arith)
+        (numbers-back 4 256 atItemWritebacks _ (omega arith)
+        (numbers-back 2 256 atItemLoadCosts _ (omega arith)
+        (numbers-back 2 256 atItemWriteCosts _ (omega arith)
+        (numbers-back 1 256 atBlocks _ (omega arith) held-back)))))))))))))))))))))

@@ -1,5 +1,6 @@
--- Rows that lie end to end: stored one by one they are one store of their bytes, and each is found at its place. Assumes nothing.
-use mathlib.Core.Path.{_≡_, refl, _∙_}
+-- Rows that lie end to end: stored one by one they are one store of their bytes, each is found at its place, and a store inside one
+-- of them leaves the others. Assumes nothing.
+use mathlib.Core.Path.{_≡_, refl, ap, _∙_}
 use mathlib.Core.List.{List, [], _∷_, _++_}
 use mathlib.Core.Bool.{Bool}
 use Prim.Native.Nat.{ℕ, zero, suc, _+_, _*_, _-_, _≤_, _<_}
@@ -7,8 +8,13 @@ use native.Mathlib.Omega.{arith}
 use lib.ListN.{length, drop, getD, length-append}
 use lib.Seq.{sets}
 use Rattle.fields.specs.LittleEndian.{Below, le, run, flags}
-use Rattle.fields.proofs.Laws.{length-le, length-run, length-flags, le-lt, run-lt, flags-lt, below-append, past, sets-append}
-use Rattle.layout.specs.Layout.{Row, joined, stored}
+use Rattle.fields.proofs.Laws.{length-le, length-run, length-flags, le-lt, run-lt, flags-lt, below-append, past, sets-append, sets-past, sets-within}
+use Rattle.layout.specs.Layout.{Row, joined}
+
+-- rows stored into bytes, each at its place
+abbrev pub stored : List ℕ → List Row → List ℕ
+stored b [] = b
+stored b (r ∷ rs) = stored (sets b (r .0) (r .1)) rs
 
 -- rows of bytes that lie end to end, from one place to another
 pub data Packed : ℕ → List Row → ℕ → Type 0 where
@@ -16,14 +22,14 @@ pub data Packed : ℕ → List Row → ℕ → Type 0 where
   row : {at to : ℕ} {x : List ℕ} {rs : List Row} (w : ℕ) → length x ≡ w → Below 256 x → Packed (at + w) rs to → Packed at ((at, x) ∷ rs) to
 
 -- a number of `w` bytes, `n` numbers of `w` bytes each, and `n` flags
-pub number : {at to : ℕ} {rs : List Row} (w v : ℕ) → Packed (at + w) rs to → Packed at ((at, le w v) ∷ rs) to
-number w v p = row w (length-le w v) (le-lt w v) p
+pub number-row : {at to : ℕ} {rs : List Row} (w v : ℕ) → Packed (at + w) rs to → Packed at ((at, le w v) ∷ rs) to
+number-row w v p = row w (length-le w v) (le-lt w v) p
 
-pub numbers : {at to : ℕ} {rs : List Row} (w n : ℕ) (vs : List ℕ) → length vs ≡ n → Packed (at + n * w) rs to → Packed at ((at, run w vs) ∷ rs) to
-numbers w n vs e p = row {x = run w vs} (n * w) (rw (length-run, e)) (run-lt w vs) p
+pub numbers-row : {at to : ℕ} {rs : List Row} (w n : ℕ) (vs : List ℕ) → length vs ≡ n → Packed (at + n * w) rs to → Packed at ((at, run w vs) ∷ rs) to
+numbers-row w n vs e p = row {x = run w vs} (n * w) (rw (length-run, e)) (run-lt w vs) p
 
-pub marks : {at to : ℕ} {rs : List Row} (n : ℕ) (fs : List Bool) → length fs ≡ n → Packed (at + n) rs to → Packed at ((at, flags fs) ∷ rs) to
-marks n fs e p = row {x = flags fs} n (length-flags fs ∙ e) (λ i. omega (arith, flags-lt fs i)) p
+pub flags-row : {at to : ℕ} {rs : List Row} (n : ℕ) (fs : List Bool) → length fs ≡ n → Packed (at + n) rs to → Packed at ((at, flags fs) ∷ rs) to
+flags-row n fs e p = row {x = flags fs} n (length-flags fs ∙ e) (λ i. omega (arith, flags-lt fs i)) p
 
 -- their bytes reach from the one place to the other, and each is a byte
 pub packed-length : {at to : ℕ} {rs : List Row} → Packed at rs to → at + length (joined rs) ≡ to
@@ -54,3 +60,27 @@ reach (row w e h p) zero q l z =
 reach (row {at = at} {x = x} {rs = rs} w e h p) (suc n) q l z =
     let a : at + w ≤ getD rs n (0, []) .0 = after p n (omega arith) in
     past x (joined rs) q (q - w) (omega arith) ∙ reach p n (q - w) (omega arith) (omega arith)
+
+-- rows of which row `n` has other bytes
+abbrev pub replaced : List Row → ℕ → List ℕ → List Row
+replaced [] n y = []
+replaced (r ∷ rs) zero y = (r .0, y) ∷ rs
+replaced (r ∷ rs) (suc n) y = r ∷ replaced rs n y
+
+-- a store inside row `n`, `q` bytes into the rows and `off` bytes into the row
+pub sets-row :
+    {at to : ℕ} {rs : List Row} →
+    Packed at rs to →
+    (n q off : ℕ) (x : List ℕ) →
+    n < length rs →
+    getD rs n (0, []) .0 ≡ at + q →
+    off + length x ≤ length (getD rs n (0, []) .1) →
+    sets (joined rs) (q + off) x ≡ joined (replaced rs n (sets (getD rs n (0, []) .1) off x))
+sets-row end n q off x l z k = absurd (omega arith)
+sets-row (row {x = y} {rs = rs} w e h p) zero q off x l z k =
+    let f : q + off ≡ off = omega arith in
+    rw f (sets-within y (joined rs) x off k)
+sets-row (row {at = at} {x = y} {rs = rs} w e h p) (suc n) q off x l z k =
+    let a : at + w ≤ getD rs n (0, []) .0 = after p n (omega arith) in
+    sets-past y (joined rs) x (q + off) (q - w + off) (omega arith)
+    ∙ ap (λ (t : List ℕ). y ++ t) (sets-row p n (q - w) off x (omega arith) (omega arith) k)

@@ -2,12 +2,13 @@
 // bytes are as many as a state has and an item's number below 256; a setter, that they are the bytes of some cache. A getter says the
 // field of the cache that the bytes stand for, a setter which cache they are then.
 ghost use mathlib.Core.Path.{_≡_};
-ghost use Prim.Native.Nat.{_<_, _≤_};
+ghost use Prim.Native.Nat.{_+_, _*_, _<_, _≤_};
 ghost use lib.ListN.{length, getD};
 ghost use mathlib.Core.Bool.{false};
+ghost use Rattle.cache_state.specs.View.{dirtyAt};
 ghost use Rattle.cache_state.specs.With.{withCapacity, withCount, withClosed, withSteps, withHits, withLoads, withEvictions, withDirtyEvictions, withWritebacks, withFlushes, withLoadCost, withWriteCost, withDirty, withLoadCredit, withWriteCredit, withTenths, withItemLoads, withItemWritebacks, withItemLoadCost, withItemWriteCost, withBlocks, withHeld};
 ghost use Rattle.cache_state.specs.Becomes.{Decided};
-ghost use Rattle.layout.specs.Layout.{stateBytes, cacheOf, Allowed};
+ghost use Rattle.layout.specs.Layout.{stateBytes, atDirty, number, cacheOf, Allowed};
 ghost use Rattle.layout.specs.Stands.{Stands, Readable, FlagsWithin, cleared};
 
 // The bytes of a state, and the number of this layout.
@@ -239,16 +240,27 @@ pub fn put_closed(b: &mut [u8], f: bool)
 
 // ---- the dirty marks, in four words
 
+// Word `j` of them. As a function of its own its eight bytes are read as one number.
+fn word(b: &[u8], j: usize) -> u64
+    requires { ⌜ (length (now b) ≡ stateBytes) × (j < 4) ⌝ }
+    ensures { λ r. ⌜ r ≡ number (now (b .entry)) (atDirty + j * 8) 8 ⌝ }
+{
+    fields::get(b, AT_DIRTY + j * 8, 8)
+}
+
+// Whether item `i` is marked.
+pub fn is_dirty(b: &[u8], i: usize) -> bool
+    requires { ⌜ (length (now b) ≡ stateBytes) × (i < 256) ⌝ }
+    ensures { λ r. ⌜ r ≡ dirtyAt (cacheOf (now (b .entry))) i ⌝ }
+{
+    (word(b, i / 64) >> (i % 64)) % 2 == 1
+}
+
 pub fn dirty(b: &[u8]) -> [u64; 4]
     requires { ⌜ length (now b) ≡ stateBytes ⌝ }
     ensures { λ r. ⌜ r ≡ cacheOf (now (b .entry)) .dirty ⌝ }
 {
-    [
-        fields::get(b, AT_DIRTY, 8),
-        fields::get(b, AT_DIRTY + 8, 8),
-        fields::get(b, AT_DIRTY + 16, 8),
-        fields::get(b, AT_DIRTY + 24, 8),
-    ]
+    [word(b, 0), word(b, 1), word(b, 2), word(b, 3)]
 }
 
 pub fn put_dirty(b: &mut [u8], words: [u64; 4])

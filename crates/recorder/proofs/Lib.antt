@@ -1,5 +1,2 @@
-pub mod Season
-pub mod Lents
-pub mod Tells
-pub mod Runs
+-- The laws of the exported report, and the proofs of the functions. Assumes nothing.
 pub mod Reported

@@ -1,1 +1,2 @@
+-- The definitions that the contracts of `recorder` cite. Assumes nothing.
 pub mod Reports

@@ -1,6 +1,5 @@
 // The functions that the firmware calls from C, on a state in lent bytes. Each answers 0 or the refusal's number; refused, every
 // lent byte is as before. Nothing is asked of the caller: any bytes, any lengths and any numbers are answered.
-ghost use mathlib.Core.Path.{_≡_};
 ghost use Rattle.landlord.specs.Calls.{take, close};
 ghost use Rattle.cache.specs.Contract.{lent, Called, OpenedLent};
 ghost use Rattle.recorder.specs.Reports.{ReportedLent};

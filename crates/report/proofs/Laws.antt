@@ -18,8 +18,9 @@ use Rattle.landlord.specs.Types.{refusalNumber, refusalLine}
 use Rattle.landlord.specs.Figures.{Use, noUse, Standing}
 use Rattle.cache_state.specs.Cache.{Cache}
 use Rattle.cache_state.specs.View.{usageOf, usesOf, view}
-use Rattle.cache_state.specs.Valid.{Valid}
 use Rattle.cache_state.proofs.Views.{uses-length, use-is}
+use Rattle.layout.specs.Layout.{cacheOf}
+use Rattle.layout.specs.Stands.{ValidBytes}
 use Rattle.report.specs.declared.Rival.{Rival}
 use Rattle.report.specs.declared.Rival.the-variants.{Absent, Priced}
 use Rattle.report.specs.declared.Written.{Written}
@@ -329,9 +330,10 @@ unfolding wrote
 put-whole t before after n h l e =
     record { answer = rw (le-leb (length t) (length before) h) (ap Text l); page = e ∙ sym (page-all t before h) }
 
-module _ (c : Cache) (rival : Rival) (before : List ℕ) where
-  pub foul-told : (Valid c → ⊥) → Reported c rival before (Refused (InvalidState 0)) before
-  foul-told f = record { fine = λ v. absurd (f v); foul = λ g. (refl, refl) }
+module _ (b : List ℕ) (rival : Rival) (before : List ℕ) where
+  pub invalid-told : (ValidBytes b → ⊥) → Reported b rival before (Refused (InvalidState 0)) before
+  invalid-told f = record { fine = λ v. absurd (f v); invalid = λ g. (refl, refl) }
 
-  pub fine-told : (r : Written) (after : List ℕ) → Valid c → Put (reportOf (view c) rival) before r after → Reported c rival before r after
-  fine-told r after v p = record { fine = λ w. p; foul = λ f. absurd (f v) }
+  pub fine-told :
+      (r : Written) (after : List ℕ) → ValidBytes b → Put (reportOf (view (cacheOf b)) rival) before r after → Reported b rival before r after
+  fine-told r after v p = record { fine = λ w. p; invalid = λ f. absurd (f v) }

@@ -158,15 +158,18 @@ fn figures(b: &[u8], rival: Rival) -> [u64; 11]
         left = d;
         right = e;
     }
+    let load = layout::load_cost(b);
+    let write = layout::write_cost(b);
+    let total = load + write;
     [
         wide(layout::hits(b)),
         wide(layout::loads(b)),
-        layout::load_cost(b),
+        load,
         wide(layout::evictions(b)),
         wide(layout::dirty_evictions(b)),
         wide(layout::writebacks(b)),
-        layout::write_cost(b),
-        layout::load_cost(b) + layout::write_cost(b),
+        write,
+        total,
         cost,
         left,
         right,

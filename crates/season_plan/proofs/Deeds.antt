@@ -3,7 +3,7 @@ use mathlib.Core.Path.{_≡_, refl, sym, ap, subst, _∙_}
 use mathlib.Core.Logic.{_≢_}
 use mathlib.Core.Bool.{Bool, true, false, cond}
 use mathlib.Core.List.{List}
-use Prim.Native.Nat.{ℕ, _+_, _-_, _≤_, _<_}
+use Prim.Native.Nat.{ℕ, _+_, _-_, _/_, _≤_, _<_}
 use native.Mathlib.Omega.{arith}
 use native.Mathlib.Decide.{ℕ-discrete}
 use lib.ListN.{length, getD, set}
@@ -13,11 +13,12 @@ use Rattle.landlord.specs.declared.Act.the-variants.{Evict, Fetch}
 use Rattle.landlord.specs.Catalog.{Catalog, itemAt}
 use Rattle.landlord.specs.Plan.{Copy, noCopy, cleanCopy, dirtyCopy, has, isChanged, copyAt, planUsed, done, faulty, unknownItem, notHeld, alreadyHeld, planEvicts, planFetches, planActs}
 use Rattle.landlord.proofs.Sums.{sum-term}
-use Rattle.season_tables.specs.declared.Seen.{Seen}
+use Rattle.catalog_bytes.specs.Catalogs.{itemIn, catalogIn}
+use Rattle.catalog_bytes.proofs.Laws.{length-catalogIn}
 use Rattle.season_plan.specs.declared.Copies.{Copies}
 use Rattle.season_plan.specs.declared.Did.{Did}
-use Rattle.season_plan.specs.Copies.{copyFrom, copiesOf, catalogIn, Stands, Does, Ready, Evicts, Fetches, Acts}
-use Rattle.season_plan.proofs.Marks.{catalog-length, blocks-at, load-at, write-at, copy-none, copy-clean, copy-dirty, copy-at, copies-length, copies-set, used-set, cond-most, sum-most}
+use Rattle.season_plan.specs.Copies.{copyFrom, copiesOf, Stands, Does, Ready, Evicts, Fetches, Acts}
+use Rattle.season_plan.proofs.Marks.{blocks-at, load-at, write-at, copy-none, copy-clean, copy-dirty, copy-at, copies-length, copies-set, used-set, cond-most, sum-most}
 
 -- the copy of an item whose mark is not 0 is held
 pub held-mark : (m : ℕ) → m ≢ 0 → has (copyFrom m) ≡ true
@@ -56,94 +57,94 @@ stored cat p r q paid i m c st l b marks used sum =
       sum = omega (arith, st .sum);
     }
 
-module _ (x : Seen) (p : Copies) (i : ℕ) (l : i < x .n) (b : i < length (p .marks)) where
-  below : i < length (catalogIn x)
-  below = omega (arith, catalog-length x)
+module _ (xs : List ℕ) (p : Copies) (i : ℕ) (l : i < length xs / 5) (b : i < length (p .marks)) where
+  below : i < length (catalogIn xs)
+  below = omega (arith, length-catalogIn xs)
 
   -- a held item's blocks are among those that are used
-  pub used-some : Ready x p → getD (p .marks) i 0 ≢ 0 → getD (x .blocks) i 0 ≤ p .used
+  pub used-some : Ready xs p → getD (p .marks) i 0 ≢ 0 → itemIn xs i .blocks ≤ p .used
   unfolding planUsed
   used-some ready m =
-      let cat = catalogIn x in
-      let q = copiesOf (x .n) (p .marks) in
-      let has-it : cond (has (copyAt q i)) (itemAt cat i .blocks) 0 ≡ getD (x .blocks) i 0 =
-      ap (λ t. cond (has t) (itemAt cat i .blocks) 0) (copy-at (x .n) (p .marks) i l)
+      let cat = catalogIn xs in
+      let q = copiesOf (length xs / 5) (p .marks) in
+      let has-it : cond (has (copyAt q i)) (itemAt cat i .blocks) 0 ≡ itemIn xs i .blocks =
+      ap (λ t. cond (has t) (itemAt cat i .blocks) 0) (copy-at (length xs / 5) (p .marks) i l)
       ∙ ap (λ t. cond t (itemAt cat i .blocks) 0) (held-mark (getD (p .marks) i 0) m)
-      ∙ blocks-at x i l
+      ∙ blocks-at xs i l
       in
       omega (arith, sum-term (length cat) i (λ j. cond (has (copyAt q j)) (itemAt cat j .blocks) 0) below, ready .used)
 
-  holds-not : (q : List Copy) (paid : ℕ) → Stands (catalogIn x) p q paid → getD (p .marks) i 0 ≡ 0 → has (copyAt q i) ≡ false
-  holds-not q paid st m = ap has (copy-of (catalogIn x) p q paid i st below ∙ copy-none (getD (p .marks) i 0) m)
+  holds-not : (q : List Copy) (paid : ℕ) → Stands (catalogIn xs) p q paid → getD (p .marks) i 0 ≡ 0 → has (copyAt q i) ≡ false
+  holds-not q paid st m = ap has (copy-of (catalogIn xs) p q paid i st below ∙ copy-none (getD (p .marks) i 0) m)
 
   -- 11
-  pub evict-fails : (r : Did) → getD (p .marks) i 0 ≡ 0 → r .number ≡ 11 → Evicts x p i r
+  pub evict-fails : (r : Did) → getD (p .marks) i 0 ≡ 0 → r .number ≡ 11 → Evicts xs p i r
   evict-fails r m e s j paid q st =
       subst
-      (λ (t : Bool). Does (catalogIn x) (cond t (done (set q i noCopy) (cond (isChanged (copyAt q i)) (itemAt (catalogIn x) i .write) 0)) (faulty (notHeld s j i))) paid r)
+      (λ (t : Bool). Does (catalogIn xs) (cond t (done (set q i noCopy) (cond (isChanged (copyAt q i)) (itemAt (catalogIn xs) i .write) 0)) (faulty (notHeld s j i))) paid r)
       (sym (holds-not q paid st m)) e
 
   -- a held copy of any kind goes, at this cost
   gone :
       (r : Did) (a : Copy) (c : ℕ) →
-      getD (x .blocks) i 0 ≤ p .used →
+      itemIn xs i .blocks ≤ p .used →
       copyFrom (getD (p .marks) i 0) ≡ a →
       has a ≡ true →
-      cond (isChanged a) (itemAt (catalogIn x) i .write) 0 ≡ c →
+      cond (isChanged a) (itemAt (catalogIn xs) i .write) 0 ≡ c →
       r .number ≡ 0 →
       r .copies .marks ≡ set (p .marks) i 0 →
-      r .copies .used ≡ p .used - getD (x .blocks) i 0 →
+      r .copies .used ≡ p .used - itemIn xs i .blocks →
       r .copies .paid ≡ p .paid + c →
-      Evicts x p i r
+      Evicts xs p i r
   gone r a c fits from held cost number marks used sum s j paid q st =
-      let is : copyAt q i ≡ a = copy-of (catalogIn x) p q paid i st below ∙ from in
+      let is : copyAt q i ≡ a = copy-of (catalogIn xs) p q paid i st below ∙ from in
       subst
-      (λ (t : Copy). Does (catalogIn x) (cond (has t) (done (set q i noCopy) (cond (isChanged t) (itemAt (catalogIn x) i .write) 0)) (faulty (notHeld s j i))) paid r)
+      (λ (t : Copy). Does (catalogIn xs) (cond (has t) (done (set q i noCopy) (cond (isChanged t) (itemAt (catalogIn xs) i .write) 0)) (faulty (notHeld s j i))) paid r)
       (sym is)
       (subst
-      (λ (t : Bool). Does (catalogIn x) (cond t (done (set q i noCopy) (cond (isChanged a) (itemAt (catalogIn x) i .write) 0)) (faulty (notHeld s j i))) paid r)
+      (λ (t : Bool). Does (catalogIn xs) (cond t (done (set q i noCopy) (cond (isChanged a) (itemAt (catalogIn xs) i .write) 0)) (faulty (notHeld s j i))) paid r)
       (sym held) (
         number,
-        subst (λ (t : ℕ). Stands (catalogIn x) (r .copies) (set q i noCopy) (paid + t)) (sym cost)
-            (stored (catalogIn x) p (r .copies) q paid i 0 c st below b marks
-            (ap (λ t. r .copies .used + cond (has t) (itemAt (catalogIn x) i .blocks) 0) is
-            ∙ ap (λ t. r .copies .used + cond t (itemAt (catalogIn x) i .blocks) 0) held
-            ∙ omega (arith, blocks-at x i l, fits))
+        subst (λ (t : ℕ). Stands (catalogIn xs) (r .copies) (set q i noCopy) (paid + t)) (sym cost)
+            (stored (catalogIn xs) p (r .copies) q paid i 0 c st below b marks
+            (ap (λ t. r .copies .used + cond (has t) (itemAt (catalogIn xs) i .blocks) 0) is
+            ∙ ap (λ t. r .copies .used + cond t (itemAt (catalogIn xs) i .blocks) 0) held
+            ∙ omega (arith, blocks-at xs i l, fits))
             sum),
       ))
 
   -- a clean copy costs nothing
   pub evict-clean :
       (r : Did) →
-      Ready x p →
+      Ready xs p →
       getD (p .marks) i 0 ≡ 1 →
       r .number ≡ 0 →
       r .copies .marks ≡ set (p .marks) i 0 →
-      r .copies .used ≡ p .used - getD (x .blocks) i 0 →
+      r .copies .used ≡ p .used - itemIn xs i .blocks →
       r .copies .paid ≡ p .paid →
-      Evicts x p i r
+      Evicts xs p i r
   evict-clean r ready m number marks used sum =
       gone r cleanCopy 0 (used-some ready (omega arith)) (copy-clean (getD (p .marks) i 0) m) refl refl number marks used (omega arith)
 
   -- a dirty one its write cost
   pub evict-dirty :
       (r : Did) →
-      Ready x p →
+      Ready xs p →
       1 < getD (p .marks) i 0 →
       r .number ≡ 0 →
       r .copies .marks ≡ set (p .marks) i 0 →
-      r .copies .used ≡ p .used - getD (x .blocks) i 0 →
-      r .copies .paid ≡ p .paid + getD (x .write) i 0 →
-      Evicts x p i r
+      r .copies .used ≡ p .used - itemIn xs i .blocks →
+      r .copies .paid ≡ p .paid + itemIn xs i .write →
+      Evicts xs p i r
   evict-dirty r ready m number marks used sum =
-      gone r dirtyCopy (getD (x .write) i 0) (used-some ready (omega arith)) (copy-dirty (getD (p .marks) i 0) m) refl (write-at x i l) number marks used sum
+      gone r dirtyCopy (itemIn xs i .write) (used-some ready (omega arith)) (copy-dirty (getD (p .marks) i 0) m) refl (write-at xs i l) number marks used sum
 
   -- 12
-  pub fetch-fails : (r : Did) → getD (p .marks) i 0 ≢ 0 → r .number ≡ 12 → Fetches x p i r
+  pub fetch-fails : (r : Did) → getD (p .marks) i 0 ≢ 0 → r .number ≡ 12 → Fetches xs p i r
   fetch-fails r m e s j paid q st =
       subst
-      (λ (t : Bool). Does (catalogIn x) (cond t (faulty (alreadyHeld s j i)) (done (set q i cleanCopy) (itemAt (catalogIn x) i .load))) paid r)
-      (sym (ap has (copy-of (catalogIn x) p q paid i st below) ∙ held-mark (getD (p .marks) i 0) m)) e
+      (λ (t : Bool). Does (catalogIn xs) (cond t (faulty (alreadyHeld s j i)) (done (set q i cleanCopy) (itemAt (catalogIn xs) i .load))) paid r)
+      (sym (ap has (copy-of (catalogIn xs) p q paid i st below) ∙ held-mark (getD (p .marks) i 0) m)) e
 
   -- an item not held comes, clean, at its load cost
   pub fetch-does :
@@ -151,55 +152,49 @@ module _ (x : Seen) (p : Copies) (i : ℕ) (l : i < x .n) (b : i < length (p .ma
       getD (p .marks) i 0 ≡ 0 →
       r .number ≡ 0 →
       r .copies .marks ≡ set (p .marks) i 1 →
-      r .copies .used ≡ p .used + getD (x .blocks) i 0 →
-      r .copies .paid ≡ p .paid + getD (x .load) i 0 →
-      Fetches x p i r
+      r .copies .used ≡ p .used + itemIn xs i .blocks →
+      r .copies .paid ≡ p .paid + itemIn xs i .load →
+      Fetches xs p i r
   fetch-does r m number marks used sum s j paid q st =
       let none : has (copyAt q i) ≡ false = holds-not q paid st m in
       subst
-      (λ (t : Bool). Does (catalogIn x) (cond t (faulty (alreadyHeld s j i)) (done (set q i cleanCopy) (itemAt (catalogIn x) i .load))) paid r)
+      (λ (t : Bool). Does (catalogIn xs) (cond t (faulty (alreadyHeld s j i)) (done (set q i cleanCopy) (itemAt (catalogIn xs) i .load))) paid r)
       (sym none) (
         number,
-        subst (λ (t : ℕ). Stands (catalogIn x) (r .copies) (set q i cleanCopy) (paid + t)) (sym (load-at x i l))
-            (stored (catalogIn x) p (r .copies) q paid i 1 (getD (x .load) i 0) st below b marks
-            (ap (λ t. r .copies .used + cond t (itemAt (catalogIn x) i .blocks) 0) none ∙ omega (arith, blocks-at x i l))
+        subst (λ (t : ℕ). Stands (catalogIn xs) (r .copies) (set q i cleanCopy) (paid + t)) (sym (load-at xs i l))
+            (stored (catalogIn xs) p (r .copies) q paid i 1 (itemIn xs i .load) st below b marks
+            (ap (λ t. r .copies .used + cond t (itemAt (catalogIn xs) i .blocks) 0) none ∙ omega (arith, blocks-at xs i l))
             sum),
       )
 
--- what an item costs, and how many blocks it has
-pub item-most : (x : Seen) (p : Copies) (i : ℕ) → Ready x p → i < x .n → (getD (x .blocks) i 0 ≤ 16) × (getD (x .load) i 0 ≤ 65535) × (getD (x .write) i 0 ≤ 65535)
-item-most x p i ready l =
-    let ok = ready .catalog .each i (omega (arith, catalog-length x)) in
-    (omega (arith, blocks-at x i l, ok .small), omega (arith, load-at x i l, ok .load), omega (arith, write-at x i l, ok .write))
-
 -- all blocks that can be used
-pub used-most : (x : Seen) (p : Copies) → Ready x p → p .used ≤ 4096
+pub used-most : (xs : List ℕ) (p : Copies) → Ready xs p → p .used ≤ 4096
 unfolding planUsed
-used-most x p ready =
+used-most xs p ready =
     omega (
       arith,
       ready .used,
       ready .few,
-      catalog-length x,
-      sum-most (length (catalogIn x)) 16 (λ j. cond (has (copyAt (copiesOf (x .n) (p .marks)) j)) (itemAt (catalogIn x) j .blocks) 0)
-          (λ j b. cond-most (has (copyAt (copiesOf (x .n) (p .marks)) j)) (itemAt (catalogIn x) j .blocks) 16 (ready .catalog .each j b .small)),
+      length-catalogIn xs,
+      sum-most (length (catalogIn xs)) 16 (λ j. cond (has (copyAt (copiesOf (length xs / 5) (p .marks)) j)) (itemAt (catalogIn xs) j .blocks) 0)
+          (λ j b. cond-most (has (copyAt (copiesOf (length xs / 5) (p .marks)) j)) (itemAt (catalogIn xs) j .blocks) 16 (ready .catalog .each j b .small)),
     )
 
 -- an act is D or F, of a known item
-module _ (x : Seen) (p : Copies) (kind i : ℕ) (r : Did) (l : i < x .n) where
-  known-item : ltb i (length (catalogIn x)) ≡ true
-  known-item = lt-ltb i (length (catalogIn x)) (omega (arith, catalog-length x))
+module _ (xs : List ℕ) (p : Copies) (kind i : ℕ) (r : Did) (l : i < length xs / 5) where
+  known-item : ltb i (length (catalogIn xs)) ≡ true
+  known-item = lt-ltb i (length (catalogIn xs)) (omega (arith, length-catalogIn xs))
 
-  pub act-evicts : kind ≡ 68 → Evicts x p i r → Acts x p kind i r
+  pub act-evicts : kind ≡ 68 → Evicts xs p i r → Acts xs p kind i r
   unfolding planActs
   act-evicts e h s j paid q st =
-      let cat = catalogIn x in
+      let cat = catalogIn xs in
       subst (λ (t : Bool). Does cat (planActs cat s j (cond t (Evict i) (Fetch i)) q) paid r) (sym (eq-eqb kind 68 e))
       (subst (λ (t : Bool). Does cat (cond t (planEvicts cat s j i q) (faulty (unknownItem s j i))) paid r) (sym known-item) (h s j paid q st))
 
-  pub act-fetches : kind ≢ 68 → Fetches x p i r → Acts x p kind i r
+  pub act-fetches : kind ≢ 68 → Fetches xs p i r → Acts xs p kind i r
   unfolding planActs
   act-fetches e h s j paid q st =
-      let cat = catalogIn x in
+      let cat = catalogIn xs in
       subst (λ (t : Bool). Does cat (planActs cat s j (cond t (Evict i) (Fetch i)) q) paid r) (sym (ne-eqb kind 68 e))
       (subst (λ (t : Bool). Does cat (cond t (planFetches cat s j i q) (faulty (unknownItem s j i))) paid r) (sym known-item) (h s j paid q st))

@@ -1,7 +1,8 @@
 -- A flush: the sum of what it makes the plan pay, and the copies clean. Assumes nothing.
 use mathlib.Core.Path.{_≡_, refl, sym, ap, _∙_}
 use mathlib.Core.Bool.{false, cond}
-use Prim.Native.Nat.{ℕ, _+_, _≤_, _<_}
+use mathlib.Core.List.{List}
+use Prim.Native.Nat.{ℕ, _+_, _/_, _≤_, _<_}
 use native.Mathlib.Numerals.{add-one}
 use native.Mathlib.Omega.{arith}
 use native.Mathlib.Decide.{ℕ-discrete}
@@ -11,22 +12,23 @@ use Rattle.landlord.specs.Fold.{sumTo}
 use Rattle.landlord.specs.Catalog.{itemAt}
 use Rattle.landlord.specs.Plan.{isChanged, copyAt, cleaned, owed}
 use Rattle.landlord.proofs.Folds.{tab-eq}
-use Rattle.season_tables.specs.declared.Seen.{Seen}
+use Rattle.catalog_bytes.specs.Catalogs.{itemIn, catalogIn}
+use Rattle.catalog_bytes.proofs.Laws.{length-catalogIn}
 use Rattle.season_plan.specs.declared.Copies.{Copies}
-use Rattle.season_plan.specs.Copies.{copyFrom, copiesOf, catalogIn, Cleans}
-use Rattle.season_plan.proofs.Marks.{catalog-length, write-at, copy-none, copy-clean, copy-dirty, copy-at}
+use Rattle.season_plan.specs.Copies.{copyFrom, copiesOf, Cleans}
+use Rattle.season_plan.proofs.Marks.{write-at, copy-none, copy-clean, copy-dirty, copy-at}
 
 -- what item i adds to what is owed
-abbrev pub owedAt : Seen → Copies → ℕ → ℕ
-owedAt x p i = cond (isChanged (copyAt (copiesOf (x .n) (p .marks)) i)) (itemAt (catalogIn x) i .write) 0
+abbrev pub owedAt : List ℕ → Copies → ℕ → ℕ
+owedAt xs p i = cond (isChanged (copyAt (copiesOf (length xs / 5) (p .marks)) i)) (itemAt (catalogIn xs) i .write) 0
 
 -- what the items below i make it pay
-unfoldable pub owedTo : Seen → Copies → ℕ → ℕ
-owedTo x p i = sumTo i (owedAt x p)
+unfoldable pub owedTo : List ℕ → Copies → ℕ → ℕ
+owedTo xs p i = sumTo i (owedAt xs p)
 
-pub owed-none : (x : Seen) (p : Copies) → 0 ≡ owedTo x p 0
+pub owed-none : (xs : List ℕ) (p : Copies) → 0 ≡ owedTo xs p 0
 unfolding owedTo sumTo
-owed-none x p = refl
+owed-none xs p = refl
 
 not-dirty : (m : ℕ) → m ≤ 1 → isChanged (copyFrom m) ≡ false
 not-dirty m l = by-mark (ℕ-discrete m 0)
@@ -35,35 +37,35 @@ not-dirty m l = by-mark (ℕ-discrete m 0)
     by-mark (yes z) = ap isChanged (copy-none m z)
     by-mark (no z) = ap isChanged (copy-clean m (omega arith))
 
-module _ (x : Seen) (p : Copies) (i : ℕ) (l : i < x .n) where
-  at-item : owedAt x p i ≡ cond (isChanged (copyFrom (getD (p .marks) i 0))) (getD (x .write) i 0) 0
+module _ (xs : List ℕ) (p : Copies) (i : ℕ) (l : i < length xs / 5) where
+  at-item : owedAt xs p i ≡ cond (isChanged (copyFrom (getD (p .marks) i 0))) (itemIn xs i .write) 0
   at-item =
-      ap (λ t. cond (isChanged t) (itemAt (catalogIn x) i .write) 0) (copy-at (x .n) (p .marks) i l)
-      ∙ ap (λ t. cond (isChanged (copyFrom (getD (p .marks) i 0))) t 0) (write-at x i l)
+      ap (λ t. cond (isChanged t) (itemAt (catalogIn xs) i .write) 0) (copy-at (length xs / 5) (p .marks) i l)
+      ∙ ap (λ t. cond (isChanged (copyFrom (getD (p .marks) i 0))) t 0) (write-at xs i l)
 
   -- a dirty item is paid for
-  pub owed-dirty : 1 < getD (p .marks) i 0 → owedTo x p i + getD (x .write) i 0 ≡ owedTo x p (i + 1)
+  pub owed-dirty : 1 < getD (p .marks) i 0 → owedTo xs p i + itemIn xs i .write ≡ owedTo xs p (i + 1)
   unfolding owedTo sumTo
   owed-dirty m =
       rw add-one
       (omega (
         arith,
-        at-item ∙ ap (λ t. cond (isChanged t) (getD (x .write) i 0) 0) (copy-dirty (getD (p .marks) i 0) m),
+        at-item ∙ ap (λ t. cond (isChanged t) (itemIn xs i .write) 0) (copy-dirty (getD (p .marks) i 0) m),
       ))
 
   -- another is not
-  pub owed-other : getD (p .marks) i 0 ≤ 1 → owedTo x p i ≡ owedTo x p (i + 1)
+  pub owed-other : getD (p .marks) i 0 ≤ 1 → owedTo xs p i ≡ owedTo xs p (i + 1)
   unfolding owedTo sumTo
   owed-other m =
       rw add-one
       (omega (
         arith,
-        at-item ∙ ap (λ t. cond t (getD (x .write) i 0) 0) (not-dirty (getD (p .marks) i 0) m),
+        at-item ∙ ap (λ t. cond t (itemIn xs i .write) 0) (not-dirty (getD (p .marks) i 0) m),
       ))
 
-pub owed-all : (x : Seen) (p : Copies) → owedTo x p (x .n) ≡ owed (catalogIn x) (copiesOf (x .n) (p .marks))
+pub owed-all : (xs : List ℕ) (p : Copies) → owedTo xs p (length xs / 5) ≡ owed (catalogIn xs) (copiesOf (length xs / 5) (p .marks))
 unfolding owedTo owed
-owed-all x p = ap (λ t. sumTo t (owedAt x p)) (sym (catalog-length x))
+owed-all xs p = ap (λ t. sumTo t (owedAt xs p)) (sym (length-catalogIn xs))
 
 -- the items below i are clean in q, which else is p
 pub record Cleaning (n : ℕ) (p q : Copies) (i : ℕ) : Type 0 where

@@ -3,7 +3,7 @@ use mathlib.Core.Path.{_≡_, sym, ap, _∙_}
 use mathlib.Core.Logic.{_⊎_, inl, inr}
 use mathlib.Core.Bool.{Bool, true, false, cond}
 use mathlib.Core.List.{List}
-use Prim.Native.Nat.{ℕ, zero, suc, _+_, _*_, _≤_, _<_}
+use Prim.Native.Nat.{ℕ, zero, suc, _+_, _*_, _/_, _≤_, _<_}
 use native.Mathlib.Omega.{arith}
 use lib.ListN.{length, getD, set}
 use lib.Seq.{getD-set-same, getD-set-other}
@@ -13,9 +13,9 @@ use Rattle.landlord.specs.Catalog.{Item, Catalog, itemAt}
 use Rattle.landlord.specs.Plan.{Copy, noCopy, cleanCopy, dirtyCopy, has, copyAt, planUsed}
 use Rattle.landlord.proofs.Folds.{tab-length, tab-at, tab-set}
 use Rattle.landlord.proofs.Sums.{sum-change}
-use Rattle.season_tables.specs.declared.Seen.{Seen}
-use Rattle.season_tables.proofs.Items.{catalog-length as from-length, catalog-at as from-at}
-use Rattle.season_plan.specs.Copies.{copyFrom, copiesOf, catalogIn}
+use Rattle.catalog_bytes.specs.Catalogs.{itemIn, catalogIn}
+use Rattle.catalog_bytes.proofs.Laws.{item-at}
+use Rattle.season_plan.specs.Copies.{copyFrom, copiesOf}
 
 -- control came one way or the other
 pub by-cases : {A B C : Type 0} → A ⊎ B → (A → C) → (B → C) → C
@@ -32,18 +32,15 @@ pub cond-most : (t : Bool) (c m : ℕ) → c ≤ m → cond t c 0 ≤ m
 cond-most true c m l = l
 cond-most false c m l = omega arith
 
-pub catalog-length : (x : Seen) → length (catalogIn x) ≡ x .n
-catalog-length x = from-length (x .n) (x .blocks) (x .load) (x .write)
+module _ (xs : List ℕ) (i : ℕ) (l : i < length xs / 5) where
+  pub blocks-at : itemAt (catalogIn xs) i .blocks ≡ itemIn xs i .blocks
+  blocks-at = ap (λ (t : Item). t .blocks) (item-at xs i l)
 
-module _ (x : Seen) (i : ℕ) (l : i < x .n) where
-  pub blocks-at : itemAt (catalogIn x) i .blocks ≡ getD (x .blocks) i 0
-  blocks-at = ap (λ (t : Item). t .blocks) (from-at (x .n) (x .blocks) (x .load) (x .write) i l)
+  pub load-at : itemAt (catalogIn xs) i .load ≡ itemIn xs i .load
+  load-at = ap (λ (t : Item). t .load) (item-at xs i l)
 
-  pub load-at : itemAt (catalogIn x) i .load ≡ getD (x .load) i 0
-  load-at = ap (λ (t : Item). t .load) (from-at (x .n) (x .blocks) (x .load) (x .write) i l)
-
-  pub write-at : itemAt (catalogIn x) i .write ≡ getD (x .write) i 0
-  write-at = ap (λ (t : Item). t .write) (from-at (x .n) (x .blocks) (x .load) (x .write) i l)
+  pub write-at : itemAt (catalogIn xs) i .write ≡ itemIn xs i .write
+  write-at = ap (λ (t : Item). t .write) (item-at xs i l)
 
 -- marks, as copies
 pub copy-none : (m : ℕ) → m ≡ 0 → copyFrom m ≡ noCopy

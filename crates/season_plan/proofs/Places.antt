@@ -1,12 +1,12 @@
--- Where the acts and steps of a text stand in the slices, and which acts stand before a step. Assumes nothing.
+-- Where the catalog, the acts and the steps of a text stand in the slices, and which acts stand before a step. Assumes nothing.
 use mathlib.Core.Path.{_≡_, refl, sym, ap, subst, _∙_}
 use mathlib.Core.Logic.{_≢_}
 use mathlib.Core.Bool.{Bool, true, false, cond}
 use mathlib.Core.List.{List, [], _∷_}
-use Prim.Native.Nat.{ℕ, zero, suc, _+_, _*_, _≤_, _<_}
+use Prim.Native.Nat.{ℕ, zero, suc, _+_, _*_, _/_, _≤_, _<_}
 use native.Mathlib.Omega.{arith}
 use lib.ListN.{length, getD, take, drop}
-use lib.Seq.{getD-take, drop-cons}
+use lib.Seq.{getD-take, take-all, drop-cons}
 use lib.Dec.{ltb}
 use borrow.Author.Tests.{ltb-true, ltb-false, lt-ltb, le-ltb, eq-eqb, ne-eqb}
 use Rattle.landlord.specs.declared.Step.{Step}
@@ -16,6 +16,7 @@ use Rattle.landlord.specs.declared.Act.the-variants.{Evict, Fetch}
 use Rattle.landlord.specs.Types.{stepKind, stepItem, stepMinutes, actKind, actItem}
 use Rattle.landlord.specs.Calls.{inRange}
 use Rattle.season_lines.specs.Lines.{actOf}
+use Rattle.catalog_bytes.specs.Catalogs.{catalogIn}
 use Rattle.season_tables.specs.declared.Seen.{Seen}
 use Rattle.season_tables.specs.Tables.{Placed, Sofar}
 use Rattle.season_tables.specs.Holds.{Holds, callNumbers, actNumbers}
@@ -68,7 +69,14 @@ step-numbers (x ∷ steps) (suc s) l =
 front : (l m : List ℕ) (n i : ℕ) → take n l ≡ m → i < n → getD l i 0 ≡ getD m i 0
 front l m n i e b = sym (getD-take n l i 0 b) ∙ ap (λ t. getD t i 0) e
 
-module _ (x : Seen) (calls acts : List ℕ) (v : Sofar) (h : Holds x calls acts v) where
+module _ (x : Seen) (xs calls acts : List ℕ) (v : Sofar) (h : Holds x xs calls acts v) where
+  -- bytes of the items alone are the text's catalog
+  pub catalog-is : length xs ≡ 5 * x .n → catalogIn xs ≡ v .catalog
+  catalog-is e = ap catalogIn (sym (take-all (5 * x .n) xs (omega arith))) ∙ h .items
+
+  pub count-is : length xs ≡ 5 * x .n → length (v .catalog) ≡ length xs / 5
+  count-is e = omega (arith, h .itemCount)
+
   pub noted-act : (a : ℕ) → a < x .acts → NotedAct acts (placedAt (v .acts) a) a
   noted-act a l =
       let here : NotedAct (actNumbers (v .acts)) (placedAt (v .acts) a) a = act-numbers (v .acts) a (omega (arith, h .actCount)) in

@@ -3,7 +3,7 @@ use mathlib.Core.Path.{_≡_, refl, sym, ap, subst, _∙_}
 use mathlib.Core.Logic.{_≢_}
 use mathlib.Core.Bool.{cond}
 use mathlib.Core.List.{List}
-use Prim.Native.Nat.{ℕ, suc, _+_, _*_, _≤_, _<_}
+use Prim.Native.Nat.{ℕ, suc, _+_, _*_, _/_, _≤_, _<_}
 use native.Mathlib.Nat.{add-assoc, zero-add}
 use native.Mathlib.Numerals.{add-one}
 use native.Mathlib.Omega.{arith}
@@ -20,6 +20,8 @@ use Rattle.landlord.proofs.Folds.{tab-eq}
 use Rattle.landlord.proofs.Sums.{sum-zero}
 use Rattle.landlord.proofs.Keeps.{Served}
 use Rattle.landlord.proofs.Logs.{allowed-served}
+use Rattle.catalog_bytes.specs.Catalogs.{catalogIn}
+use Rattle.catalog_bytes.proofs.Laws.{length-catalogIn}
 use Rattle.season_tables.specs.declared.Seen.{Seen}
 use Rattle.season_tables.specs.Tables.{Sofar}
 use Rattle.season_tables.specs.Holds.{Holds}
@@ -29,11 +31,10 @@ use Rattle.season_plan.specs.declared.Did.{Did}
 use Rattle.season_plan.specs.declared.Acted.{Acted}
 use Rattle.season_plan.specs.declared.Price.the-variants.{Cost, Refused}
 use Rattle.season_plan.specs.Plans.{actsBefore, planOf, faultLine, faultRefusal, priceOf, answerTo}
-use Rattle.season_plan.specs.Copies.{copyFrom, copiesOf, catalogIn, Stands, Does, Ready, Servable, Serves, faultAct, ActsDone, refusalFor, Priceable, most, Actable, RunsActs, ActsWithin, PricedAs}
+use Rattle.season_plan.specs.Copies.{copyFrom, copiesOf, Stands, Does, Ready, Servable, Serves, faultAct, ActsDone, refusalFor, Priceable, most, Actable, RunsActs, ActsWithin, PricedAs}
 use Rattle.landlord.proofs.Calls.{same-step}
-use Rattle.season_tables.proofs.Held.{count-is}
-use Rattle.season_plan.proofs.Marks.{catalog-length, copy-at, copy-none}
-use Rattle.season_plan.proofs.Places.{stepAt, noted-step, step-kind, parted-is}
+use Rattle.season_plan.proofs.Marks.{copy-at, copy-none}
+use Rattle.season_plan.proofs.Places.{stepAt, catalog-is, count-is, noted-step, step-kind, parted-is}
 use Rattle.season_plan.proofs.Costs.{Faults, ofAct, ofStep, fault-some, serve-cheap, acts-fault, serve-fault}
 use Rattle.season_plan.proofs.Acting.{copiesIn, stands-ready, did-ready}
 
@@ -48,17 +49,17 @@ abbrev logFrom : Sofar → ℕ → List Copy → Priced
 logFrom v s = priceFrom (v .catalog) (v .h) (planOf (v .acts)) s (drop s (v .steps))
 
 -- Steps 0 to s - 1 are served, and a is the first act that stands before no earlier step than s.
-pub record Pricing (x : Seen) (calls acts : List ℕ) (p : Copies) (a s : ℕ) : Type 0 where
+pub record Pricing (x : Seen) (xs calls acts : List ℕ) (p : Copies) (a s : ℕ) : Type 0 where
   pub within : s ≤ x .steps
   pub next : a ≤ x .acts
-  pub used : p .used ≡ planUsed (catalogIn x) (copiesIn x p)
+  pub used : p .used ≡ planUsed (catalogIn xs) (copiesIn xs p)
   pub low : p .paid ≤ most a s
-  pub at : (v : Sofar) → Holds x calls acts v → Sound v → a ≡ actsBefore s (v .acts)
+  pub at : (v : Sofar) → Holds x xs calls acts v → Sound v → a ≡ actsBefore s (v .acts)
   pub leads :
       (v : Sofar) →
-      Holds x calls acts v →
+      Holds x xs calls acts v →
       Sound v →
-      pricedWith (p .paid) (logFrom v s (copiesIn x p)) ≡ priceOf v
+      pricedWith (p .paid) (logFrom v s (copiesIn xs p)) ≡ priceOf v
 
 -- what was paid adds up
 with-none : (d : Priced) → pricedWith 0 d ≡ d
@@ -165,12 +166,12 @@ item-place k cat (Read i) ok served = omega (arith, served .0, ok .few)
 item-place k cat (Write i m) ok served = omega (arith, served .0, ok .few)
 item-place k cat Flush ok served = omega arith
 
-module _ (x : Seen) (calls acts : List ℕ) (pre : Priceable x calls acts) where
-  catalog-ok : CatalogOk (catalogIn x)
-  catalog-ok = subst CatalogOk (sym (pre .holds .catalog)) (pre .sound .catalog)
+module _ (x : Seen) (xs calls acts : List ℕ) (pre : Priceable x xs calls acts) where
+  catalog-ok : CatalogOk (catalogIn xs)
+  catalog-ok = subst CatalogOk (sym (catalog-is x xs calls acts (pre .text) (pre .holds) (pre .items))) (pre .sound .catalog)
 
   -- nothing is held, and nothing paid
-  pub pricing-starts : (p : Copies) → p .marks ≡ replicate 256 0 → p .used ≡ 0 → p .paid ≡ 0 → Pricing x calls acts p 0 0
+  pub pricing-starts : (p : Copies) → p .marks ≡ replicate 256 0 → p .used ≡ 0 → p .paid ≡ 0 → Pricing x xs calls acts p 0 0
   unfolding planUsed copiesOf
   pricing-starts p marks used paid =
       record {
@@ -178,41 +179,41 @@ module _ (x : Seen) (calls acts : List ℕ) (pre : Priceable x calls acts) where
         next = omega arith;
         used =
             used
-            ∙ sym (sum-zero (length (catalogIn x)) (λ i. cond (has (copyAt (copiesIn x p) i)) (itemAt (catalogIn x) i .blocks) 0)
-            (λ i l. ap (λ t. cond (has t) (itemAt (catalogIn x) i .blocks) 0) (none i (omega (arith, catalog-length x)))));
+            ∙ sym (sum-zero (length (catalogIn xs)) (λ i. cond (has (copyAt (copiesIn xs p) i)) (itemAt (catalogIn xs) i .blocks) 0)
+            (λ i l. ap (λ t. cond (has t) (itemAt (catalogIn xs) i .blocks) 0) (none i (omega (arith, length-catalogIn xs)))));
         low = omega arith;
         at = λ v h sound. sym (parted-is 0 (v .acts) 0 (record { within = omega arith; below = λ i l. absurd (let z : i < 0 = l in omega arith); above = λ i l b. omega arith }));
         leads =
             λ v h sound.
-            ap (λ t. pricedWith t (logFrom v 0 (copiesIn x p))) paid ∙ with-none (logFrom v 0 (copiesIn x p)) ∙ ap (logFrom v 0) (empty v h);
+            ap (λ t. pricedWith t (logFrom v 0 (copiesIn xs p))) paid ∙ with-none (logFrom v 0 (copiesIn xs p)) ∙ ap (logFrom v 0) (empty v h);
       }
     where
-      mark : (i : ℕ) → i < x .n → copyFrom (getD (p .marks) i 0) ≡ noCopy
-      mark i l = copy-none (getD (p .marks) i 0) (ap (λ t. getD t i 0) marks ∙ getD-replicate 256 i 0 0 (omega (arith, pre .holds .few)))
+      mark : (i : ℕ) → i < length xs / 5 → copyFrom (getD (p .marks) i 0) ≡ noCopy
+      mark i l = copy-none (getD (p .marks) i 0) (ap (λ t. getD t i 0) marks ∙ getD-replicate 256 i 0 0 (omega (arith, pre .items, pre .holds .few)))
 
-      none : (i : ℕ) → i < x .n → copyAt (copiesIn x p) i ≡ noCopy
-      none i l = copy-at (x .n) (p .marks) i l ∙ mark i l
+      none : (i : ℕ) → i < length xs / 5 → copyAt (copiesIn xs p) i ≡ noCopy
+      none i l = copy-at (length xs / 5) (p .marks) i l ∙ mark i l
 
-      empty : (v : Sofar) → Holds x calls acts v → copiesIn x p ≡ tab (length (v .catalog)) (λ i. noCopy)
+      empty : (v : Sofar) → Holds x xs calls acts v → copiesIn xs p ≡ tab (length (v .catalog)) (λ i. noCopy)
       empty v h =
-          tab-eq (x .n) (λ i. copyFrom (getD (p .marks) i 0)) (λ i. noCopy) mark
-          ∙ ap (λ n. tab n (λ (i : ℕ). noCopy)) (sym (count-is x calls acts v h))
+          tab-eq (length xs / 5) (λ i. copyFrom (getD (p .marks) i 0)) (λ i. noCopy) mark
+          ∙ ap (λ n. tab n (λ (i : ℕ). noCopy)) (sym (count-is x xs calls acts v h (pre .items)))
 
-  module _ (p : Copies) (a s : ℕ) (so : Pricing x calls acts p a s) where
+  module _ (p : Copies) (a s : ℕ) (so : Pricing x xs calls acts p a s) where
     -- the sum is far from the end of its word
     pub pricing-low : p .paid ≤ 900000000000
     pricing-low = omega (arith, so .low, so .within, so .next, pre .fewActs, pre .fewSteps)
 
-    pub pricing-ready : Ready x p
+    pub pricing-ready : Ready xs p
     pricing-ready =
-        record { few = pre .holds .few; catalog = catalog-ok; used = so .used; low = omega (arith, pricing-low) }
+        record { few = omega (arith, pre .items, pre .holds .few); catalog = catalog-ok; used = so .used; low = omega (arith, pricing-low) }
 
     -- the program stands at these copies of the text's catalog
-    stands : (v : Sofar) → Holds x calls acts v → Stands (v .catalog) p (copiesIn x p) (p .paid)
-    stands v h = subst (λ (c : Catalog). Stands c p (copiesIn x p) (p .paid)) (h .catalog) (stands-ready x p (so .used))
+    stands : (v : Sofar) → Holds x xs calls acts v → Stands (v .catalog) p (copiesIn xs p) (p .paid)
+    stands v h = subst (λ (c : Catalog). Stands c p (copiesIn xs p) (p .paid)) (catalog-is x xs calls acts v h (pre .items)) (stands-ready xs p (so .used))
 
     module _ (l : s < x .steps) where
-      pub pricing-acts : Actable x p acts a s
+      pub pricing-acts : Actable x xs p acts a s
       pricing-acts =
           record {
             calls = calls;
@@ -223,90 +224,90 @@ module _ (x : Seen) (calls acts : List ℕ) (pre : Priceable x calls acts) where
             paid = so .low;
           }
 
-      module _ (b : Acted) (ran : RunsActs x p acts a s b) (bound : ActsWithin x s b) where
+      module _ (b : Acted) (ran : RunsActs x xs p acts a s b) (bound : ActsWithin x s b) where
         -- the acts before the step, for a text that the slices hold
-        did : (v : Sofar) → Holds x calls acts v → Sound v → ActsDone v s (actsOf v s (copiesIn x p)) (p .paid) b
-        did v h sound = ran calls v (p .paid) (copiesIn x p) h sound (so .at v h sound) (stands v h)
+        did : (v : Sofar) → Holds x xs calls acts v → Sound v → ActsDone v s (actsOf v s (copiesIn xs p)) (p .paid) b
+        did v h sound = ran calls v (p .paid) (copiesIn xs p) h sound (so .at v h sound) (stands v h)
 
         -- the step with the rest of the log
         unrolled :
             (v : Sofar) →
-            Holds x calls acts v →
+            Holds x xs calls acts v →
             Sound v →
-            pricedWith (p .paid) (priceThen (andThen (actsOf v s (copiesIn x p)) (stepOn v s)) (logFrom v (suc s))) ≡ priceOf v
+            pricedWith (p .paid) (priceThen (andThen (actsOf v s (copiesIn xs p)) (stepOn v s)) (logFrom v (suc s))) ≡ priceOf v
         unfolding priceFrom
         unrolled v h sound =
-            ap (λ t. pricedWith (p .paid) (priceFrom (v .catalog) (v .h) (planOf (v .acts)) s t (copiesIn x p)))
+            ap (λ t. pricedWith (p .paid) (priceFrom (v .catalog) (v .h) (planOf (v .acts)) s t (copiesIn xs p)))
             (sym (drop-cons (v .steps) s Flush (omega (arith, h .stepCount))))
             ∙ so .leads v h sound
 
         -- 11 or 12, with the act's line
-        pub pricing-act-fails : (line : ℕ) → b .number ≢ 0 → line ≡ 9 + x .n + x .steps + b .next → PricedAs x calls acts (Refused (refusalFor (b .number) line))
+        pub pricing-act-fails : (line : ℕ) → b .number ≢ 0 → line ≡ 9 + x .n + x .steps + b .next → PricedAs x xs calls acts (Refused (refusalFor (b .number) line))
         pricing-act-fails line e at v h sound =
-            act-faulty v s (actsOf v s (copiesIn x p)) (stepOn v s)
+            act-faulty v s (actsOf v s (copiesIn xs p)) (stepOn v s)
             (logFrom v (suc s)) (p .paid) line b (did v h sound) e
-            (acts-fault (v .catalog) s 0 (planOf (v .acts) s) (copiesIn x p)) (omega (arith, count-is x calls acts v h, h .stepCount))
+            (acts-fault (v .catalog) s 0 (planOf (v .acts) s) (copiesIn xs p)) (omega (arith, h .itemCount, h .stepCount))
             ∙ ap (answerTo v) (unrolled v h sound)
 
         module _ (e : b .number ≡ 0) where
-          pub before-used : b .copies .used ≡ planUsed (catalogIn x) (copiesIn x (b .copies))
+          pub before-used : b .copies .used ≡ planUsed (catalogIn xs) (copiesIn xs (b .copies))
           before-used =
               let v = pre .text in
               let h = pre .holds in
-              subst (λ (n : ℕ). b .copies .used ≡ planUsed (catalogIn x) (copiesOf n (b .copies .marks))) (catalog-length x)
-              (subst (λ (c : Catalog). b .copies .used ≡ planUsed c (copiesOf (length c) (b .copies .marks))) (sym (h .catalog))
-              (acts-used v s (actsOf v s (copiesIn x p)) (p .paid) b (did v h (pre .sound)) e))
+              subst (λ (n : ℕ). b .copies .used ≡ planUsed (catalogIn xs) (copiesOf n (b .copies .marks))) (length-catalogIn xs)
+              (subst (λ (c : Catalog). b .copies .used ≡ planUsed c (copiesOf (length c) (b .copies .marks))) (sym (catalog-is x xs calls acts v h (pre .items)))
+              (acts-used v s (actsOf v s (copiesIn xs p)) (p .paid) b (did v h (pre .sound)) e))
 
-          pub pricing-serves : Servable x (b .copies) (getD calls (4 * s + 1) 0) (getD calls (4 * s + 2) 0)
+          pub pricing-serves : Servable xs (b .copies) (getD calls (4 * s + 1) 0) (getD calls (4 * s + 2) 0)
           pricing-serves =
               let v = pre .text in
               let h = pre .holds in
               let st = stepAt (v .steps) s in
-              let noted = noted-step x calls acts v h s l in
+              let noted = noted-step x xs calls acts v h s l in
               let served : Served (v .k) (v .catalog) st =
               allowed-served (v .k) (v .catalog) s st (pre .sound .allowed .each s (omega (arith, h .stepCount)))
               in
               record {
-                ready = record { few = h .few; catalog = catalog-ok; used = before-used; low = omega (arith, bound .paid e, bound .next, pre .fewActs, pre .fewSteps) };
+                ready = record { few = omega (arith, pre .items, h .few); catalog = catalog-ok; used = before-used; low = omega (arith, bound .paid e, bound .next, pre .fewActs, pre .fewSteps) };
                 known =
                     λ (z : getD calls (4 * s + 1) 0 ≢ 76).
-                    omega (arith, noted .item, count-is x calls acts v h, item-known (v .k) (v .catalog) st served (λ u. z (noted .kind ∙ u)));
+                    omega (arith, noted .item, count-is x xs calls acts v h (pre .items), item-known (v .k) (v .catalog) st served (λ u. z (noted .kind ∙ u)));
                 place = omega (arith, noted .item, item-place (v .k) (v .catalog) st (pre .sound .catalog) served);
                 kinds = ap (λ t. inRange t 0 0) (noted .kind) ∙ step-kind st;
               }
 
-          module _ (r : Did) (served : Serves x (b .copies) (getD calls (4 * s + 1) 0) (getD calls (4 * s + 2) 0) r) where
+          module _ (r : Did) (served : Serves xs (x .h) (b .copies) (getD calls (4 * s + 1) 0) (getD calls (4 * s + 2) 0) r) where
             -- the step as the definition serves it, for a text that the slices hold
-            serves : (v : Sofar) → Holds x calls acts v → (q : List Copy) (c : ℕ) → Stands (v .catalog) (b .copies) q c → Does (v .catalog) (stepOn v s q) c r
+            serves : (v : Sofar) → Holds x xs calls acts v → (q : List Copy) (c : ℕ) → Stands (v .catalog) (b .copies) q c → Does (v .catalog) (stepOn v s q) c r
             serves v h q c =
                 let st = stepAt (v .steps) s in
-                let noted = noted-step x calls acts v h s l in
+                let noted = noted-step x xs calls acts v h s l in
                 let same : stepOf (getD calls (4 * s + 1) 0) (getD calls (4 * s + 2) 0) (stepMinutes st) ≡ st =
                 ap (λ t. stepOf t (getD calls (4 * s + 2) 0) (stepMinutes st)) (noted .kind)
                 ∙ ap (λ t. stepOf (stepKind st) t (stepMinutes st)) (noted .item)
                 ∙ same-step st
                 in
                 subst (λ (n : ℕ). Stands (v .catalog) (b .copies) q c → Does (v .catalog) (planServes (v .catalog) n s st q) c r) (h .h)
-                (subst (λ (k : Catalog). Stands k (b .copies) q c → Does k (planServes k (x .h) s st q) c r) (h .catalog)
-                (subst (λ (t : Step). Stands (catalogIn x) (b .copies) q c → Does (catalogIn x) (planServes (catalogIn x) (x .h) s t q) c r) same
+                (subst (λ (k : Catalog). Stands k (b .copies) q c → Does k (planServes k (x .h) s st q) c r) (catalog-is x xs calls acts v h (pre .items))
+                (subst (λ (t : Step). Stands (catalogIn xs) (b .copies) q c → Does (catalogIn xs) (planServes (catalogIn xs) (x .h) s t q) c r) same
                 (served s (stepMinutes st) c q)))
 
             -- 14 or 13, with the step's line
-            pub pricing-step-fails : (line : ℕ) → r .number ≢ 0 → line ≡ 7 + x .n + s → PricedAs x calls acts (Refused (refusalFor (r .number) line))
+            pub pricing-step-fails : (line : ℕ) → r .number ≢ 0 → line ≡ 7 + x .n + s → PricedAs x xs calls acts (Refused (refusalFor (r .number) line))
             pricing-step-fails line f at v h sound =
-                step-faulty v s (actsOf v s (copiesIn x p)) (stepOn v s)
+                step-faulty v s (actsOf v s (copiesIn xs p)) (stepOn v s)
                 (logFrom v (suc s)) (p .paid) line b r (did v h sound) e (serves v h) f
-                (serve-fault (v .catalog) (v .h) s (stepAt (v .steps) s)) (omega (arith, count-is x calls acts v h))
+                (serve-fault (v .catalog) (v .h) s (stepAt (v .steps) s)) (omega (arith, h .itemCount))
                 ∙ ap (answerTo v) (unrolled v h sound)
 
             -- the step is served
-            pub pricing-turn : r .number ≡ 0 → Pricing x calls acts (r .copies) (b .next) (s + 1)
+            pub pricing-turn : r .number ≡ 0 → Pricing x xs calls acts (r .copies) (b .next) (s + 1)
             pricing-turn f =
                 let st = stepOf (getD calls (4 * s + 1) 0) (getD calls (4 * s + 2) 0) 0 in
                 let after =
-                did-ready x (planServes (catalogIn x) (x .h) s st (copiesIn x (b .copies))) 16776960 (b .copies .paid) r
-                (served s 0 (b .copies .paid) (copiesIn x (b .copies)) (stands-ready x (b .copies) before-used))
-                (serve-cheap (catalogIn x) catalog-ok (x .h) s st (copiesIn x (b .copies))) f
+                did-ready xs (planServes (catalogIn xs) (x .h) s st (copiesIn xs (b .copies))) 16776960 (b .copies .paid) r
+                (served s 0 (b .copies .paid) (copiesIn xs (b .copies)) (stands-ready xs (b .copies) before-used))
+                (serve-cheap (catalogIn xs) catalog-ok (x .h) s st (copiesIn xs (b .copies))) f
                 in
                 record {
                   within = omega arith;
@@ -316,25 +317,25 @@ module _ (x : Seen) (calls acts : List ℕ) (pre : Priceable x calls acts) where
                   at =
                       λ v h sound.
                       rw add-one
-                      (acts-next v s (actsOf v s (copiesIn x p)) (p .paid) b (did v h sound) e);
+                      (acts-next v s (actsOf v s (copiesIn xs p)) (p .paid) b (did v h sound) e);
                   leads =
                       λ v h sound.
                       rw add-one
                       (ap
                       (λ n. pricedWith (r .copies .paid) (logFrom v (suc s) (copiesOf n (r .copies .marks))))
-                      (sym (count-is x calls acts v h))
-                      ∙ turn v s (actsOf v s (copiesIn x p)) (stepOn v s)
+                      (sym (count-is x xs calls acts v h (pre .items)))
+                      ∙ turn v s (actsOf v s (copiesIn xs p)) (stepOn v s)
                       (logFrom v (suc s)) (p .paid) b r (did v h sound) e (serves v h) f
                       ∙ unrolled v h sound);
                 }
 
     -- the closing flush is paid
-    pub pricing-ends : (o total : ℕ) → x .steps ≤ s → o ≡ owed (catalogIn x) (copiesIn x p) → total ≡ p .paid + o → PricedAs x calls acts (Cost total)
+    pub pricing-ends : (o total : ℕ) → x .steps ≤ s → o ≡ owed (catalogIn xs) (copiesIn xs p) → total ≡ p .paid + o → PricedAs x xs calls acts (Cost total)
     unfolding priceFrom
     pricing-ends o total l e is v h sound =
         ap Cost is
-        ∙ ap (λ t. Cost (p .paid + t)) (e ∙ ap (λ (c : Catalog). owed c (copiesIn x p)) (h .catalog))
+        ∙ ap (λ t. Cost (p .paid + t)) (e ∙ ap (λ (c : Catalog). owed c (copiesIn xs p)) (catalog-is x xs calls acts v h (pre .items)))
         ∙ ap (answerTo v)
-        (ap (λ t. pricedWith (p .paid) (priceFrom (v .catalog) (v .h) (planOf (v .acts)) s t (copiesIn x p)))
+        (ap (λ t. pricedWith (p .paid) (priceFrom (v .catalog) (v .h) (planOf (v .acts)) s t (copiesIn xs p)))
         (sym (drop-of-length-le (v .steps) (let z : length (v .steps) ≤ s = omega (arith, h .stepCount) in z)))
         ∙ so .leads v h sound)

@@ -3,7 +3,7 @@ use mathlib.Core.Path.{_≡_, refl, sym, ap, subst, _∙_}
 use mathlib.Core.Logic.{_≢_, _⊎_, inl, inr}
 use mathlib.Core.Bool.{Bool, true, false, cond, false≢true}
 use mathlib.Core.List.{List}
-use Prim.Native.Nat.{ℕ, _+_, _<_}
+use Prim.Native.Nat.{ℕ, _+_, _/_, _<_}
 use native.Mathlib.Nat.{add-zero}
 use native.Mathlib.Omega.{arith}
 use lib.ListN.{length, getD, set}
@@ -17,11 +17,12 @@ use Rattle.landlord.specs.Calls.{inRange, stepOf}
 use Rattle.landlord.specs.Plan.{Copy, noCopy, cleanCopy, dirtyCopy, has, copyAt, cleaned, planUsed, owed, Done, done, faulty, requestNotHeld, overCapacity, withinCapacity, planServes}
 use Rattle.landlord.proofs.Folds.{tab-at}
 use Rattle.landlord.proofs.Sums.{sum-eq}
-use Rattle.season_tables.specs.declared.Seen.{Seen}
+use Rattle.catalog_bytes.specs.Catalogs.{catalogIn}
+use Rattle.catalog_bytes.proofs.Laws.{length-catalogIn}
 use Rattle.season_plan.specs.declared.Copies.{Copies}
 use Rattle.season_plan.specs.declared.Did.{Did}
-use Rattle.season_plan.specs.Copies.{copiesOf, catalogIn, Stands, Does, Cleans, lacking, Serves}
-use Rattle.season_plan.proofs.Marks.{by-cases, catalog-length, copy-none}
+use Rattle.season_plan.specs.Copies.{copiesOf, Stands, Does, Cleans, lacking, Serves}
+use Rattle.season_plan.proofs.Marks.{by-cases, copy-none}
 use Rattle.season_plan.proofs.Deeds.{copy-of, stored, held-mark}
 
 -- the kinds of a step
@@ -63,66 +64,66 @@ used-cleaned cat q =
     (λ i. cond (has (copyAt q i)) (itemAt cat i .blocks) 0)
     (λ i l. ap (λ t. cond t (itemAt cat i .blocks) 0) (ap has (tab-at (length cat) (λ j. cleaned (copyAt q j)) i noCopy l) ∙ has-cleaned (copyAt q i)))
 
-module _ (x : Seen) (p : Copies) (kind i : ℕ) (known : kind ≢ 76 → i < x .n) (kinds : inRange kind 0 0 ≡ true) where
-  below : kind ≢ 76 → i < length (catalogIn x)
-  below e = omega (arith, known e, catalog-length x)
+module _ (xs : List ℕ) (h : ℕ) (p : Copies) (kind i : ℕ) (known : kind ≢ 76 → i < length xs / 5) (kinds : inRange kind 0 0 ≡ true) where
+  below : kind ≢ 76 → i < length (catalogIn xs)
+  below e = omega (arith, known e, length-catalogIn xs)
 
   has-an-item : (m : ℕ) → kind ≢ 76 → lacking kind m ≡ eqb m 0
   has-an-item m e = ap (λ t. cond t false (eqb m 0)) (ne-eqb kind 76 e)
 
-  not-held : (q : List Copy) (paid : ℕ) → Stands (catalogIn x) p q paid → kind ≢ 76 → lacking kind (getD (p .marks) i 0) ≡ true → has (copyAt q i) ≡ false
+  not-held : (q : List Copy) (paid : ℕ) → Stands (catalogIn xs) p q paid → kind ≢ 76 → lacking kind (getD (p .marks) i 0) ≡ true → has (copyAt q i) ≡ false
   not-held q paid st e m =
       ap has
-      (copy-of (catalogIn x) p q paid i st (below e)
+      (copy-of (catalogIn xs) p q paid i st (below e)
       ∙ copy-none (getD (p .marks) i 0) (eqb-true (getD (p .marks) i 0) 0 (sym (has-an-item (getD (p .marks) i 0) e) ∙ m)))
 
-  is-held : (q : List Copy) (paid : ℕ) → Stands (catalogIn x) p q paid → kind ≢ 76 → lacking kind (getD (p .marks) i 0) ≡ false → has (copyAt q i) ≡ true
+  is-held : (q : List Copy) (paid : ℕ) → Stands (catalogIn xs) p q paid → kind ≢ 76 → lacking kind (getD (p .marks) i 0) ≡ false → has (copyAt q i) ≡ true
   is-held q paid st e m =
-      ap has (copy-of (catalogIn x) p q paid i st (below e))
+      ap has (copy-of (catalogIn xs) p q paid i st (below e))
       ∙ held-mark (getD (p .marks) i 0) (eqb-false (getD (p .marks) i 0) 0 (sym (has-an-item (getD (p .marks) i 0) e) ∙ m))
 
   -- the step with an item that is held, before its capacity is looked at
   abbrev Held : Did → (ℕ → List Copy → Done) → Type 0
   Held r d =
       (s paid : ℕ) (q : List Copy) →
-      Stands (catalogIn x) p q paid →
-      Does (catalogIn x) (cond (leb (planUsed (catalogIn x) q) (x .h)) (d s q) (faulty (overCapacity s))) paid r
+      Stands (catalogIn xs) p q paid →
+      Does (catalogIn xs) (cond (leb (planUsed (catalogIn xs) q) h) (d s q) (faulty (overCapacity s))) paid r
 
   -- within the capacity or not, by the blocks that the program counts
-  capacity : (q : List Copy) (paid : ℕ) (t : Bool) → Stands (catalogIn x) p q paid → leb (p .used) (x .h) ≡ t → t ≡ leb (planUsed (catalogIn x) q) (x .h)
-  capacity q paid t st e = sym e ∙ ap (λ u. leb u (x .h)) (st .used)
+  capacity : (q : List Copy) (paid : ℕ) (t : Bool) → Stands (catalogIn xs) p q paid → leb (p .used) h ≡ t → t ≡ leb (planUsed (catalogIn xs) q) h
+  capacity q paid t st e = sym e ∙ ap (λ u. leb u h) (st .used)
 
-  over-held : (r : Did) (d : ℕ → List Copy → Done) → leb (p .used) (x .h) ≡ false → r .number ≡ 13 → Held r d
+  over-held : (r : Did) (d : ℕ → List Copy → Done) → leb (p .used) h ≡ false → r .number ≡ 13 → Held r d
   over-held r d e number s paid q st =
-      subst (λ (t : Bool). Does (catalogIn x) (cond t (d s q) (faulty (overCapacity s))) paid r) (capacity q paid false st e) number
+      subst (λ (t : Bool). Does (catalogIn xs) (cond t (d s q) (faulty (overCapacity s))) paid r) (capacity q paid false st e) number
 
   fits-held :
       (r : Did) (d : ℕ → List Copy → Done) →
-      leb (p .used) (x .h) ≡ true →
-      ((s paid : ℕ) (q : List Copy) → Stands (catalogIn x) p q paid → Does (catalogIn x) (d s q) paid r) →
+      leb (p .used) h ≡ true →
+      ((s paid : ℕ) (q : List Copy) → Stands (catalogIn xs) p q paid → Does (catalogIn xs) (d s q) paid r) →
       Held r d
   fits-held r d e does s paid q st =
-      subst (λ (t : Bool). Does (catalogIn x) (cond t (d s q) (faulty (overCapacity s))) paid r) (capacity q paid true st e) (does s paid q st)
+      subst (λ (t : Bool). Does (catalogIn xs) (cond t (d s q) (faulty (overCapacity s))) paid r) (capacity q paid true st e) (does s paid q st)
 
   -- 14
-  pub serve-missing : (r : Did) → lacking kind (getD (p .marks) i 0) ≡ true → r .number ≡ 14 → Serves x p kind i r
+  pub serve-missing : (r : Did) → lacking kind (getD (p .marks) i 0) ≡ true → r .number ≡ 14 → Serves xs h p kind i r
   unfolding planServes
   serve-missing r m number s minutes paid q st =
       by-cases (kind-is kind kinds)
       (λ (e : kind ≡ 82).
-      subst (λ (t : Step). Does cat (planServes cat (x .h) s t q) paid r) (sym (step-read kind i minutes e))
-      (subst (λ (t : Bool). Does cat (cond t (withinCapacity cat (x .h) s q (done q 0)) (faulty (requestNotHeld s i))) paid r)
+      subst (λ (t : Step). Does cat (planServes cat h s t q) paid r) (sym (step-read kind i minutes e))
+      (subst (λ (t : Bool). Does cat (cond t (withinCapacity cat h s q (done q 0)) (faulty (requestNotHeld s i))) paid r)
       (sym (not-held q paid st (λ (z : kind ≡ 76). omega arith) m)) number))
       (λ z. by-cases z
       (λ (e : kind ≡ 87).
-      subst (λ (t : Step). Does cat (planServes cat (x .h) s t q) paid r) (sym (step-write kind i minutes e))
-      (subst (λ (t : Bool). Does cat (cond t (withinCapacity cat (x .h) s q (done (set q i dirtyCopy) 0)) (faulty (requestNotHeld s i))) paid r)
+      subst (λ (t : Step). Does cat (planServes cat h s t q) paid r) (sym (step-write kind i minutes e))
+      (subst (λ (t : Bool). Does cat (cond t (withinCapacity cat h s q (done (set q i dirtyCopy) 0)) (faulty (requestNotHeld s i))) paid r)
       (sym (not-held q paid st (λ (z : kind ≡ 76). omega arith) m)) number))
       (λ (e : kind ≡ 76).
       absurd (false≢true (sym (ap (λ t. lacking t (getD (p .marks) i 0)) e) ∙ m))))
     where
       cat : Catalog
-      cat = catalogIn x
+      cat = catalogIn xs
 
   -- a step that is not missing its item, by its kind
   by-step :
@@ -130,28 +131,28 @@ module _ (x : Seen) (p : Copies) (kind i : ℕ) (known : kind ≢ 76 → i < x .
       lacking kind (getD (p .marks) i 0) ≡ false →
       (kind ≡ 82 → Held r (λ s q. done q 0)) →
       (kind ≡ 87 → Held r (λ s q. done (set q i dirtyCopy) 0)) →
-      (kind ≡ 76 → Held r (λ s q. done (tab (length (catalogIn x)) (λ j. cleaned (copyAt q j))) (owed (catalogIn x) q))) →
-      Serves x p kind i r
+      (kind ≡ 76 → Held r (λ s q. done (tab (length (catalogIn xs)) (λ j. cleaned (copyAt q j))) (owed (catalogIn xs) q))) →
+      Serves xs h p kind i r
   unfolding planServes
   by-step r m read write flush s minutes paid q st =
       by-cases (kind-is kind kinds)
       (λ (e : kind ≡ 82).
-      subst (λ (t : Step). Does cat (planServes cat (x .h) s t q) paid r) (sym (step-read kind i minutes e))
-      (subst (λ (t : Bool). Does cat (cond t (withinCapacity cat (x .h) s q (done q 0)) (faulty (requestNotHeld s i))) paid r)
+      subst (λ (t : Step). Does cat (planServes cat h s t q) paid r) (sym (step-read kind i minutes e))
+      (subst (λ (t : Bool). Does cat (cond t (withinCapacity cat h s q (done q 0)) (faulty (requestNotHeld s i))) paid r)
       (sym (is-held q paid st (λ (z : kind ≡ 76). omega arith) m)) (read e s paid q st)))
       (λ z. by-cases z
       (λ (e : kind ≡ 87).
-      subst (λ (t : Step). Does cat (planServes cat (x .h) s t q) paid r) (sym (step-write kind i minutes e))
-      (subst (λ (t : Bool). Does cat (cond t (withinCapacity cat (x .h) s q (done (set q i dirtyCopy) 0)) (faulty (requestNotHeld s i))) paid r)
+      subst (λ (t : Step). Does cat (planServes cat h s t q) paid r) (sym (step-write kind i minutes e))
+      (subst (λ (t : Bool). Does cat (cond t (withinCapacity cat h s q (done (set q i dirtyCopy) 0)) (faulty (requestNotHeld s i))) paid r)
       (sym (is-held q paid st (λ (z : kind ≡ 76). omega arith) m)) (write e s paid q st)))
       (λ (e : kind ≡ 76).
-      subst (λ (t : Step). Does cat (planServes cat (x .h) s t q) paid r) (sym (step-flush kind i minutes e)) (flush e s paid q st)))
+      subst (λ (t : Step). Does cat (planServes cat h s t q) paid r) (sym (step-flush kind i minutes e)) (flush e s paid q st)))
     where
       cat : Catalog
-      cat = catalogIn x
+      cat = catalogIn xs
 
   -- 13
-  pub serve-over : (r : Did) → lacking kind (getD (p .marks) i 0) ≡ false → leb (p .used) (x .h) ≡ false → r .number ≡ 13 → Serves x p kind i r
+  pub serve-over : (r : Did) → lacking kind (getD (p .marks) i 0) ≡ false → leb (p .used) h ≡ false → r .number ≡ 13 → Serves xs h p kind i r
   serve-over r m e number =
       by-step r m (λ k. over-held r _ e number) (λ k. over-held r _ e number) (λ k. over-held r _ e number)
 
@@ -159,16 +160,16 @@ module _ (x : Seen) (p : Copies) (kind i : ℕ) (known : kind ≢ 76 → i < x .
   pub serve-read :
       (r : Did) →
       lacking kind (getD (p .marks) i 0) ≡ false →
-      leb (p .used) (x .h) ≡ true →
+      leb (p .used) h ≡ true →
       kind ≢ 87 →
       kind ≢ 76 →
       r .number ≡ 0 →
       r .copies ≡ p →
-      Serves x p kind i r
+      Serves xs h p kind i r
   serve-read r m e u w number same =
       by-step r m
       (λ k. fits-held r (λ s q. done q 0) e
-      (λ s paid q st. (number, subst (λ (t : Copies). Stands (catalogIn x) t q (paid + 0)) (sym same) (subst (λ (t : ℕ). Stands (catalogIn x) p q t) (sym (add-zero paid)) st))))
+      (λ s paid q st. (number, subst (λ (t : Copies). Stands (catalogIn xs) t q (paid + 0)) (sym same) (subst (λ (t : ℕ). Stands (catalogIn xs) p q t) (sym (add-zero paid)) st))))
       (λ k. absurd (u k))
       (λ k. absurd (w k))
 
@@ -176,22 +177,22 @@ module _ (x : Seen) (p : Copies) (kind i : ℕ) (known : kind ≢ 76 → i < x .
   pub serve-write :
       (r : Did) →
       lacking kind (getD (p .marks) i 0) ≡ false →
-      leb (p .used) (x .h) ≡ true →
+      leb (p .used) h ≡ true →
       kind ≡ 87 →
       i < length (p .marks) →
       r .number ≡ 0 →
       r .copies .marks ≡ set (p .marks) i 2 →
       r .copies .used ≡ p .used →
       r .copies .paid ≡ p .paid →
-      Serves x p kind i r
+      Serves xs h p kind i r
   serve-write r m e u b number marks used sum =
       by-step r m
       (λ (k : kind ≡ 82). absurd (omega arith))
       (λ (k : kind ≡ 87). fits-held r (λ s q. done (set q i dirtyCopy) 0) e
       (λ s paid q st. (
         number,
-        stored (catalogIn x) p (r .copies) q paid i 2 0 st (below (λ (z : kind ≡ 76). omega arith)) b marks
-            (ap (λ t. r .copies .used + cond t (itemAt (catalogIn x) i .blocks) 0) (is-held q paid st (λ (z : kind ≡ 76). omega arith) m) ∙ omega arith)
+        stored (catalogIn xs) p (r .copies) q paid i 2 0 st (below (λ (z : kind ≡ 76). omega arith)) b marks
+            (ap (λ t. r .copies .used + cond t (itemAt (catalogIn xs) i .blocks) 0) (is-held q paid st (λ (z : kind ≡ 76). omega arith) m) ∙ omega arith)
             (omega arith),
       )))
       (λ (k : kind ≡ 76). absurd (omega arith))
@@ -199,15 +200,15 @@ module _ (x : Seen) (p : Copies) (kind i : ℕ) (known : kind ≢ 76 → i < x .
   -- a flush pays what is owed and cleans
   pub serve-flush :
       (r : Did) (paying : Copies) (o : ℕ) →
-      leb (p .used) (x .h) ≡ true →
+      leb (p .used) h ≡ true →
       kind ≡ 76 →
       r .number ≡ 0 →
-      o ≡ owed (catalogIn x) (copiesOf (x .n) (p .marks)) →
+      o ≡ owed (catalogIn xs) (copiesOf (length xs / 5) (p .marks)) →
       paying .marks ≡ p .marks →
       paying .used ≡ p .used →
       paying .paid ≡ p .paid + o →
-      Cleans (x .n) paying (r .copies) →
-      Serves x p kind i r
+      Cleans (length xs / 5) paying (r .copies) →
+      Serves xs h p kind i r
   serve-flush r paying o e u number owes marks used sum cleans =
       by-step r (ap (λ t. lacking t (getD (p .marks) i 0)) u)
       (λ (k : kind ≡ 82). absurd (omega arith))
@@ -216,17 +217,17 @@ module _ (x : Seen) (p : Copies) (kind i : ℕ) (known : kind ≢ 76 → i < x .
       (λ s paid q st. (number, clean-stands paid q st)))
     where
       cat : Catalog
-      cat = catalogIn x
+      cat = catalogIn xs
 
       clean-stands : (paid : ℕ) (q : List Copy) → Stands cat p q paid → Stands cat (r .copies) (tab (length cat) (λ j. cleaned (copyAt q j))) (paid + owed cat q)
       clean-stands paid q st =
-          let these : copiesOf (x .n) (p .marks) ≡ q = ap (λ t. copiesOf t (p .marks)) (sym (catalog-length x)) ∙ st .copies in
+          let these : copiesOf (length xs / 5) (p .marks) ≡ q = ap (λ t. copiesOf t (p .marks)) (sym (length-catalogIn xs)) ∙ st .copies in
           record {
             copies =
-                ap (λ t. copiesOf t (r .copies .marks)) (catalog-length x)
+                ap (λ t. copiesOf t (r .copies .marks)) (length-catalogIn xs)
                 ∙ cleans .copies
-                ∙ ap (λ t. tab t (λ j. cleaned (copyAt (copiesOf (x .n) (paying .marks)) j))) (sym (catalog-length x))
-                ∙ ap (λ t. tab (length cat) (λ j. cleaned (copyAt (copiesOf (x .n) t) j))) marks
+                ∙ ap (λ t. tab t (λ j. cleaned (copyAt (copiesOf (length xs / 5) (paying .marks)) j))) (sym (length-catalogIn xs))
+                ∙ ap (λ t. tab (length cat) (λ j. cleaned (copyAt (copiesOf (length xs / 5) t) j))) marks
                 ∙ ap (λ t. tab (length cat) (λ j. cleaned (copyAt t j))) these;
             used = cleans .used ∙ used ∙ st .used ∙ sym (used-cleaned cat q);
             sum = omega (arith, cleans .sum, st .sum, owes ∙ ap (owed cat) these);

@@ -95,11 +95,11 @@ fn act(catalog: &[u8], p: Copies, kind: u32, item: usize) -> Did
 }
 
 // The acts that stand before step `step`, from act `first` on.
-fn acts_before<'a>(
+fn acts_before(
     seen: Seen,
-    catalog: &'a [u8],
+    catalog: &[u8],
     p: Copies,
-    acts: &'a [u32],
+    acts: &[u32],
     first: usize,
     step: u32,
 ) -> Acted
@@ -107,10 +107,9 @@ fn acts_before<'a>(
     ensures { λ r. ⌜ RunsActs seen (now (catalog .entry)) p (now (acts .entry)) first step r ⌝ }
     ensures { λ r. ⌜ ActsWithin seen step r ⌝ }
 {
-    let count = seen.acts;
     let mut q = p;
     let mut a = first;
-    while a < count {
+    while a < seen.acts {
         if acts[3 * a] != step {
             break;
         }

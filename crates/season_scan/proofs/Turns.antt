@@ -30,15 +30,15 @@ use Rattle.season_scan.proofs.Laws.{line-first, nothing-left, no-feed, 
 
 -- At byte `at`, where line n begins: the struct and the slices hold what has been read, from which the rest of the text leads where
 -- the whole text does. A step or an act took at least six bytes.
-pub record Lined (s calls acts : List ℕ) (q : Seen) (at n : ℕ) : Type 0 where
+pub record Lined (s catalog calls acts : List ℕ) (q : Seen) (at n : ℕ) : Type 0 where
   pub within : at ≤ length s
   pub counted : n ≤ at + 1
   pub forSteps : 6 * q .steps ≤ at
   pub forActs : 6 * q .acts ≤ at
   pub table : q .table ≤ 3
-  pub roomy : Roomy calls acts
+  pub roomy : Roomy catalog calls acts
   pub read : Sofar
-  pub holds : Holds q calls acts read
+  pub holds : Holds q catalog calls acts read
   pub left : readFrom n (split 10 (drop at s)) read ≡ readingOf s
 
 -- the line from `at` to `end`
@@ -61,14 +61,14 @@ pub record Fielded (s : List ℕ) (q : Seen) (at end : ℕ) (fields : List Field
       due q at end ≡ true → take count fields ++ fieldsFrom s i end more ≡ fieldsOf (lineOf s at end)
 
 -- what an answer to the whole text has to be
-abbrev pub Answers : List ℕ → Scanned → List ℕ → List ℕ → Type 0
-Answers s r calls acts = Leads (readingOf s) r calls acts × (Few (readingOf s) r × Roomy calls acts)
+abbrev pub Answers : List ℕ → Scanned → List ℕ → List ℕ → List ℕ → Type 0
+Answers s r catalog calls acts = Leads (readingOf s) r catalog calls acts × (Few (readingOf s) r × Roomy catalog calls acts)
 
 -- ## The first line
 
-pub begins : (s calls acts : List ℕ) (q : Seen) → Roomy calls acts → Begins q → Lined s calls acts q 0 1
-begins s calls acts q r b =
-    let h = b calls acts in
+pub begins : (s catalog calls acts : List ℕ) (q : Seen) → Roomy catalog calls acts → Begins q → Lined s catalog calls acts q 0 1
+begins s catalog calls acts q r b =
+    let h = b catalog calls acts in
     record {
       within = omega arith;
       counted = omega arith;
@@ -84,34 +84,34 @@ begins s calls acts q r b =
 -- ## The ways out
 
 stops :
-    (s calls acts : List ℕ) (r : Scanned) (x : Refusal) →
+    (s catalog calls acts : List ℕ) (r : Scanned) (x : Refusal) →
     readingOf s ≡ stop x →
     r .verdict ≡ Refused x →
-    Roomy calls acts →
-    Answers s r calls acts
-stops s calls acts r x e h y = (rw e h, (rw e tt, y))
+    Roomy catalog calls acts →
+    Answers s r catalog calls acts
+stops s catalog calls acts r x e h y = (rw e h, (rw e tt, y))
 
 -- the text has no more than 65,536 bytes, six to a step
 few-ended :
-    (t : Bool) (v : Sofar) (x : Refusal) (r : Scanned) (calls acts : List ℕ) →
+    (t : Bool) (v : Sofar) (x : Refusal) (r : Scanned) (catalog calls acts : List ℕ) →
     6 * length (v .steps) ≤ 65536 →
     6 * length (v .acts) ≤ 65536 →
-    Leads (cond t (on v) (stop x)) r calls acts →
+    Leads (cond t (on v) (stop x)) r catalog calls acts →
     Few (cond t (on v) (stop x)) r
-few-ended true v x r calls acts a b h = (omega (arith, h .1 .stepCount), omega (arith, h .1 .actCount))
-few-ended false v x r calls acts a b h = tt
+few-ended true v x r catalog calls acts a b h = (omega (arith, h .1 .stepCount), omega (arith, h .1 .actCount))
+few-ended false v x r catalog calls acts a b h = tt
 
 taken-refused : (v : Verdict) (x : Refusal) → v ≡ Taken → v ≡ Refused x → ⊥
 taken-refused v x e f = let z : _≡_ {A = ℕ} 0 1 = cc in omega arith
 
-module _ (s calls acts : List ℕ) (q : Seen) (at n : ℕ) (h : Lined s calls acts q at n) where
-  pub ends : (r : Scanned) → length s ≤ 65536 → length s ≤ at → LeadsBy q (λ v. atEnd v n) r → Answers s r calls acts
+module _ (s catalog calls acts : List ℕ) (q : Seen) (at n : ℕ) (h : Lined s catalog calls acts q at n) where
+  pub ends : (r : Scanned) → length s ≤ 65536 → length s ≤ at → LeadsBy q (λ v. atEnd v n) r → Answers s r catalog calls acts
   ends r short e f =
       let v = h .read in
       let told : readingOf s ≡ atEnd v n = sym (h .left) ∙ nothing-left n at s v e in
-      let led = f calls acts v (h .holds) in
+      let led = f catalog calls acts v (h .holds) in
       let few =
-      few-ended (v .named && eqb (v .table) 3) v (Heading n) r calls acts (omega (arith, h .holds .stepCount))
+      few-ended (v .named && eqb (v .table) 3) v (Heading n) r catalog calls acts (omega (arith, h .holds .stepCount))
       (omega (arith, h .holds .actCount)) led in
       (rw told led, (rw told few, h .roomy))
 
@@ -120,11 +120,11 @@ module _ (s calls acts : List ℕ) (q : Seen) (at n : ℕ) (h : Lined s calls ac
       at < length s →
       length s ≤ at + length (before 10 (drop at s)) →
       r .verdict ≡ Refused (Malformed n) →
-      Answers s r calls acts
+      Answers s r catalog calls acts
   no-line-feed r a e f =
       let size = length-drop at s in
       let told : readingOf s ≡ stop (Malformed n) = sym (h .left) ∙ no-feed n (drop at s) (h .read) (omega arith) (omega arith) in
-      stops s calls acts r (Malformed n) told f (h .roomy)
+      stops s catalog calls acts r (Malformed n) told f (h .roomy)
 
 -- ## The fields of a line
 
@@ -215,7 +215,7 @@ module _ (s : List ℕ) (q : Seen) (at end : ℕ) where
 
 -- ## The next line
 
-module _ (s calls acts : List ℕ) (q : Seen) (at n : ℕ) (h : Lined s calls acts q at n)
+module _ (s catalog calls acts : List ℕ) (q : Seen) (at n : ℕ) (h : Lined s catalog calls acts q at n)
     (end : ℕ) (ee : end ≡ at + length (before 10 (drop at s))) (within : end < length s)
   where
     first-is : before 10 (drop at s) ≡ lineOf s at end
@@ -240,11 +240,11 @@ module _ (s calls acts : List ℕ) (q : Seen) (at n : ℕ) (h : Lined s calls ac
         due q at end ≡ true →
         ((table : ℕ) → lineIn table (fieldsOf (lineOf s at end)) n ≡ Torn (Malformed n)) →
         r .verdict ≡ Refused (Malformed n) →
-        Answers s r calls acts
+        Answers s r catalog calls acts
     torn-here r wants torn f =
         let told : leads (h .read) (lineOf s at end) n ≡ stop (Malformed n) =
         torn-line (h .read) (lineOf s at end) n (wants-is ∙ wants) (torn (h .read .table)) in
-        stops s calls acts r (Malformed n) (next-is ∙ rw told) f (h .roomy)
+        stops s catalog calls acts r (Malformed n) (next-is ∙ rw told) f (h .roomy)
 
     module _ (fields : List Field) (count i : ℕ) (f : Fielded s q at end fields count i false) where
       looked : Looked (h .read) (lineOf s at end) (take count fields)
@@ -263,7 +263,7 @@ module _ (s calls acts : List ℕ) (q : Seen) (at n : ℕ) (h : Lined s calls ac
           6 * b ≤ end + 1
       more-bytes a b k = ⊎-elim (λ e. omega arith) (λ w. omega (arith, six-bytes (w .1) (w .2), w .0))
 
-      pub can-lead : length s ≤ 65536 → Leadable q count calls acts
+      pub can-lead : length s ≤ 65536 → Leadable q count catalog calls acts
       can-lead short =
           record {
             room = record { forStep = omega (arith, h .forSteps); forAct = omega (arith, h .forActs); roomy = h .roomy };
@@ -272,29 +272,29 @@ module _ (s calls acts : List ℕ) (q : Seen) (at n : ℕ) (h : Lined s calls ac
             table = h .table;
           }
 
-      module _ (r : Scanned) (callsThen actsThen : List ℕ)
-          (led : LineLeads q calls acts (lineOf s at end) (take count fields) n r callsThen actsThen)
-          (roomy : Roomy callsThen actsThen)
+      module _ (r : Scanned) (catalogThen callsThen actsThen : List ℕ)
+          (led : LineLeads q catalog calls acts (lineOf s at end) (take count fields) n r catalogThen callsThen actsThen)
+          (roomy : Roomy catalogThen callsThen actsThen)
         where
-          pub line-refused : (x : Refusal) → r .verdict ≡ Refused x → Answers s r callsThen actsThen
+          pub line-refused : (x : Refusal) → r .verdict ≡ Refused x → Answers s r catalogThen callsThen actsThen
           line-refused x e = go (leads (h .read) (lineOf s at end) n) refl (led (h .read) (h .holds) looked)
             where
               go :
                   (y : Led) →
                   leads (h .read) (lineOf s at end) n ≡ y →
-                  Leads y r callsThen actsThen →
-                  Answers s r callsThen actsThen
+                  Leads y r catalogThen callsThen actsThen →
+                  Answers s r catalogThen callsThen actsThen
               go (on w) u k = absurd (taken-refused (r .verdict) x (k .0) e)
-              go (stop y) u k = stops s callsThen actsThen r y (next-is ∙ rw u) k roomy
+              go (stop y) u k = stops s catalogThen callsThen actsThen r y (next-is ∙ rw u) k roomy
 
-          pub line-taken : r .verdict ≡ Taken → Lined s callsThen actsThen (r .seen) (end + 1) (n + 1)
+          pub line-taken : r .verdict ≡ Taken → Lined s catalogThen callsThen actsThen (r .seen) (end + 1) (n + 1)
           line-taken e = go (leads (h .read) (lineOf s at end) n) refl (led (h .read) (h .holds) looked)
             where
               go :
                   (y : Led) →
                   leads (h .read) (lineOf s at end) n ≡ y →
-                  Leads y r callsThen actsThen →
-                  Lined s callsThen actsThen (r .seen) (end + 1) (n + 1)
+                  Leads y r catalogThen callsThen actsThen →
+                  Lined s catalogThen callsThen actsThen (r .seen) (end + 1) (n + 1)
               go (on w) u k =
                   let g = grown (h .read) w (lineOf s at end) n u in
                   let old = h .holds in

@@ -1,5 +1,4 @@
 // The text input's four tables: the search for the first faulty line.
-ghost use mathlib.Core.Path.{_≡_};
 ghost use Rattle.season_tables.specs.Tables.{readingOf};
 ghost use Rattle.season_tables.specs.Holds.{Leads, Roomy, Scannable};
 ghost use Rattle.season_scan.specs.Few.{Few};

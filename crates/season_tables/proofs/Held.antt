@@ -1,12 +1,13 @@
--- Laws of each line and of the input's end, over the struct that holds what has been read: what it holds after the line, and with
--- which refusal the line stops the reading. Assumes nothing.
+-- Laws of each line and of the input's end, over the struct and the slices that hold what has been read: what they hold after the
+-- line, and with which refusal the line stops the reading. Assumes nothing.
 use mathlib.Core.Path.{_≡_, refl, sym, ap, subst, _∙_}
 use mathlib.Core.Bool.{Bool, true, false, cond, _&&_}
 use mathlib.Core.List.{List, [], _∷_, _++_}
 use Prim.Native.Nat.{ℕ, suc, _+_, _*_, _≤_, _<_}
 use native.Mathlib.Omega.{arith}
 use native.Mathlib.Numerals.{add-one}
-use lib.ListN.{length, set, take, replicate, length-append}
+use lib.ListN.{length, take, length-append}
+use lib.Seq.{sets}
 use lib.Dec.{eqb, leb, ltb}
 use borrow.Author.Tests.{lt-ltb, le-ltb, le-leb, lt-leb, eq-eqb, ne-eqb}
 use Rattle.landlord.specs.declared.Step.{Step}
@@ -17,7 +18,8 @@ use Rattle.landlord.specs.Types.{actItem}
 use Rattle.landlord.specs.Fold.{fold}
 use Rattle.landlord.specs.Calls.{itemRefusal}
 use Rattle.landlord.proofs.Folds.{fold-append}
-use Rattle.cache.specs.Contract.{catalogFrom}
+use Rattle.catalog_bytes.specs.Catalogs.{catalogOfFirst, itemBytes}
+use Rattle.catalog_bytes.proofs.Laws.{none-first, one-more}
 use Rattle.season_lines.specs.declared.Line.{Line}
 use Rattle.season_lines.specs.declared.Line.the-variants.{Sizes, Item as ItemLine, Step as StepLine, Act as ActLine, Refused as RefusedLine}
 use Rattle.season_lines.specs.Lines.{itemFrom}
@@ -25,17 +27,16 @@ use Rattle.season_tables.specs.declared.Seen.{Seen}
 use Rattle.season_tables.specs.declared.Scanned.{Scanned}
 use Rattle.season_tables.specs.declared.Verdict.the-variants.{Taken, Refused}
 use Rattle.season_tables.specs.Tables.{Placed, Sofar, on, stop, nowNamed, nextTable, lastPlace, takes, atEnd}
-use Rattle.season_tables.specs.Holds.{Holds, Begins, LeadsFrom, LeadsBy, NotesStep, NotesAct, callNumbers, actNumbers, putAt, Numbered}
+use Rattle.season_tables.specs.Holds.{Holds, Begins, LeadsFrom, LeadsBy, NotesItem, NotesStep, NotesAct, callNumbers, actNumbers, putAt, Numbered}
 use Rattle.season_tables.proofs.Notes.{noted-more, calls-more, acts-more}
-use Rattle.season_tables.proofs.Items.{catalog-none, catalog-length, catalog-more}
 
 -- a line is taken, with what the struct holds then
-goes : (r : Scanned) (q : Seen) (calls acts : List ℕ) (v : Sofar) → r .verdict ≡ Taken → r .seen ≡ q → Holds q calls acts v → (r .verdict ≡ Taken) × Holds (r .seen) calls acts v
-goes r q calls acts v t e h = (t, subst (λ (s : Seen). Holds s calls acts v) (sym e) h)
+goes : (r : Scanned) (q : Seen) (catalog calls acts : List ℕ) (v : Sofar) → r .verdict ≡ Taken → r .seen ≡ q → Holds q catalog calls acts v → (r .verdict ≡ Taken) × Holds (r .seen) catalog calls acts v
+goes r q catalog calls acts v t e h = (t, subst (λ (s : Seen). Holds s catalog calls acts v) (sym e) h)
 
 -- the number of items
-pub count-is : (q : Seen) (calls acts : List ℕ) (v : Sofar) → Holds q calls acts v → length (v .catalog) ≡ q .n
-count-is q calls acts v h = ap length (sym (h .catalog)) ∙ catalog-length (q .n) (q .blocks) (q .load) (q .write)
+pub count-is : (q : Seen) (catalog calls acts : List ℕ) (v : Sofar) → Holds q catalog calls acts v → length (v .catalog) ≡ q .n
+count-is q catalog calls acts v h = sym (h .itemCount)
 
 -- the struct before the first line
 abbrev empty : Seen
@@ -46,9 +47,6 @@ empty =
       k = 0;
       h = 0;
       n = 0;
-      blocks = replicate 256 0;
-      load = replicate 256 0;
-      write = replicate 256 0;
       steps = 0;
       acts = 0;
       last = 0;
@@ -56,14 +54,15 @@ empty =
 
 pub begins : Begins empty
 unfolding fold callNumbers actNumbers
-begins calls acts =
+begins catalog calls acts =
     record {
       table = refl;
       named = refl;
       k = refl;
       h = refl;
       few = omega arith;
-      catalog = catalog-none (replicate 256 0) (replicate 256 0) (replicate 256 0);
+      items = none-first catalog;
+      itemCount = refl;
       stepCount = refl;
       actCount = refl;
       last = refl;
@@ -80,9 +79,6 @@ named q =
       k = q .k;
       h = q .h;
       n = q .n;
-      blocks = q .blocks;
-      load = q .load;
-      write = q .write;
       steps = q .steps;
       acts = q .acts;
       last = q .last;
@@ -90,16 +86,17 @@ named q =
 
 module _ (q : Seen) (right : Bool) (at : ℕ) (r : Scanned) where
   pub names-right : right ≡ true → r .verdict ≡ Taken → r .seen ≡ named q → LeadsBy q (λ v. cond right (on (nowNamed v)) (stop (Heading at))) r
-  names-right e t s calls acts v h =
+  names-right e t s catalog calls acts v h =
       rw e
-      (goes r (named q) calls acts (nowNamed v) t s
+      (goes r (named q) catalog calls acts (nowNamed v) t s
       (record {
         table = h .table;
         named = refl;
         k = h .k;
         h = h .h;
         few = h .few;
-        catalog = h .catalog;
+        items = h .items;
+        itemCount = h .itemCount;
         stepCount = h .stepCount;
         actCount = h .actCount;
         last = h .last;
@@ -108,7 +105,7 @@ module _ (q : Seen) (right : Bool) (at : ℕ) (r : Scanned) where
       }))
 
   pub names-wrong : right ≡ false → r .verdict ≡ Refused (Heading at) → LeadsBy q (λ v. cond right (on (nowNamed v)) (stop (Heading at))) r
-  names-wrong e t calls acts v h = rw e t
+  names-wrong e t catalog calls acts v h = rw e t
 
 -- the blank line
 abbrev turned : Seen → Seen
@@ -119,9 +116,6 @@ turned q =
       k = q .k;
       h = q .h;
       n = q .n;
-      blocks = q .blocks;
-      load = q .load;
-      write = q .write;
       steps = q .steps;
       acts = q .acts;
       last = q .last;
@@ -129,16 +123,17 @@ turned q =
 
 module _ (q : Seen) (bytes at : ℕ) (r : Scanned) where
   pub blank-there : bytes ≡ 0 → r .verdict ≡ Taken → r .seen ≡ turned q → LeadsBy q (λ v. cond (eqb bytes 0) (on (nextTable v)) (stop (Malformed at))) r
-  blank-there e t s calls acts v h =
+  blank-there e t s catalog calls acts v h =
       rw (eq-eqb bytes 0 e)
-      (goes r (turned q) calls acts (nextTable v) t s
+      (goes r (turned q) catalog calls acts (nextTable v) t s
       (record {
         table = add-one (q .table) ∙ ap suc (h .table);
         named = refl;
         k = h .k;
         h = h .h;
         few = h .few;
-        catalog = h .catalog;
+        items = h .items;
+        itemCount = h .itemCount;
         stepCount = h .stepCount;
         actCount = h .actCount;
         last = h .last;
@@ -147,7 +142,7 @@ module _ (q : Seen) (bytes at : ℕ) (r : Scanned) where
       }))
 
   pub blank-missing : (bytes ≡ 0 → ⊥) → r .verdict ≡ Refused (Malformed at) → LeadsBy q (λ v. cond (eqb bytes 0) (on (nextTable v)) (stop (Malformed at))) r
-  blank-missing e t calls acts v h = rw (ne-eqb bytes 0 e) t
+  blank-missing e t catalog calls acts v h = rw (ne-eqb bytes 0 e) t
 
 -- the line of sizes
 abbrev sized : Seen → ℕ → ℕ → Seen
@@ -158,9 +153,6 @@ sized q k h =
       k = k;
       h = h;
       n = q .n;
-      blocks = q .blocks;
-      load = q .load;
-      write = q .write;
       steps = q .steps;
       acts = q .acts;
       last = q .last;
@@ -169,16 +161,17 @@ sized q k h =
 module _ (q : Seen) (size plan at : ℕ) (r : Scanned) where
   pub sizes-fit : plan ≤ size → r .verdict ≡ Taken → r .seen ≡ sized q size plan → LeadsBy q (λ v. takes v (Sizes size plan) at) r
   unfolding takes
-  sizes-fit e t s calls acts v h =
+  sizes-fit e t s catalog calls acts v h =
       rw (le-leb plan size e)
-      (goes r (sized q size plan) calls acts _ t s
+      (goes r (sized q size plan) catalog calls acts _ t s
       (record {
         table = h .table;
         named = h .named;
         k = refl;
         h = refl;
         few = h .few;
-        catalog = h .catalog;
+        items = h .items;
+        itemCount = h .itemCount;
         stepCount = h .stepCount;
         actCount = h .actCount;
         last = h .last;
@@ -188,47 +181,51 @@ module _ (q : Seen) (size plan at : ℕ) (r : Scanned) where
 
   pub sizes-too-large : size < plan → r .verdict ≡ Refused (PlanTooLarge at) → LeadsBy q (λ v. takes v (Sizes size plan) at) r
   unfolding takes
-  sizes-too-large e t calls acts v h = rw (lt-leb plan size e) t
+  sizes-too-large e t catalog calls acts v h = rw (lt-leb plan size e) t
 
 -- an item's line, of number i
-abbrev listed : Seen → ℕ → ℕ → ℕ → ℕ → Seen
-listed q i b l w =
+abbrev listed : Seen → ℕ → Seen
+listed q i =
     record {
       table = q .table;
       named = q .named;
       k = q .k;
       h = q .h;
       n = i + 1;
-      blocks = set (q .blocks) i b;
-      load = set (q .load) i l;
-      write = set (q .write) i w;
       steps = q .steps;
       acts = q .acts;
       last = q .last;
     }
 
--- a place for each of 256 items
-pub record Places (q : Seen) : Type 0 where
-  pub blocks : length (q .blocks) ≡ 256
-  pub load : length (q .load) ≡ 256
-  pub write : length (q .write) ≡ 256
+one-longer : {A : Type 0} (n : ℕ) (xs : List A) (x : A) → n ≡ length xs → n + 1 ≡ length (xs ++ (x ∷ []))
+one-longer n xs x e = rw (length-append xs (x ∷ [])) (omega arith)
 
-module _ (q : Seen) (i b l w at : ℕ) (r : Scanned) where
-  pub item-next : Places q → i ≤ 255 → i ≡ q .n → r .verdict ≡ Taken → r .seen ≡ listed q i b l w → LeadsBy q (λ v. takes v (ItemLine i b l w) at) r
+module _ (q : Seen) (catalog : List ℕ) (i b l w at : ℕ) (r : Scanned) where
+  pub item-next :
+      (after : List ℕ) →
+      length catalog ≡ 1280 →
+      i ≤ 255 →
+      i ≡ q .n →
+      r .verdict ≡ Taken →
+      r .seen ≡ listed q i →
+      after ≡ sets catalog (5 * i) (itemBytes (itemFrom b l w)) →
+      NotesItem q catalog (λ v. takes v (ItemLine i b l w) at) r after
   unfolding takes
-  item-next p few e t s calls acts v h =
-      rw (eq-eqb i (length (v .catalog)) (e ∙ sym (count-is q calls acts v h)))
-      (goes r (listed q i b l w) calls acts _ t s
+  item-next after long few e t s put calls acts v h =
+      rw (eq-eqb i (length (v .catalog)) (e ∙ h .itemCount))
+      (goes r (listed q i) after calls acts _ t s
       (record {
         table = h .table;
         named = h .named;
         k = h .k;
         h = h .h;
         few = omega arith;
-        catalog =
-            ap (λ (j : ℕ). catalogFrom (j + 1) (set (q .blocks) j b) (set (q .load) j l) (set (q .write) j w)) e
-            ∙ catalog-more (q .n) (q .blocks) (q .load) (q .write) b l w (omega arith) (omega arith) (omega arith)
-            ∙ ap (λ (c : List _). c ++ (itemFrom b l w ∷ [])) (h .catalog);
+        items =
+            ap (catalogOfFirst (i + 1)) put
+            ∙ one-more i catalog (itemFrom b l w) (omega arith)
+            ∙ ap (λ (j : ℕ). catalogOfFirst j catalog ++ (itemFrom b l w ∷ [])) e
+            ∙ ap (λ (c : List _). c ++ (itemFrom b l w ∷ [])) (h .items);
+        itemCount = one-longer i (v .catalog) (itemFrom b l w) (e ∙ h .itemCount);
         stepCount = h .stepCount;
         actCount = h .actCount;
         last = h .last;
@@ -236,9 +233,9 @@ module _ (q : Seen) (i b l w at : ℕ) (r : Scanned) where
         actsNoted = h .actsNoted;
       }))
 
-  pub item-skipped : (i ≡ q .n → ⊥) → r .verdict ≡ Refused (OutOfSequence at) → LeadsBy q (λ v. takes v (ItemLine i b l w) at) r
+  pub item-skipped : (i ≡ q .n → ⊥) → r .verdict ≡ Refused (OutOfSequence at) → NotesItem q catalog (λ v. takes v (ItemLine i b l w) at) r catalog
   unfolding takes
-  item-skipped e t calls acts v h = rw (ne-eqb i (length (v .catalog)) (λ f. e (f ∙ count-is q calls acts v h))) t
+  item-skipped e t calls acts v h = rw (ne-eqb i (length (v .catalog)) (λ f. e (f ∙ count-is q catalog calls acts v h))) t
 
 -- a step's line
 abbrev stepped : Seen → Seen
@@ -249,54 +246,49 @@ stepped q =
       k = q .k;
       h = q .h;
       n = q .n;
-      blocks = q .blocks;
-      load = q .load;
-      write = q .write;
       steps = q .steps + 1;
       acts = q .acts;
       last = q .last;
     }
 
--- what the table says to a step, by what the struct holds
-abbrev numberOf : Seen → Step → ℕ
-numberOf q s = itemRefusal (q .k) (catalogFrom (q .n) (q .blocks) (q .load) (q .write)) s
+-- what the table says to a step, by what the struct and the bytes hold
+abbrev numberOf : Seen → List ℕ → Step → ℕ
+numberOf q catalog s = itemRefusal (q .k) (catalogOfFirst (q .n) catalog) s
 
-one-more : {A : Type 0} (n : ℕ) (xs : List A) (x : A) → n ≡ length xs → n + 1 ≡ length (xs ++ (x ∷ []))
-one-more n xs x e = rw (length-append xs (x ∷ [])) (omega arith)
+module _ (q : Seen) (catalog calls : List ℕ) (s : Step) (at number : ℕ) (r : Scanned) where
+  same-number : (acts : List ℕ) (v : Sofar) → number ≡ numberOf q catalog s → Holds q catalog calls acts v → itemRefusal (v .k) (v .catalog) s ≡ number
+  same-number acts v e h = sym (e ∙ (λ i. itemRefusal (h .k i) (h .items i) s))
 
-module _ (q : Seen) (calls : List ℕ) (s : Step) (at number : ℕ) (r : Scanned) where
-  same-number : (acts : List ℕ) (v : Sofar) → number ≡ numberOf q s → Holds q calls acts v → itemRefusal (v .k) (v .catalog) s ≡ number
-  same-number acts v e h = sym (e ∙ (λ i. itemRefusal (h .k i) (h .catalog i) s))
-
-  pub step-unknown : number ≡ numberOf q s → number ≡ 6 → r .verdict ≡ Refused (UnknownItem at) → NotesStep q calls (λ v. takes v (StepLine s) at) r calls
+  pub step-unknown : number ≡ numberOf q catalog s → number ≡ 6 → r .verdict ≡ Refused (UnknownItem at) → NotesStep q catalog calls (λ v. takes v (StepLine s) at) r calls
   unfolding takes
   step-unknown e f t acts v h = rw (same-number acts v e h, f) t
 
-  pub step-large : number ≡ numberOf q s → (number ≡ 6 → ⊥) → (number ≡ 0 → ⊥) → r .verdict ≡ Refused (ItemTooLarge at) → NotesStep q calls (λ v. takes v (StepLine s) at) r calls
+  pub step-large : number ≡ numberOf q catalog s → (number ≡ 6 → ⊥) → (number ≡ 0 → ⊥) → r .verdict ≡ Refused (ItemTooLarge at) → NotesStep q catalog calls (λ v. takes v (StepLine s) at) r calls
   unfolding takes
   step-large e f g t acts v h = rw (same-number acts v e h, ne-eqb number 0 g, ne-eqb number 6 f) t
 
   pub step-noted :
       (after : List ℕ) →
-      number ≡ numberOf q s →
+      number ≡ numberOf q catalog s →
       number ≡ 0 →
       4 * q .steps + 4 ≤ length calls →
       r .verdict ≡ Taken →
       r .seen ≡ stepped q →
       after ≡ putAt calls (4 * q .steps) (callNumbers (s ∷ [])) →
-      NotesStep q calls (λ v. takes v (StepLine s) at) r after
+      NotesStep q catalog calls (λ v. takes v (StepLine s) at) r after
   unfolding takes
   step-noted after e f room t g put acts v h =
       rw (same-number acts v e h, f)
-      (goes r (stepped q) after acts _ t g
+      (goes r (stepped q) catalog after acts _ t g
       (record {
         table = h .table;
         named = h .named;
         k = h .k;
         h = h .h;
         few = h .few;
-        catalog = h .catalog;
-        stepCount = one-more (q .steps) (v .steps) s (h .stepCount);
+        items = h .items;
+        itemCount = h .itemCount;
+        stepCount = one-longer (q .steps) (v .steps) s (h .stepCount);
         actCount = h .actCount;
         last = h .last;
         stepsNoted =
@@ -315,9 +307,6 @@ acted q place =
       k = q .k;
       h = q .h;
       n = q .n;
-      blocks = q .blocks;
-      load = q .load;
-      write = q .write;
       steps = q .steps;
       acts = q .acts + 1;
       last = place;
@@ -331,20 +320,20 @@ unfolding fold
 last-more acts a = sym (fold-append (λ (p : ℕ) (b : Placed). b .place) 0 acts (a ∷ []))
 
 module _ (q : Seen) (acts : List ℕ) (place : ℕ) (act : Act) (at : ℕ) (r : Scanned) where
-  in-turn : (calls : List ℕ) (v : Sofar) → Holds q calls acts v → q .last ≤ place → place < q .steps → leb (lastPlace (v .acts)) place && ltb place (length (v .steps)) ≡ true
-  in-turn calls v h e f = rw (sym (h .last), sym (h .stepCount), le-leb (q .last) place e, lt-ltb place (q .steps) f)
+  in-turn : (catalog calls : List ℕ) (v : Sofar) → Holds q catalog calls acts v → q .last ≤ place → place < q .steps → leb (lastPlace (v .acts)) place && ltb place (length (v .steps)) ≡ true
+  in-turn catalog calls v h e f = rw (sym (h .last), sym (h .stepCount), le-leb (q .last) place e, lt-ltb place (q .steps) f)
 
   pub act-early : place < q .last → r .verdict ≡ Refused (ActOutOfOrder at) → NotesAct q acts (λ v. takes v (ActLine place act) at) r acts
   unfolding takes
-  act-early e t calls v h = rw (sym (h .last), lt-leb (q .last) place e) t
+  act-early e t catalog calls v h = rw (sym (h .last), lt-leb (q .last) place e) t
 
   pub act-late : q .last ≤ place → q .steps ≤ place → r .verdict ≡ Refused (ActOutOfOrder at) → NotesAct q acts (λ v. takes v (ActLine place act) at) r acts
   unfolding takes
-  act-late e f t calls v h = rw (sym (h .last), sym (h .stepCount), le-leb (q .last) place e, le-ltb place (q .steps) f) t
+  act-late e f t catalog calls v h = rw (sym (h .last), sym (h .stepCount), le-leb (q .last) place e, le-ltb place (q .steps) f) t
 
   pub act-unknown : q .last ≤ place → place < q .steps → q .n ≤ actItem act → r .verdict ≡ Refused (UnknownItem at) → NotesAct q acts (λ v. takes v (ActLine place act) at) r acts
   unfolding takes
-  act-unknown e f g t calls v h = rw (in-turn calls v h e f, count-is q calls acts v h, le-ltb (actItem act) (q .n) g) t
+  act-unknown e f g t catalog calls v h = rw (in-turn catalog calls v h e f, count-is q catalog calls acts v h, le-ltb (actItem act) (q .n) g) t
 
   pub act-noted :
       (after : List ℕ) →
@@ -357,18 +346,19 @@ module _ (q : Seen) (acts : List ℕ) (place : ℕ) (act : Act) (at : ℕ) (r : 
       after ≡ putAt acts (3 * q .acts) (actNumbers (placed place act ∷ [])) →
       NotesAct q acts (λ v. takes v (ActLine place act) at) r after
   unfolding takes
-  act-noted after e f g room t s put calls v h =
-      rw (in-turn calls v h e f, count-is q calls acts v h, lt-ltb (actItem act) (q .n) g)
-      (goes r (acted q place) calls after _ t s
+  act-noted after e f g room t s put catalog calls v h =
+      rw (in-turn catalog calls v h e f, count-is q catalog calls acts v h, lt-ltb (actItem act) (q .n) g)
+      (goes r (acted q place) catalog calls after _ t s
       (record {
         table = h .table;
         named = h .named;
         k = h .k;
         h = h .h;
         few = h .few;
-        catalog = h .catalog;
+        items = h .items;
+        itemCount = h .itemCount;
         stepCount = h .stepCount;
-        actCount = one-more (q .acts) (v .acts) (placed place act) (h .actCount);
+        actCount = one-longer (q .acts) (v .acts) (placed place act) (h .actCount);
         last = last-more (v .acts) (placed place act);
         stepsNoted = h .stepsNoted;
         actsNoted =
@@ -380,30 +370,30 @@ module _ (q : Seen) (acts : List ℕ) (place : ℕ) (act : Act) (at : ℕ) (r : 
 -- the input's end
 module _ (q : Seen) (at : ℕ) (r : Scanned) where
   pub end-due : q .named ≡ true → q .table ≡ 3 → r .verdict ≡ Taken → r .seen ≡ q → LeadsBy q (λ v. atEnd v at) r
-  end-due e f t s calls acts v h =
+  end-due e f t s catalog calls acts v h =
       let b : v .named && eqb (v .table) 3 ≡ true = rw (sym (h .named) ∙ e, sym (h .table) ∙ f) in
-      rw b (goes r q calls acts v t s h)
+      rw b (goes r q catalog calls acts v t s h)
 
   pub end-unnamed : q .named ≡ false → r .verdict ≡ Refused (Heading at) → LeadsBy q (λ v. atEnd v at) r
-  end-unnamed e t calls acts v h = rw (sym (h .named) ∙ e) t
+  end-unnamed e t catalog calls acts v h = rw (sym (h .named) ∙ e) t
 
   pub end-early : q .named ≡ true → (q .table ≡ 3 → ⊥) → r .verdict ≡ Refused (Heading at) → LeadsBy q (λ v. atEnd v at) r
-  end-early e f t calls acts v h = rw (sym (h .named) ∙ e, ne-eqb (v .table) 3 (λ g. f (h .table ∙ g))) t
+  end-early e f t catalog calls acts v h = rw (sym (h .named) ∙ e, ne-eqb (v .table) 3 (λ g. f (h .table ∙ g))) t
 
 -- A line that is known to say so: the case of a match on it.
 pub line-says :
-    (q : Seen) (line said : Line) (at : ℕ) (r : Scanned) (calls acts calls-after acts-after : List ℕ) →
+    (q : Seen) (line said : Line) (at : ℕ) (r : Scanned) (catalog calls acts catalog-after calls-after acts-after : List ℕ) →
     line ≡ said →
-    LeadsFrom q calls acts (λ v. takes v said at) r calls-after acts-after →
-    LeadsFrom q calls acts (λ v. takes v line at) r calls-after acts-after
-line-says q line said at r calls acts calls-after acts-after e h = rw e h
+    LeadsFrom q catalog calls acts (λ v. takes v said at) r catalog-after calls-after acts-after →
+    LeadsFrom q catalog calls acts (λ v. takes v line at) r catalog-after calls-after acts-after
+line-says q line said at r catalog calls acts catalog-after calls-after acts-after e h = rw e h
 
 pub line-refused :
-    (q : Seen) (x : Refusal) (at : ℕ) (r : Scanned) (calls acts : List ℕ) →
+    (q : Seen) (x : Refusal) (at : ℕ) (r : Scanned) (catalog calls acts : List ℕ) →
     r .verdict ≡ Refused x →
-    LeadsFrom q calls acts (λ v. takes v (RefusedLine x) at) r calls acts
+    LeadsFrom q catalog calls acts (λ v. takes v (RefusedLine x) at) r catalog calls acts
 unfolding takes
-line-refused q x at r calls acts t v h = t
+line-refused q x at r catalog calls acts t v h = t
 
 pub line-number : (line : Line) (i b l w : ℕ) → line ≡ ItemLine i b l w → Numbered line → i ≤ 255
 line-number line i b l w e h = subst Numbered e h

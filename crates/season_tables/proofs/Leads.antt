@@ -76,33 +76,33 @@ line-numbered table fs n (ActLine place act) e = tt
 line-numbered table fs n (RefusedLine r) e = tt
 
 -- and so for the struct
-module _ (q : Seen) (calls acts l : List ℕ) (fs : List Field) (n : ℕ) (r : Scanned) where
+module _ (q : Seen) (catalog calls acts l : List ℕ) (fs : List Field) (n : ℕ) (r : Scanned) where
   pub lead-names :
       (right : Bool) →
       q .named ≡ false →
       right ≡ sameBytes l (heading (q .table)) →
       LeadsBy q (λ v. cond right (on (nowNamed v)) (stop (Heading n))) r →
-      LineLeads q calls acts l fs n r calls acts
+      LineLeads q catalog calls acts l fs n r catalog calls acts
   lead-names right e f led v h looked =
       let same : right ≡ sameBytes l (heading (v .table)) = f ∙ ap (λ (t : ℕ). sameBytes l (heading t)) (h .table) in
-      subst (λ (x : Led). Leads x r calls acts)
+      subst (λ (x : Led). Leads x r catalog calls acts)
       (ap (λ (t : Bool). cond t (on (nowNamed v)) (stop (Heading n))) same ∙ sym (leads-names v l n (sym (h .named) ∙ e)))
-      (led calls acts v h)
+      (led catalog calls acts v h)
 
-  same-wants : (v : Sofar) → Holds q calls acts v → q .named ≡ true → wantsValues (v .named) (v .table) (v .k) (length l) ≡ wantsValues true (q .table) (q .k) (length l)
+  same-wants : (v : Sofar) → Holds q catalog calls acts v → q .named ≡ true → wantsValues (v .named) (v .table) (v .k) (length l) ≡ wantsValues true (q .table) (q .k) (length l)
   same-wants v h e = λ i. wantsValues ((sym (h .named) ∙ e) i) (sym (h .table) i) (sym (h .k) i) (length l)
 
   pub lead-values :
-      (line : Line) (calls-after acts-after : List ℕ) →
+      (line : Line) (catalog-after calls-after acts-after : List ℕ) →
       q .named ≡ true →
       wantsValues true (q .table) (q .k) (length l) ≡ true →
       line ≡ lineIn (q .table) fs n →
-      LeadsFrom q calls acts (λ v. takes v line n) r calls-after acts-after →
-      LineLeads q calls acts l fs n r calls-after acts-after
-  lead-values line calls-after acts-after e f g led v h looked =
+      LeadsFrom q catalog calls acts (λ v. takes v line n) r catalog-after calls-after acts-after →
+      LineLeads q catalog calls acts l fs n r catalog-after calls-after acts-after
+  lead-values line catalog-after calls-after acts-after e f g led v h looked =
       let wants = same-wants v h e ∙ f in
       let same : line ≡ lineIn (v .table) (fieldsOf l) n = g ∙ (λ i. lineIn (h .table i) (looked wants i) n) in
-      subst (λ (x : Led). Leads x r calls-after acts-after)
+      subst (λ (x : Led). Leads x r catalog-after calls-after acts-after)
       (ap (λ (x : Line). takes v x n) same ∙ sym (leads-values v l n wants))
       (led v h)
 
@@ -110,8 +110,8 @@ module _ (q : Seen) (calls acts l : List ℕ) (fs : List Field) (n : ℕ) (r : S
       q .named ≡ true →
       wantsValues true (q .table) (q .k) (length l) ≡ false →
       LeadsBy q (λ v. cond (eqb (length l) 0) (on (nextTable v)) (stop (Malformed n))) r →
-      LineLeads q calls acts l fs n r calls acts
+      LineLeads q catalog calls acts l fs n r catalog calls acts
   lead-blank e f led v h looked =
-      subst (λ (x : Led). Leads x r calls acts)
+      subst (λ (x : Led). Leads x r catalog calls acts)
       (sym (leads-blank v l n (sym (h .named) ∙ e) (same-wants v h e ∙ f)))
-      (led calls acts v h)
+      (led catalog calls acts v h)

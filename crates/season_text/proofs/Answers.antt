@@ -2,7 +2,8 @@
 use mathlib.Core.Path.{_≡_, refl, sym, ap, subst, _∙_}
 use mathlib.Core.List.{List}
 use Prim.Native.Nat.{ℕ, _+_, _*_, _-_, _≤_, _<_}
-use lib.ListN.{length}
+use lib.ListN.{length, take}
+use lib.Seq.{length-take-le, take-take}
 use native.Mathlib.Omega.{arith}
 use native.Mathlib.Nat.{mul-le-mul}
 use borrow.Author.Tests.{le-leb, lt-leb}
@@ -12,7 +13,9 @@ use Rattle.landlord.specs.Figures.{Standing, totalCost}
 use Rattle.landlord.specs.Plan.{Priced, costs, fault}
 use Rattle.cache_state.specs.Cache.{Cache}
 use Rattle.cache_state.specs.View.{view}
-use Rattle.cache_state.specs.Becomes.{Becomes}
+use Rattle.catalog_bytes.specs.Catalogs.{catalogIn}
+use Rattle.layout.specs.Layout.{cacheOf}
+use Rattle.report.specs.declared.Rival.{Rival}
 use Rattle.report.specs.declared.Rival.the-variants.{Priced as Against}
 use Rattle.report.specs.declared.Written.{Written}
 use Rattle.report.specs.declared.Written.the-variants.{Refused}
@@ -30,20 +33,21 @@ use Rattle.season_plan.specs.declared.Price.the-variants.{Cost, Refused as Faul
 use Rattle.season_plan.specs.Plans.{priceOf, answerTo}
 use Rattle.season_plan.specs.Copies.{Priceable, PricedAs}
 use Rattle.season_text.specs.Answer.{Outcome, refused, reported, closedSeason, leftOf, rightOf, reportAgainst, priced, judged, outcomeOf, answerOn, pageWith, Answered, ReportFits}
-use Rattle.season_text.specs.Runs.{Closes, Comparable, Reportable, Reports, against}
-use Rattle.season_text.proofs.Season.{text-valid}
+use Rattle.season_text.specs.Runs.{ClosedAt, Closes, Comparable, Reportable, Reports, against}
 use Rattle.season_tables.proofs.Sound.{accepted-sound}
 use Rattle.report.proofs.Longest.{no-longer}
 
--- an accepted text in the slices
-pub record Reads (s : List ℕ) (x : Seen) (calls acts : List ℕ) : Type 0 where
+-- an accepted text in the slices, of which the first has the bytes of its items alone
+pub record Reads (s : List ℕ) (x : Seen) (xs calls acts : List ℕ) : Type 0 where
   pub text : Sofar
   pub reads : readingOf s ≡ on text
-  pub holds : Holds x calls acts text
+  pub holds : Holds x xs calls acts text
   pub sound : Sound text
+  pub items : length xs ≡ 5 * x .n
   pub fewSteps : x .steps ≤ 10922
   pub fewActs : x .acts ≤ 10922
-  pub roomy : Roomy calls acts
+  pub forSteps : length calls ≡ 43692
+  pub forActs : length acts ≡ 32769
 
 -- what a verdict or a price holds, told apart by its case
 abbrev stopOf : Verdict → Refusal
@@ -72,50 +76,78 @@ not-taken x e = subst isStopped e tt
 not-cost : (x : Refusal) (c : ℕ) → Faulty x ≡ Cost c → ⊥
 not-cost x c e = subst isFaulty e tt
 
+-- what has been read is held in the bytes of the items read
+items-hold : (x : Seen) (catalog calls acts : List ℕ) (v : Sofar) → Holds x catalog calls acts v → Holds x (take (5 * x .n) catalog) calls acts v
+items-hold x catalog calls acts v h =
+    record {
+      table = h .table;
+      named = h .named;
+      k = h .k;
+      h = h .h;
+      few = h .few;
+      items = ap catalogIn (take-take (5 * x .n) (5 * x .n) catalog (omega arith)) ∙ h .items;
+      itemCount = h .itemCount;
+      stepCount = h .stepCount;
+      actCount = h .actCount;
+      last = h .last;
+      stepsNoted = h .stepsNoted;
+      actsNoted = h .actsNoted;
+    }
+
+-- no more items are read than a catalog may have
+pub items-few : (led : Led) (r : Scanned) (catalog calls acts : List ℕ) → Leads led r catalog calls acts → r .verdict ≡ Taken → r .seen .n ≤ 256
+items-few (on v) r catalog calls acts l e = l .1 .few
+items-few (stop x) r catalog calls acts l e = absurd (not-taken x (sym l ∙ e))
+
 -- the scan took every line
 pub taken-reads :
-    (s : List ℕ) (r : Scanned) (calls acts : List ℕ) →
+    (s : List ℕ) (r : Scanned) (catalog calls acts : List ℕ) →
     length s ≤ 65536 →
-    Leads (readingOf s) r calls acts →
+    Leads (readingOf s) r catalog calls acts →
     Few (readingOf s) r →
-    Roomy calls acts →
+    Roomy catalog calls acts →
     r .verdict ≡ Taken →
-    Reads s (r .seen) calls acts
-taken-reads s r calls acts short leads few roomy e = go (readingOf s) refl leads few
+    Reads s (r .seen) (take (5 * r .seen .n) catalog) calls acts
+taken-reads s r catalog calls acts short leads few roomy e = go (readingOf s) refl leads few
   where
-    go : (led : Led) → readingOf s ≡ led → Leads led r calls acts → Few led r → Reads s (r .seen) calls acts
+    go : (led : Led) → readingOf s ≡ led → Leads led r catalog calls acts → Few led r → Reads s (r .seen) (take (5 * r .seen .n) catalog) calls acts
     go (on v) is l f =
         record {
           text = v;
           reads = is;
-          holds = l .1;
+          holds = items-hold (r .seen) catalog calls acts v (l .1);
           sound = accepted-sound s v short is;
+          items = length-take-le (5 * r .seen .n) catalog (omega (arith, l .1 .few, roomy .forItems));
           fewSteps = f .0;
           fewActs = f .1;
-          roomy = roomy;
+          forSteps = roomy .forSteps;
+          forActs = roomy .forActs;
         }
     go (stop x) is l f = absurd (not-taken x (sym l ∙ e))
 
-pub priceable : (s : List ℕ) (x : Seen) (calls acts : List ℕ) → Reads s x calls acts → Priceable x calls acts
-priceable s x calls acts r =
+pub priceable : {s : List ℕ} {x : Seen} {xs calls acts : List ℕ} → Reads s x xs calls acts → Priceable x xs calls acts
+priceable r =
     record {
       text = r .text;
       holds = r .holds;
       sound = r .sound;
+      items = r .items;
       fewSteps = r .fewSteps;
       fewActs = r .fewActs;
-      forSteps = r .roomy .forSteps;
-      forActs = r .roomy .forActs;
+      forSteps = r .forSteps;
+      forActs = r .forActs;
     }
 
-pub reportable : (s : List ℕ) (x : Seen) (calls acts : List ℕ) (cost : ℕ) → Reads s x calls acts → cost ≤ 1000000000000 → Reportable x calls cost
-reportable s x calls acts cost r small =
+pub reportable : {s : List ℕ} {x : Seen} {xs calls acts : List ℕ} {cost : ℕ} → Reads s x xs calls acts → cost ≤ 1000000000000 → Reportable x xs calls cost
+reportable {acts = acts} r small =
     record {
       text = r .text;
       acts = acts;
       holds = r .holds;
       sound = r .sound;
-      closable = record { few = r .fewSteps; places = r .roomy .forSteps };
+      few = r .fewSteps;
+      places = r .forSteps;
+      items = r .items;
       small = small;
     }
 
@@ -146,26 +178,27 @@ short-outcome s led l e = rw (le-leb (length s) 65536 l) (ap judged e)
 
 -- the first faulty line decides
 pub line-refused :
-    (s page : List ℕ) (r : Scanned) (calls acts : List ℕ) (x : Refusal) →
+    (s page : List ℕ) (r : Scanned) (catalog calls acts : List ℕ) (x : Refusal) →
     length s ≤ 65536 →
-    Leads (readingOf s) r calls acts →
+    Leads (readingOf s) r catalog calls acts →
     r .verdict ≡ Stopped x →
     Tells s page (Refused x) page
-line-refused s page r calls acts x short leads e = go (readingOf s) refl leads
+line-refused s page r catalog calls acts x short leads e = go (readingOf s) refl leads
   where
-    go : (led : Led) → readingOf s ≡ led → Leads led r calls acts → Tells s page (Refused x) page
+    go : (led : Led) → readingOf s ≡ led → Leads led r catalog calls acts → Tells s page (Refused x) page
     go (on v) is l = absurd (not-taken x (sym e ∙ l .0))
     go (stop y) is l =
         answers s page page (Refused x) (refused y) (short-outcome s (stop y) short is) (ap (λ (z : Verdict). Refused (stopOf z)) (sym e ∙ l)) refl tt
 
 -- then the plan's first fault
 pub plan-refused :
-    (s page : List ℕ) (x : Seen) (calls acts : List ℕ) (y : Refusal) →
+    {s : List ℕ} (page : List ℕ) {x : Seen} {xs calls acts : List ℕ} {p : Price} (y : Refusal) →
     length s ≤ 65536 →
-    Reads s x calls acts →
-    PricedAs x calls acts (Faulty y) →
+    Reads s x xs calls acts →
+    PricedAs x xs calls acts p →
+    p ≡ Faulty y →
     Tells s page (Refused y) page
-plan-refused s page x calls acts y short r h = go (priceOf (r .text)) refl (h (r .text) (r .holds) (r .sound))
+plan-refused {s = s} page y short r h told = go (priceOf (r .text)) refl (sym told ∙ h (r .text) (r .holds) (r .sound))
   where
     go : (p : Priced) → priceOf (r .text) ≡ p → Faulty y ≡ answerTo (r .text) p → Tells s page (Refused y) page
     go (costs c) is e = absurd (not-cost y c e)
@@ -174,13 +207,14 @@ plan-refused s page x calls acts y short r h = go (priceOf (r .text)) refl (h (r
 
 -- else the report
 pub season-reported :
-    (s before : List ℕ) (x : Seen) (calls acts : List ℕ) (cost : ℕ) (w : Written) (after : List ℕ) →
+    {s before : List ℕ} {x : Seen} {xs calls acts : List ℕ} {p : Price} {cost : ℕ} {w : Written} {after : List ℕ} →
     length s ≤ 65536 →
-    Reads s x calls acts →
-    PricedAs x calls acts (Cost cost) →
-    Reports x calls cost before w after →
+    Reads s x xs calls acts →
+    PricedAs x xs calls acts p →
+    p ≡ Cost cost →
+    Reports x xs calls cost before w after →
     Tells s before w after
-season-reported s before x calls acts cost w after short r h put = go (priceOf (r .text)) refl (h (r .text) (r .holds) (r .sound))
+season-reported {s = s} {before = before} {acts = acts} {cost = cost} {w = w} {after = after} short r h told put = go (priceOf (r .text)) refl (sym told ∙ h (r .text) (r .holds) (r .sound))
   where
     go : (p : Priced) → priceOf (r .text) ≡ p → Cost cost ≡ answerTo (r .text) p → Tells s before w after
     go (costs c) is e =
@@ -189,17 +223,17 @@ season-reported s before x calls acts cost w after short r h put = go (priceOf (
         answers s before after w (reported (reportAgainst (r .text) c)) (short-outcome s (on (r .text)) short (r .reads) ∙ ap (priced (r .text)) is) (q .0 .answer) (q .0 .page) (q .1)
     go (fault f) is e = absurd (not-cost _ cost (sym e))
 
--- the report of the season's cache, with both sides of the bound, is the text's
+-- the report of a state where the closed season stands, with both sides of the bound, is the text's
 same-report :
-    (x : Seen) (calls acts : List ℕ) (v : Sofar) (cost : ℕ) (c : Cache) →
-    Holds x calls acts v →
-    Becomes (closedSeason v) c →
+    (x : Seen) (xs calls acts : List ℕ) (v : Sofar) (cost : ℕ) (c : Cache) →
+    Holds x xs calls acts v →
+    view c ≡ closedSeason v →
     reportOf (view c) (against (x .k) (x .h) cost c) ≡ reportAgainst v cost
-same-report x calls acts v cost c holds b =
-    ap (λ (z : Standing). reportOf z (against (x .k) (x .h) cost c)) (b .stands) ∙ ap (reportOf (closedSeason v)) figures
+same-report x xs calls acts v cost c holds stands =
+    ap (λ (z : Standing). reportOf z (against (x .k) (x .h) cost c)) stands ∙ ap (reportOf (closedSeason v)) figures
   where
     total : c .loadcost + c .writecost ≡ totalCost (closedSeason v .figures)
-    total = ap (λ (z : Standing). totalCost (z .figures)) (b .stands)
+    total = ap (λ (z : Standing). totalCost (z .figures)) stands
 
     figures : against (x .k) (x .h) cost c ≡ Against cost (leftOf v) (rightOf v cost)
     figures =
@@ -207,28 +241,29 @@ same-report x calls acts v cost c holds b =
         ∙ ap (λ (h : ℕ). against (v .k) h cost c) (holds .h)
         ∙ ap (λ (z : ℕ). Against cost ((v .k - v .h + 1) * z) (v .k * cost)) total
 
--- the cache of a closed season and a plan's cost can be compared
+-- the state of a closed season and a plan's cost can be compared
 pub comparable :
-    (x : Seen) (calls : List ℕ) (cost : ℕ) (c : Cache) →
-    Reportable x calls cost →
-    Closes x calls c →
-    Comparable (x .k) (x .h) cost c
-comparable x calls cost c r closes =
+    (x : Seen) (xs calls : List ℕ) (cost : ℕ) (state : List ℕ) →
+    Reportable x xs calls cost →
+    Closes x xs calls state →
+    Comparable (x .k) (x .h) cost state
+comparable x xs calls cost state r closes =
     let h = r .holds in
     let ok = r .sound in
     record {
-      valid = text-valid (r .text) c ok (closes (r .acts) (r .text) h ok);
+      valid = closes (r .acts) (r .text) h ok .valid;
       capacity = subst (λ (k : ℕ). k ≤ 4096) (sym (h .k)) (ok .capacity .high);
       low = subst (λ (z : ℕ). 1 ≤ z) (sym (h .h)) (ok .rivalLow);
       high = subst (λ (z : ℕ). z ≤ x .k) (sym (h .h)) (subst (λ (z : ℕ). r .text .h ≤ z) (sym (h .k)) (ok .rivalHigh));
       small = r .small;
     }
 
--- a total, and so each side of the bound, fits its word
-figures-fit : (k h cost : ℕ) (c : Cache) → Comparable k h cost c → RivalFits (against k h cost c)
-figures-fit k h cost c ok =
-    let r = ok .valid .rule in
-    let left : (k - h + 1) * (c .loadcost + c .writecost) ≤ 4096 * 131070000000 =
+-- a total, and so each side of the bound, fits its word: a valid state has loaded and written back at most 1,000,000 times each, at
+-- 65,535 at most
+pub figures-fit : (k h cost : ℕ) (state : List ℕ) → Comparable k h cost state → RivalFits (against k h cost (cacheOf state))
+figures-fit k h cost state ok =
+    let r = ok .valid .cache .rule in
+    let left : (k - h + 1) * (cacheOf state .loadcost + cacheOf state .writecost) ≤ 4096 * 131070000000 =
     mul-le-mul {n₂ = 4096} {m₂ = 131070000000} (omega (arith, ok .capacity, ok .low, ok .high))
     (omega (arith, r .loadCost, r .writeCost, r .steps, r .taken, r .writebacks)) in
     let right : k * cost ≤ 4096 * 1000000000000 = mul-le-mul (ok .capacity) (ok .small) in
@@ -236,14 +271,15 @@ figures-fit k h cost c ok =
 
 -- the report of an accepted text, on the page
 pub reports-season :
-    (x : Seen) (calls acts : List ℕ) (v : Sofar) (cost : ℕ) (c : Cache) (before : List ℕ) (w : Written) (after : List ℕ) →
-    Holds x calls acts v →
-    Becomes (closedSeason v) c →
-    Comparable (x .k) (x .h) cost c →
-    Put (reportOf (view c) (against (x .k) (x .h) cost c)) before w after →
+    {x : Seen} {xs calls acts : List ℕ} {v : Sofar} {cost : ℕ} {state before : List ℕ} {rival : Rival} {w : Written} {after : List ℕ} →
+    Holds x xs calls acts v →
+    ClosedAt (closedSeason v) state →
+    Comparable (x .k) (x .h) cost state →
+    rival ≡ against (x .k) (x .h) cost (cacheOf state) →
+    Put (reportOf (view (cacheOf state)) rival) before w after →
     Put (reportAgainst v cost) before w after × (length (reportAgainst v cost) ≤ longest)
-reports-season x calls acts v cost c before w after holds b ok put =
-    let same = same-report x calls acts v cost c holds b in (
-      subst (λ (t : List ℕ). Put t before w after) same put,
-      subst (λ (t : List ℕ). length t ≤ longest) same (no-longer c (against (x .k) (x .h) cost c) (ok .valid) (figures-fit (x .k) (x .h) cost c ok)),
+reports-season {x = x} {xs = xs} {calls = calls} {acts = acts} {v = v} {cost = cost} {state = state} {before = before} {w = w} {after = after} holds closed ok e put =
+    let same = same-report x xs calls acts v cost (cacheOf state) holds (closed .stands) in (
+      subst (λ (t : List ℕ). Put t before w after) (ap (reportOf (view (cacheOf state))) e ∙ same) put,
+      subst (λ (t : List ℕ). length t ≤ longest) same (no-longer (cacheOf state) (against (x .k) (x .h) cost (cacheOf state)) (ok .valid .cache) (figures-fit (x .k) (x .h) cost state ok)),
     )

@@ -1,5 +1,5 @@
--- Laws of a text's steps as the numbers of calls, with the closing stored behind them: they stand for the text's calls, so the cache
--- that runs them is that of the closed season. Assumes nothing.
+-- Laws of a text's steps as the numbers of calls, with the closing stored behind them: they stand for the text's calls, so the state
+-- that they lead to is that of the closed season. Assumes nothing.
 use mathlib.Core.Path.{_≡_, refl, sym, ap, _∙_}
 use mathlib.Core.List.{List, [], _∷_, _++_, map}
 use Prim.Native.Nat.{ℕ, zero, suc, _+_, _*_, _/_, _≤_, _<_}
@@ -12,12 +12,15 @@ use Rattle.landlord.specs.Fold.{tabFrom}
 use Rattle.landlord.specs.Calls.{Call, close, callOf}
 use Rattle.landlord.proofs.Folds.{tab-of}
 use Rattle.landlord.proofs.Calls.{opening-accepts}
-use Rattle.cache.specs.declared.Reply.{Reply}
-use Rattle.cache.specs.Contract.{catalogFrom}
-use Rattle.cache.specs.Run.{callFrom, callAt, callsOf, Ran}
-use Rattle.cache.proofs.Runs.{count-is, call-is}
+use Rattle.catalog_bytes.specs.Catalogs.{catalogIn}
+use Rattle.cache.specs.Contract.{lent, openingNumber}
+use Rattle.cache.specs.Chain.{Season, SeasonLent}
+use Rattle.cache.specs.Run.{callFrom, callAt, callsOf, RanLent}
+use Rattle.cache.proofs.Openings.{asks}
+use Rattle.cache.proofs.Runs.{count-is, call-at}
 use Rattle.season_tables.specs.declared.Seen.{Seen}
 use Rattle.season_tables.specs.Holds.{callNumbers}
+use Rattle.season_plan.proofs.Places.{catalog-is}
 use Rattle.season_text.specs.Claims.{callsIn}
 use Rattle.season_text.specs.Runs.{Closable, Closes}
 use Rattle.season_text.proofs.Season.{text-stands}
@@ -39,7 +42,7 @@ calls-more a b c d xs =
     each (suc i) l =
         let at = 4 * i in
         let at' = 4 * suc i in
-        call-is xs i (omega arith)
+        call-at xs i at (omega arith) refl
         ∙ (λ z. callFrom (behind at at' (omega arith) z) (behind (at + 1) (at' + 1) (omega arith) z) (behind (at + 2) (at' + 2) (omega arith) z) (behind (at + 3) (at' + 3) (omega arith) z))
 
 -- the numbers of the steps, and behind them a 1 with three numbers more, are the steps as calls and one closing
@@ -58,20 +61,25 @@ store-closes l n b =
     ∙ ap (λ (m : ℕ). take (m + 4) (take n l ++ rest)) (sym (length-take-le n l (omega arith)))
     ∙ take-append-add (take n l) rest 4
 
--- whatever accepted text the slice holds, the run of it and of the closing behind it is that of the text's calls
+-- whatever accepted text the slices hold, the run of it and of the closing behind it is that of the text's calls
 pub season-closes :
-    (x : Seen) (calls before after : List ℕ) (r : Reply) →
-    Closable x calls →
-    Ran (x .k) (catalogFrom (x .n) (x .blocks) (x .load) (x .write)) (callsOf (take (4 * x .steps + 4) (set calls (4 * x .steps) 1))) before after r →
-    Closes x calls (r .cache)
-season-closes x calls before after r c ran acts v h ok =
+    (x : Seen) (xs calls state before after : List ℕ) (number : ℕ) (left : List ℕ) →
+    Closable x xs calls state →
+    RanLent state (x .k) xs (callsOf (take (4 * x .steps + 4) (set calls (4 * x .steps) 1))) before after number left →
+    Closes x xs calls left
+season-closes x xs calls state before after number left c ran acts v h ok =
     let end : ℕ = 4 * x .steps in
     let room : end + 4 ≤ length calls = omega (arith, c .few, c .places) in
     let more : List ℕ = take 3 (drop (suc end) calls) in
     let three : length more ≡ 3 = length-take-le 3 (drop (suc end) calls) (omega (arith, length-drop (suc end) calls)) in
+    let items : catalogIn xs ≡ v .catalog = catalog-is x xs calls acts v h (c .items) in
     let same : callsOf (take (end + 4) (set calls end 1)) ≡ callsIn v =
     ap callsOf (store-closes calls end room ∙ ap (λ (z : List ℕ). z ++ (1 ∷ more)) (h .stepsNoted)) ∙ numbers-close (v .steps) more three
     in
-    let run : Ran (v .k) (v .catalog) (callsIn v) before after r = rw (h .k, h .catalog, same) at ran in
-    let so = run .season (run .number ∙ opening-accepts (v .k) (v .catalog) (ok .capacity) (ok .catalog)) .0 in
-    record { stands = text-stands v ok (run .numbers) (r .cache) so; fields = so .valid .fields }
+    let opens : openingNumber (length state) (x .k) xs ≡ 0 =
+    asks (length state) (x .k) xs (record { state = c .room; whole = omega (arith, c .items); few = omega (arith, c .items, h .few) })
+    ∙ rw (h .k, items) (opening-accepts (v .k) (v .catalog) (ok .capacity) (ok .catalog))
+    in
+    let run : SeasonLent (x .k) (catalogIn xs) (callsOf (take (end + 4) (set calls end 1))) (ran .numbers) left = ran .season (ran .answer ∙ opens) .0 in
+    let so : Season lent (v .k) (v .catalog) (callsIn v) (ran .numbers) left = rw (h .k, items, same) at (run .season) in
+    record { valid = so .valid; stands = text-stands v ok (ran .numbers) left so }

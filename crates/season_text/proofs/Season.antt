@@ -1,4 +1,4 @@
--- An accepted text as a list of calls: each is accepted, the log is the text's steps and the closing, and so every cache that such
+-- An accepted text as a list of calls: each is accepted, the log is the text's steps and the closing, and so every state that such
 -- calls lead to stands where the rule stands over the closed season, within the wear bound of the text's plan. Assumes nothing.
 use mathlib.Core.Path.{_≡_, refl, ap, subst, _∙_}
 use mathlib.Core.Bool.{true, false}
@@ -22,14 +22,11 @@ use Rattle.landlord.proofs.Folds.{fold-append}
 use Rattle.landlord.proofs.Slots.{write-first-ok}
 use Rattle.landlord.proofs.Calls.{allowed-logged, opening-accepts}
 use Rattle.landlord.proofs.Wear.{wear-bound}
-use Rattle.landlord.specs.Valid.{StandingOk}
-use Rattle.landlord.proofs.Valid.{ok-over}
-use Rattle.cache_state.specs.Cache.{Cache}
 use Rattle.cache_state.specs.View.{view}
-use Rattle.cache_state.specs.Valid.{Valid}
-use Rattle.cache_state.specs.Becomes.{Becomes}
+use Rattle.layout.specs.Layout.{cacheOf}
+use Rattle.cache.specs.Contract.{lent}
 use Rattle.cache.specs.Chain.{Season}
-use Rattle.cache.proofs.Season.{season-by-value, becomes-valid}
+use Rattle.cache.proofs.Season.{season-lent}
 use Rattle.season_tables.specs.Tables.{Sofar}
 use Rattle.season_tables.specs.Sound.{Sound}
 use Rattle.season_plan.specs.Plans.{planOf, priceOf}
@@ -69,8 +66,8 @@ module _ (v : Sofar) (ok : Sound v) where
       fold-append (joins (v .k) (v .catalog)) noLog (map callOf (v .steps)) (close ∷ [])
       ∙ ap (λ (l : Log). joins (v .k) (v .catalog) l close) (allowed-logged (v .k) (v .catalog) (v .steps) (ok .allowed))
 
-  -- where the season theorem says that a cache stands after these calls
-  pub text-stands : (numbers : List ℕ) (d : Cache) → Season (v .k) (v .catalog) (callsIn v) numbers d → view d ≡ closedSeason v
+  -- where the season theorem says that a state stands after these calls
+  pub text-stands : (numbers d : List ℕ) → Season lent (v .k) (v .catalog) (callsIn v) numbers d → view (cacheOf d) ≡ closedSeason v
   unfolding ruleOver
   text-stands numbers d so = so .stands ∙ ap (ruleOver writeFirst (v .k) (v .catalog)) text-log
 
@@ -93,19 +90,12 @@ module _ (v : Sofar) (ok : Sound v) where
           let b : i < length (v .steps) = omega arith in
           rw (asked i, call-at-step (v .steps) i b) (ok .allowed .each i b)
 
--- the figures reported are those of every such cache, and left is at most right
+-- the figures reported are those of every such state, and left is at most right
 pub text-compared : (v : Sofar) (cost : ℕ) → Sound v → priceOf v ≡ costs cost → Compared v cost
 text-compared v cost ok e =
     record {
-      figures = λ numbers d chain. text-stands v ok numbers d (season-by-value (v .k) (v .catalog) (callsIn v) numbers d chain);
+      figures = λ xs numbers d same chain.
+          text-stands v ok numbers d (subst (λ (cat : Catalog). Season lent (v .k) cat (callsIn v) numbers d) same (season-lent (v .k) xs (callsIn v) numbers d chain .season));
       bound = subst (λ (n : ℕ). n ≤ rightOf v cost) (mul-comm (totalCost (closedSeason v .figures)) (v .k - v .h + 1))
           (wear-bound writeFirst write-first-ok (v .k) (v .catalog) (ok .catalog) (v .steps) (ok .allowed) (v .h) (ok .rivalLow) (ok .rivalHigh) (planOf (v .acts)) cost e);
     }
-
--- the cache of a closed season is valid
-pub text-valid : (v : Sofar) (r : Cache) → Sound v → Becomes (closedSeason v) r → Valid r
-unfolding ruleOver
-text-valid v r ok h =
-    becomes-valid (closedSeason v) r
-    (subst (λ (l : Log). StandingOk (ruleOver writeFirst (v .k) (v .catalog) l)) (text-log v ok) (ok-over writeFirst (v .k) (v .catalog) (callsIn v) write-first-ok (ok .capacity) (ok .catalog)))
-    h

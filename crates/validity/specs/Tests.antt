@@ -6,19 +6,6 @@ use Prim.Native.Nat.{ℕ, _+_, _*_, _≤_, _∣_}
 use Rattle.landlord.specs.Catalog.{full}
 use Rattle.landlord.specs.Figures.{Totals}
 
--- nothing stands at a place: "empty, with counts 0", and 0 in the catalog's arrays too
-pub record Nothing (blocks load write : ℕ) (held : Bool) (loadCredit writeCredit : ℕ) (marked : Bool) (tenths loads writebacks : ℕ) : Type 0 where
-  pub noBlocks : blocks ≡ 0
-  pub noLoad : load ≡ 0
-  pub noWrite : write ≡ 0
-  pub notHeld : held ≡ false
-  pub noLoadCredit : loadCredit ≡ 0
-  pub noWriteCredit : writeCredit ≡ 0
-  pub notMarked : marked ≡ false
-  pub noTenths : tenths ≡ 0
-  pub noLoads : loads ≡ 0
-  pub noWritebacks : writebacks ≡ 0
-
 -- a credit is a multiple of the item's blocks, and at most its cost in shares
 pub record CreditOk (blocks cost credit : ℕ) : Type 0 where
   pub whole : blocks ∣ credit

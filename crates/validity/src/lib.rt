@@ -1,56 +1,11 @@
-// The tests of which the check of a cache is made, on plain numbers: of one place, of the totals and of the sums over the items.
+// The tests of which the check of a cache is made, on plain numbers: of one item, of the totals and of the sums over the items.
 // They take any values: nothing is divided by the blocks of an item before they are known to be some, and every sum and
 // product of counts is made in 64 bits, where it cannot wrap.
 ghost use mathlib.Core.Path.{_≡_};
 ghost use Prim.Native.Nat.{_≤_};
 ghost use Rattle.landlord.specs.Figures.{totalsOf};
 ghost use Rattle.validity.specs.Decided.{Decided};
-ghost use Rattle.validity.specs.Tests.{Nothing, CreditOk, MarksOk, EntryOk, CountsOk, SumsOk};
-
-// Whether a place past the catalog is blank.
-pub fn blank(
-    blocks: u8,
-    load: u16,
-    write: u16,
-    held: bool,
-    loadcredit: u64,
-    writecredit: u64,
-    marked: bool,
-    tenths: u32,
-    loads: u32,
-    writebacks: u32,
-) -> bool
-    ensures { λ r. ⌜ Decided (Nothing blocks load write held loadcredit writecredit marked tenths loads writebacks) r ⌝ }
-{
-    if held {
-        return false;
-    }
-    if marked {
-        return false;
-    }
-    if blocks != 0 {
-        return false;
-    }
-    if load != 0 {
-        return false;
-    }
-    if write != 0 {
-        return false;
-    }
-    if loadcredit != 0 {
-        return false;
-    }
-    if writecredit != 0 {
-        return false;
-    }
-    if tenths != 0 {
-        return false;
-    }
-    if loads != 0 {
-        return false;
-    }
-    writebacks == 0
-}
+ghost use Rattle.validity.specs.Tests.{CreditOk, MarksOk, EntryOk, CountsOk, SumsOk};
 
 // Whether a credit is a multiple of the item's blocks, and no more than the cost in shares.
 fn credit_ok(blocks: u8, cost: u16, credit: u64) -> bool

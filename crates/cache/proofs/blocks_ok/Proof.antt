@@ -1,35 +1,30 @@
 -- `cache::blocks_ok` meets its contract: the items passed are in range. Assumes nothing.
+use mathlib.Core.Path.{_≡_}
 use Prim.Native.Nat.{_≤_, _-_}
 use native.Mathlib.Omega.{arith}
-use borrow.Author.Needs.{needs}
-use mathlib.Core.Path.{_≡_}
-use Rattle.cache.specs.Opening.{BlocksOk}
-use Rattle.cache.proofs.Openings.{decided-yes, decided-no, no-blocks, more-blocks}
+use Rattle.validity.proofs.Decides.{no, sure}
+use Rattle.cache.specs.Opening.{BlocksIn}
+use Rattle.cache.proofs.Openings.{has-item, no-blocks, more-blocks}
 use Rattle.cache.proofs.blocks_ok.Statement.{statement}
 use Rattle.cache.proofs.blocks_ok.Tie as tie
-use Rattle.cache.proofs.blocks_ok.Reads as reads
-use Rattle.cache.proofs.blocks_ok.Lts as lts
 
 abbrev Inv-loop : tie.InvT-loop
-Inv-loop n blocks i₀ i = (i ≤ n) × BlocksOk i blocks
+Inv-loop catalog n i₀ i = (i ≤ n) × BlocksIn i catalog
 
 abbrev μ-loop : tie.MeasureT-loop
-μ-loop n blocks i₀ i = n - i
+μ-loop catalog n i₀ i = n - i
 
 loop-holds : tie.Need-loop-holds Inv-loop μ-loop
 loop-holds c = (omega arith, no-blocks _)
 
-array-read-if1 : tie.Need-array-read-if1 Inv-loop μ-loop
-array-read-if1 c = omega arith
+blocks-requires : tie.Need-blocks-requires Inv-loop μ-loop
+blocks-requires c κs = has-item (c .before .before .before .pre) (omega arith)
 
 returns : tie.Need-returns Inv-loop μ-loop
-returns c = decided-no (λ ok. omega (arith, ok .some (c .before .before .loop .i) (omega arith)))
-
-array-read-if2 : tie.Need-array-read-if2 Inv-loop μ-loop
-array-read-if2 c = omega arith
+returns c = no (λ ok. omega (arith, c .before .blocks2 .ensures, ok .some (c .before .before .before .loop .i) (omega arith)))
 
 returns-2 : tie.Need-returns-2 Inv-loop μ-loop
-returns-2 c = decided-no (λ ok. omega (arith, ok .small (c .before .before .before .loop .i) (omega arith)))
+returns-2 c = no (λ ok. omega (arith, c .before .before .blocks2 .ensures, ok .small (c .before .before .before .before .loop .i) (omega arith)))
 
 add-i : tie.Need-add-i Inv-loop μ-loop
 add-i c = omega arith
@@ -38,12 +33,12 @@ loop-less : tie.Need-loop-less Inv-loop μ-loop
 loop-less c = omega arith
 
 loop-again : tie.Need-loop-again Inv-loop μ-loop
-loop-again c = (omega arith, more-blocks _ (c .before .before .before .loop .i) (c .before .before .before .loop .inv .1) (omega arith) (omega arith))
+loop-again c = (omega arith, more-blocks _ (c .before .before .before .before .loop .i) (c .before .before .before .before .loop .inv .1) (omega (arith, c .before .before .blocks2 .ensures)) (omega (arith, c .before .before .blocks2 .ensures)))
 
 returns-3 : tie.Need-returns-3 Inv-loop μ-loop
 returns-3 c =
-    let e : c .before .loop .i ≡ c .before .before .args .n = omega arith in
-    decided-yes (rw e at (c .before .loop .inv .1))
+    let e : c .before .loop .i ≡ c .before .before .before .args .n = omega arith in
+    sure (rw e at (c .before .loop .inv .1))
 
 pub blocks-ok-spec : {M : Type 1} → statement M
 blocks-ok-spec =
@@ -52,9 +47,8 @@ blocks-ok-spec =
     Inv-loop
     μ-loop
     loop-holds
-    array-read-if1
+    blocks-requires
     returns
-    array-read-if2
     returns-2
     add-i
     loop-less

@@ -1,27 +1,32 @@
--- `cache::call` meets its contract. Assumes nothing.
+-- `cache::call` meets its contract: a step, or the closing. Assumes nothing.
+use Rattle.cache.proofs.Runs.{call-takes, call-closes}
+use borrow.Author.Needs.{needs}
 use Rattle.cache.proofs.call.Statement.{statement}
 use Rattle.cache.proofs.call.Tie as tie
-use Rattle.cache.proofs.call.Reads as reads
-use Rattle.cache.proofs.call.Lts as lts
-use Rattle.cache.proofs.shut_valid.Reads as shut-valid-reads
-use Rattle.cache.proofs.take_valid.Reads as take-valid-reads
-use Rattle.cache.proofs.Runs.{call-takes, call-closes}
 
-take-valid-requires : tie.Need-take-valid-requires
-take-valid-requires c κs = c .before .pre
+step-valid-requires : tie.Need-step-valid-requires
+step-valid-requires c κs = search needs
+
+same-length : tie.Need-same-length
+same-length c = search needs
 
 returns : tie.Need-returns
 returns c =
-    let a = c .before .before .args in
-    call-takes (a .c) (a .which) (a .kind) (a .item) (a .minutes) (c .take-valid .result) (c .before .if1 .taken) (c .take-valid .ensures)
+    let a = c .before .before .before .before .before .before .args in
+    call-takes (a .b .now) _ (a .which) (a .kind) (a .item) (a .minutes) _ (c .before .before .before .before .if1 .taken) (c .before .before .step-valid .ensures)
 
-shut-valid-requires : tie.Need-shut-valid-requires
-shut-valid-requires c κs = c .before .pre
+close-valid-requires : tie.Need-close-valid-requires
+close-valid-requires c κs = search needs
+
+same-length-2 : tie.Need-same-length-2
+same-length-2 c = search needs
 
 returns-2 : tie.Need-returns-2
 returns-2 c =
-    let a = c .before .before .args in
-    call-closes (a .c) (a .which) (a .kind) (a .item) (a .minutes) (c .shut-valid .result) (c .before .if1 .left) (c .shut-valid .ensures)
+    let a = c .before .before .before .before .before .before .args in
+    call-closes (a .b .now) _ (a .which) (a .kind) (a .item) (a .minutes) _ (c .before .before .before .before .if1 .left) (c .before .before .close-valid .ensures)
 
 pub call-spec : {M : Type 1} → statement M
-call-spec = tie.close (tie.spec take-valid-requires returns shut-valid-requires returns-2)
+call-spec =
+    tie.close
+    (tie.spec step-valid-requires same-length returns close-valid-requires same-length-2 returns-2)

@@ -1,7 +1,7 @@
 -- `cache::in_range` meets its contract: each way through the tests is a law of proofs/Table.antt. Assumes nothing.
+use Rattle.cache.proofs.Table.{range-read, range-write, range-wide, range-flush}
 use Rattle.cache.proofs.in_range.Statement.{statement}
 use Rattle.cache.proofs.in_range.Tie as tie
-use Rattle.cache.proofs.Table.{range-read, range-write, range-wide, range-flush}
 
 returns : tie.Need-returns
 returns c =

@@ -5,8 +5,6 @@ use lib.Seq.{set-out}
 use borrow.Author.Needs.{needs}
 use Rattle.cache.proofs.note.Statement.{statement}
 use Rattle.cache.proofs.note.Tie as tie
-use Rattle.cache.proofs.note.Reads as reads
-use Rattle.cache.proofs.note.Lts as lts
 
 mul-answers : tie.Need-mul-answers
 mul-answers c = search needs

@@ -1,65 +1,49 @@
--- `cache::open` meets its contract. Assumes nothing.
-use mathlib.Core.Path.{sym, _∙_}
-use mathlib.Core.Bool.{false≢true}
-use Prim.Native.Nat.{ℕ, _≤_}
+-- `cache::open` meets its contract: refused, the bytes stay; else they are cleared, and the catalog is stored. Assumes nothing.
+use mathlib.Core.Path.{refl}
 use native.Mathlib.Omega.{arith}
+use Rattle.layout.proofs.Places.{readable}
+use Rattle.cache.proofs.Openings.{right, opening-refused, opening-done}
 use borrow.Author.Needs.{needs}
-use lib.ListN.{getD}
-use mir.Val.{Fits}
-use mir.Syntax.{w16}
-use Rattle.cache.specs.Opening.{Opens}
-use Rattle.cache.proofs.Openings.{open-taken, open-refused}
 use Rattle.cache.proofs.open.Statement.{statement}
 use Rattle.cache.proofs.open.Tie as tie
-use Rattle.cache.proofs.open.Reads as reads
-use Rattle.cache.proofs.open.Lts as lts
-use Rattle.cache.proofs.opens.Reads as opens-reads
-use Rattle.cache.proofs.first_bytes.Reads as first-bytes-reads
-use Rattle.cache.proofs.first_costs.Reads as first-costs-reads
-use Rattle.cache.proofs.empty.Reads as empty-reads
 
-opens-requires : tie.Need-opens-requires
-opens-requires c κs = search needs
-
-first-bytes-requires : tie.Need-first-bytes-requires
-first-bytes-requires c κs = c .before .opens .ensures .yes (c .if1 .taken) .few
-
-first-costs-requires : tie.Need-first-costs-requires
-first-costs-requires c κs = c .before .before .opens .ensures .yes (c .before .if1 .taken) .few
-
-first-costs-requires-2 : tie.Need-first-costs-requires-2
-first-costs-requires-2 c κs = c .before .before .before .opens .ensures .yes (c .before .before .if1 .taken) .few
-
-empty-requires : tie.Need-empty-requires
-empty-requires c κs = search needs
+opening-refused-requires : tie.Need-opening-refused-requires
+opening-refused-requires c κs = search needs
 
 returns : tie.Need-returns
 returns c =
-    let a = c .before .before .before .before .before .before .args in
-    let o : Opens (a .k) (a .n) (a .blocks) = c .before .before .before .before .before .opens .ensures .yes (c .before .before .before .before .if1 .taken) in
-    let loads : (i : ℕ) → getD (a .load) i 0 ≤ 65535 = λ i. let f : Fits w16 (getD (c .before .before .before .before .before .before .args .load) i 0) = search needs in omega (arith, f .fits) in
-    let writes : (i : ℕ) → getD (a .write) i 0 ≤ 65535 = λ i. let f : Fits w16 (getD (c .before .before .before .before .before .before .args .write) i 0) = search needs in omega (arith, f .fits) in
-    open-taken (a .k) (a .n) (a .blocks) (a .load) (a .write) (c .before .before .before .first-bytes .result) (c .before .before .first-costs .result) (c .before .first-costs2 .result) (c .empty .result)
-    o (c .before .before .before .first-bytes .ensures) (c .before .before .first-costs .ensures) (c .before .first-costs2 .ensures) loads writes (c .empty .ensures)
+    let a = c .before .before .before .before .args in
+    opening-refused (a .b .now) (a .catalog .now) (a .k) _ (c .before .opening-refused .ensures) (c .if1 .taken)
 
-empty-requires-2 : tie.Need-empty-requires-2
-empty-requires-2 c κs = search needs
+clear-requires : tie.Need-clear-requires
+clear-requires c κs = right (c .before .before .opening-refused .ensures) (c .before .if1 .left) .lengths .state
+
+put-capacity-requires : tie.Need-put-capacity-requires
+put-capacity-requires c κs = readable (c .before .before .before .clear .ensures)
+
+put-count-requires : tie.Need-put-count-requires
+put-count-requires c κs = (readable (c .before .before .before .put-capacity .ensures), omega (arith, right (c .before .before .before .before .before .before .before .before .before .before .opening-refused .ensures) (c .before .before .before .before .before .before .before .before .before .if1 .left) .lengths .few))
+
+put-items-requires : tie.Need-put-items-requires
+put-items-requires c κs = record { reads = readable (c .before .before .before .put-count .ensures); whole = record { count = refl; few = omega (arith, right (c .before .before .before .before .before .before .before .before .before .before .before .before .before .before .opening-refused .ensures) (c .before .before .before .before .before .before .before .before .before .before .before .before .before .if1 .left) .lengths .few) } }
+
+same-length : tie.Need-same-length
+same-length c = search needs
 
 returns-2 : tie.Need-returns-2
 returns-2 c =
-    let a = c .before .before .before .args in
-    open-refused (a .k) (a .n) (a .blocks) (a .load) (a .write) (c .empty2 .result)
-    (λ o. false≢true (sym (c .before .if1 .left) ∙ c .before .before .opens .ensures .only o)) (c .empty2 .ensures)
+    let a = c .before .before .before .before .before .before .before .before .before .before .before .before .before .before .before .before .before .before .before .before .args in
+    opening-done (a .b .now) (a .catalog .now) (a .k) _ (c .before .before .before .before .before .before .before .before .before .before .before .before .before .before .before .before .before .opening-refused .ensures) (c .before .before .before .before .before .before .before .before .before .before .before .before .before .before .before .before .if1 .left) (c .before .before .before .before .before .before .before .before .before .before .before .before .before .before .clear .ensures) (c .before .before .before .before .before .before .before .before .before .before .put-capacity .ensures) (c .before .before .before .before .before .before .put-count .ensures) (c .before .before .put-items .ensures)
 
 pub open-spec : {M : Type 1} → statement M
 open-spec =
     tie.close
     (tie.spec
-    opens-requires
-    first-bytes-requires
-    first-costs-requires
-    first-costs-requires-2
-    empty-requires
+    opening-refused-requires
     returns
-    empty-requires-2
+    clear-requires
+    put-capacity-requires
+    put-count-requires
+    put-items-requires
+    same-length
     returns-2)

@@ -1,28 +1,25 @@
 -- `cache::run_calls` meets its contract: what is left to do leads to the answers from the start. Assumes nothing.
-use mathlib.Core.Path.{_≡_, refl, ap, _∙_}
+use mathlib.Core.Path.{_≡_, refl, sym, ap, _∙_}
 use Prim.Native.Nat.{_≤_, _*_, _/_, _-_}
 use native.Mathlib.Omega.{arith}
-use borrow.Author.Needs.{needs}
 use lib.ListN.{length}
 use lib.Seq.{length-sets}
+use Rattle.cache.specs.Contract.{lent}
 use Rattle.cache.specs.Run.{callsOf}
 use Rattle.cache.proofs.Runs.{count-is, call-at, Going, going-starts, going-on, going-ends}
+use borrow.Author.Needs.{needs}
 use Rattle.cache.proofs.run_calls.Statement.{statement}
 use Rattle.cache.proofs.run_calls.Tie as tie
-use Rattle.cache.proofs.run_calls.Reads as reads
-use Rattle.cache.proofs.run_calls.Lts as lts
-use Rattle.cache.proofs.call.Reads as call-reads
-use Rattle.cache.proofs.note.Reads as note-reads
 
 abbrev Inv-loop : tie.InvT-loop
-Inv-loop calls answers₀ count q₀ at₀ i₀ answers q at i =
-    (i ≤ count) × (at ≡ 4 * i) × (count ≡ length calls / 4) × Going q₀ (callsOf calls) answers₀ i q answers
+Inv-loop b₀ calls answers₀ count at₀ i₀ b answers at i =
+    (i ≤ count) × (at ≡ 4 * i) × (count ≡ length calls / 4) × Going lent b₀ (callsOf calls) answers₀ i b answers
 
 abbrev μ-loop : tie.MeasureT-loop
-μ-loop calls answers₀ count q₀ at₀ i₀ answers q at i = count - i
+μ-loop b₀ calls answers₀ count at₀ i₀ b answers at i = count - i
 
 loop-holds : tie.Need-loop-holds Inv-loop μ-loop
-loop-holds c = (omega arith, omega arith, refl, going-starts _ _ _ (c .before .before .pre))
+loop-holds c = (omega arith, omega arith, refl, going-starts lent _ _ _ (c .before .before .before .pre))
 
 mul-call : tie.Need-mul-call Inv-loop μ-loop
 mul-call c = search needs
@@ -58,7 +55,7 @@ shared-slice-read-call-4 : tie.Need-shared-slice-read-call-4 Inv-loop μ-loop
 shared-slice-read-call-4 c = omega arith
 
 call-requires : tie.Need-call-requires Inv-loop μ-loop
-call-requires c κs = c .before .before .before .before .before .loop .inv .3 .valid
+call-requires c κs = c .before .before .before .before .before .before .loop .inv .3 .valid
 
 note-requires : tie.Need-note-requires Inv-loop μ-loop
 note-requires c κs = search needs
@@ -74,24 +71,27 @@ loop-less c = omega arith
 
 loop-again : tie.Need-loop-again Inv-loop μ-loop
 loop-again c =
-    let a = c .before .before .before .before .before .before .before .before .before .before .before .before .before .before .args in
-    let w = c .before .before .before .before .before .before .before .before .before .before .before .loop in
+    let a = c .before .before .before .before .before .before .before .before .before .before .before .before .before .before .before .before .before .args in
+    let w = c .before .before .before .before .before .before .before .before .before .before .before .before .before .loop in
     let xs = a .calls .now in (
       omega arith,
       omega arith,
       refl,
-      going-on (a .c) (w .q) (callsOf xs) (a .answers .now) (w .answers) (c .before .before .note .last .0) (w .i) _ (c .before .before .before .before .before .call .result)
-          (omega (arith, count-is xs)) (call-at xs (w .i) (w .at) (omega arith) (w .inv .1)) (c .before .before .before .before .before .call .ensures) (c .before .before .note .ensures) (w .inv .3),
+      going-on lent (a .b .now) (w .b) _ (callsOf xs) (a .answers .now) (w .answers) _ (w .i) _ (c .before .before .before .before .before .before .call .result)
+          (omega (arith, count-is xs)) (call-at xs (w .i) (w .at) (omega arith) (w .inv .1)) (c .before .before .before .before .before .before .call .ensures) (c .before .before .note .ensures) (w .inv .3),
     )
 
 same-length : tie.Need-same-length Inv-loop μ-loop
-same-length c = ap length (c .before .loop .inv .3 .noted) ∙ length-sets (c .before .before .before .before .args .answers .now) 0 (c .before .loop .inv .3 .numbers)
+same-length c = c .before .loop .inv .3 .valid .size ∙ sym (c .before .before .before .before .before .pre .size)
+
+same-length-2 : tie.Need-same-length-2 Inv-loop μ-loop
+same-length-2 c = ap length (c .before .loop .inv .3 .noted) ∙ length-sets (c .before .before .before .before .before .args .answers .now) 0 (c .before .loop .inv .3 .numbers)
 
 returns : tie.Need-returns Inv-loop μ-loop
 returns c =
-    let a = c .before .before .before .before .args in
+    let a = c .before .before .before .before .before .args in
     let w = c .before .loop in
-    going-ends (a .c) (w .q) (callsOf (a .calls .now)) (a .answers .now) (w .answers) (w .i) (omega (arith, count-is (a .calls .now))) (w .inv .3)
+    (going-ends lent (a .b .now) (w .b) (callsOf (a .calls .now)) (a .answers .now) (w .answers) (w .i) (omega (arith, count-is (a .calls .now))) (w .inv .3), w .inv .3 .valid)
 
 pub run-calls-spec : {M : Type 1} → statement M
 run-calls-spec =
@@ -118,4 +118,5 @@ run-calls-spec =
     loop-less
     loop-again
     same-length
+    same-length-2
     returns)

@@ -1,58 +1,62 @@
--- `cache_room::charge` meets its contract. The loop keeps the cache in which the items passed are charged. Assumes nothing.
-use mathlib.Core.Path.{_≡_, ap, _∙_}
-use Prim.Native.Nat.{_≤_, _-_}
+-- `cache_room::charge` meets its contract. The loop keeps the bytes of the cache in which the items passed are charged. Assumes
+-- nothing.
+use mathlib.Core.Path.{_≡_, sym, subst, _∙_}
+use mathlib.Core.Logic.{⊎-elim}
+use Prim.Native.Nat.{ℕ, _-_, _≤_, _<_}
 use native.Mathlib.Omega.{arith}
 use borrow.Author.Needs.{needs}
-use lib.ListN.{getD}
-use mir.Syntax.{w8}
-use mir.Val.{Fits}
+use Rattle.cache_state.specs.Cache.{Cache}
+use Rattle.layout.specs.Layout.{cacheOf}
+use Rattle.layout.specs.Stands.{Stands}
+use Rattle.layout.proofs.Places.{readable}
 use Rattle.cache_room.specs.Room.{chargedOf}
-use Rattle.cache_room.proofs.Stores.{charge-starts, charge-more, loss-fits}
+use Rattle.cache_room.proofs.Stores.{loss-fits}
+use Rattle.cache_room.proofs.Bytes.{charge-begun, charge-stored, charge-passed}
 use Rattle.cache_room.proofs.charge.Statement.{statement}
 use Rattle.cache_room.proofs.charge.Tie as tie
 
 abbrev Inv-loop : tie.InvT-loop
-Inv-loop rank c n q₀ i₀ q i = (i ≤ c .n) × (q ≡ chargedOf c rank i)
+Inv-loop b₀ n rank i₀ b i = (i ≤ n) × Stands b (chargedOf (cacheOf b₀) rank i)
 
 abbrev μ-loop : tie.MeasureT-loop
-μ-loop rank c n q₀ i₀ q i = c .n - i
+μ-loop b₀ n rank i₀ b i = n - i
+
+-- an item of the catalog
+known : (c : tie.In-loop Inv-loop μ-loop) → c .before .loop .i < cacheOf (c .before .before .before .args .b .now) .n
+known c = omega (arith, c .before .before .before .pre .count)
+
+place : (c : tie.In-loop Inv-loop μ-loop) → c .before .loop .i < 256
+place c = omega (arith, known c, c .before .before .before .pre .fields .few)
 
 loop-holds : tie.Need-loop-holds Inv-loop μ-loop
-loop-holds c = (omega arith, charge-starts (c .args .t1) (c .args .rank))
+loop-holds c = (omega arith, charge-begun (c .before .args .rank) (c .before .pre .reads))
 
-element-copy-out-loss : tie.Need-element-copy-out-loss Inv-loop μ-loop
-element-copy-out-loss c = omega arith
+held-requires : tie.Need-held-requires Inv-loop μ-loop
+held-requires c κs = (c .before .before .loop .inv .1 .size, place (c .before))
+
+blocks-requires : tie.Need-blocks-requires Inv-loop μ-loop
+blocks-requires c κs = (c .before .before .before .before .before .loop .inv .1 .size, place (c .before .before .before .before))
 
 cast-loss : tie.Need-cast-loss Inv-loop μ-loop
-cast-loss c =
-    let f : Fits w8 (getD (c .before .before .before .args .t1 .blocks) (c .before .before .loop .i) 0) = search needs in
-    omega (arith, f .fits)
+cast-loss c = search needs
 
 mul-loss : tie.Need-mul-loss Inv-loop μ-loop
-mul-loss c =
-    let f : Fits w8 (getD (c .before .before .before .args .t1 .blocks) (c .before .before .loop .i) 0) = search needs in
-    record { fits = loss-fits (f .fits) (c .before .before .before .pre .rank) }
+mul-loss c = record { fits = loss-fits (c .blocks2 .ok) (c .before .before .before .before .before .before .before .before .pre .rank) }
 
-mul-write : tie.Need-mul-write Inv-loop μ-loop
-mul-write c = omega arith
+write-credit-requires : tie.Need-write-credit-requires Inv-loop μ-loop
+write-credit-requires c κs =
+    (c .before .before .before .before .before .before .before .loop .inv .1 .size, place (c .before .before .before .before .before .before))
 
-element-copy-out-write : tie.Need-element-copy-out-write Inv-loop μ-loop
-element-copy-out-write c = omega arith
+load-credit-requires : tie.Need-load-credit-requires Inv-loop μ-loop
+load-credit-requires c κs =
+    (c .before .before .before .before .before .before .before .before .before .loop .inv .1 .size, place (c .before .before .before .before .before .before .before .before))
 
 left-requires : tie.Need-left-requires Inv-loop μ-loop
 left-requires c κs = search needs
 
-mul-q : tie.Need-mul-q Inv-loop μ-loop
-mul-q c = omega arith
-
-element-write-q : tie.Need-element-write-q Inv-loop μ-loop
-element-write-q c = omega arith
-
-mul-left : tie.Need-mul-left Inv-loop μ-loop
-mul-left c = omega arith
-
-element-copy-out-left : tie.Need-element-copy-out-left Inv-loop μ-loop
-element-copy-out-left c = omega arith
+put-write-credit-requires : tie.Need-put-write-credit-requires Inv-loop μ-loop
+put-write-credit-requires c κs =
+    (readable (c .before .before .before .before .before .before .before .before .before .before .before .before .loop .inv .1), place (c .before .before .before .before .before .before .before .before .before .before .before))
 
 left-requires-2 : tie.Need-left-requires-2 Inv-loop μ-loop
 left-requires-2 c κs = search needs
@@ -60,31 +64,39 @@ left-requires-2 c κs = search needs
 left-requires-3 : tie.Need-left-requires-3 Inv-loop μ-loop
 left-requires-3 c κs = search needs
 
-mul-q-2 : tie.Need-mul-q-2 Inv-loop μ-loop
-mul-q-2 c = omega arith
-
-element-write-q-2 : tie.Need-element-write-q-2 Inv-loop μ-loop
-element-write-q-2 c = omega arith
+put-load-credit-requires : tie.Need-put-load-credit-requires Inv-loop μ-loop
+put-load-credit-requires c κs =
+    (readable (c .before .before .before .before .before .put-write-credit .ensures), place (c .before .before .before .before .before .before .before .before .before .before .before .before .before .before .before .before .before))
 
 add-i : tie.Need-add-i Inv-loop μ-loop
-add-i c = omega arith
+add-i c = omega (arith, place (c .before .before .before))
 
 loop-less : tie.Need-loop-less Inv-loop μ-loop
 loop-less c = omega arith
 
 loop-again : tie.Need-loop-again Inv-loop μ-loop
-loop-again c = (
-  omega arith,
-  charge-more (c .before .before .before .before .before .before .before .before .args .t1) (c .before .before .before .before .before .before .before .loop .q)
-      (c .before .before .before .before .before .before .before .before .args .rank) (c .before .before .before .before .before .before .before .loop .i)
-      (c .before .before .before .before .before .before .before .loop .inv .1) (rw (c .before .left2 .ensures) at (c .left3 .ensures))
-      (c .before .before .before .left .ensures),
-)
+loop-again c =
+    let q : Cache = cacheOf (c .before .before .before .before .before .before .args .b .now) in
+    let m : ℕ = c .before .before .before .before .before .before .args .rank in
+    let l = c .before .before .before .before .loop in (
+      omega arith,
+      ⊎-elim
+          (λ w. rw (w .18)
+          (charge-stored q m (l .i) (l .b) _ _ (l .inv .1) (w .2 .ensures) (w .4 .ensures) (w .6 .ensures) (w .8 .ensures) (w .13 .ensures) (w .14 .ensures)
+          (w .9 .ensures) (w .15 .ensures)))
+          (λ w. rw (w .1) (charge-passed q m (l .i) (c .before .before .before .before .before .before .pre .fields) (known (c .before .before .before)) (l .inv .1) (sym (c .before .held .ensures) ∙ w .0 .left)))
+          (c .if1 .came),
+    )
+
+same-length : tie.Need-same-length Inv-loop μ-loop
+same-length c = omega (arith, c .before .loop .inv .1 .size, c .before .before .before .pre .reads .size)
 
 returns : tie.Need-returns Inv-loop μ-loop
 returns c =
-    let e : c .before .loop .i ≡ c .before .before .args .t1 .n = omega arith in
-    c .before .loop .inv .1 ∙ ap (chargedOf (c .before .before .args .t1) (c .before .before .args .rank)) e
+    let s = c .before .before .before in
+    let l = c .before .loop in
+    let e : l .i ≡ s .args .n = omega arith in
+    subst (λ (z : ℕ). Stands (l .b) (chargedOf (cacheOf (s .args .b .now)) (s .args .rank) z)) e (l .inv .1)
 
 pub charge-spec : {M : Type 1} → statement M
 charge-spec =
@@ -93,21 +105,19 @@ charge-spec =
     Inv-loop
     μ-loop
     loop-holds
-    element-copy-out-loss
+    held-requires
+    blocks-requires
     cast-loss
     mul-loss
-    mul-write
-    element-copy-out-write
+    write-credit-requires
+    load-credit-requires
     left-requires
-    mul-q
-    element-write-q
-    mul-left
-    element-copy-out-left
+    put-write-credit-requires
     left-requires-2
     left-requires-3
-    mul-q-2
-    element-write-q-2
+    put-load-credit-requires
     add-i
     loop-less
     loop-again
+    same-length
     returns)

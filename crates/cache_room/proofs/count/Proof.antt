@@ -1,73 +1,112 @@
 -- `cache_room::count` meets its contract. Assumes nothing.
-use native.Mathlib.Omega.{arith}
 use borrow.Author.Needs.{needs}
-use lib.ListN.{getD}
-use mir.Syntax.{w16}
-use mir.Val.{Fits}
+use Rattle.cache_room.proofs.Bytes.{counted-dirty, counted-clean}
 use Rattle.cache_room.proofs.count.Statement.{statement}
 use Rattle.cache_room.proofs.count.Tie as tie
 
-add-q : tie.Need-add-q
-add-q c = omega arith
+evictions-requires : tie.Need-evictions-requires
+evictions-requires c κs = search needs
 
-add-q-2 : tie.Need-add-q-2
-add-q-2 c = omega arith
+dirty-evictions-requires : tie.Need-dirty-evictions-requires
+dirty-evictions-requires c κs = search needs
 
-add-q-3 : tie.Need-add-q-3
-add-q-3 c = omega arith
+writebacks-requires : tie.Need-writebacks-requires
+writebacks-requires c κs = search needs
 
-mul-q : tie.Need-mul-q
-mul-q c = omega arith
+item-writebacks-requires : tie.Need-item-writebacks-requires
+item-writebacks-requires c κs = search needs
 
-element-copy-out-q : tie.Need-element-copy-out-q
-element-copy-out-q c = omega arith
+write-cost-requires : tie.Need-write-cost-requires
+write-cost-requires c κs = search needs
 
-add-q-4 : tie.Need-add-q-4
-add-q-4 c = omega arith
+item-write-cost-requires : tie.Need-item-write-cost-requires
+item-write-cost-requires c κs = search needs
 
-mul-q-2 : tie.Need-mul-q-2
-mul-q-2 c = omega arith
+cast-price : tie.Need-cast-price
+cast-price c = search needs
 
-element-write-q : tie.Need-element-write-q
-element-write-q c = omega arith
+add-put-evictions : tie.Need-add-put-evictions
+add-put-evictions c = search needs
 
-mul-q-3 : tie.Need-mul-q-3
-mul-q-3 c = omega arith
+put-evictions-requires : tie.Need-put-evictions-requires
+put-evictions-requires c κs = search needs
 
-element-copy-out-q-2 : tie.Need-element-copy-out-q-2
-element-copy-out-q-2 c = omega arith
+add-put-dirty-evictions : tie.Need-add-put-dirty-evictions
+add-put-dirty-evictions c = search needs
 
-cast-q : tie.Need-cast-q
-cast-q c =
-    let f : Fits w16 (getD (c .before .before .before .args .t1 .write) (c .before .before .before .args .v) 0) = search needs in
-    omega (arith, f .fits)
+put-dirty-evictions-requires : tie.Need-put-dirty-evictions-requires
+put-dirty-evictions-requires c κs = search needs
 
-add-q-5 : tie.Need-add-q-5
-add-q-5 c =
-    let f : Fits w16 (getD (c .before .before .before .args .t1 .write) (c .before .before .before .args .v) 0) = search needs in
-    omega (arith, f .fits)
+add-put-writebacks : tie.Need-add-put-writebacks
+add-put-writebacks c = search needs
+
+put-writebacks-requires : tie.Need-put-writebacks-requires
+put-writebacks-requires c κs = search needs
+
+add-put-item-writebacks : tie.Need-add-put-item-writebacks
+add-put-item-writebacks c = search needs
+
+put-item-writebacks-requires : tie.Need-put-item-writebacks-requires
+put-item-writebacks-requires c κs = search needs
+
+add-put-write-cost : tie.Need-add-put-write-cost
+add-put-write-cost c = search needs
+
+put-write-cost-requires : tie.Need-put-write-cost-requires
+put-write-cost-requires c κs = search needs
+
+same-length : tie.Need-same-length
+same-length c = search needs
 
 returns : tie.Need-returns
-returns c = rw (c .before .before .if1 .taken)
+returns c =
+    let r = c .before .before .before .before .before .before .before .before .before .before .before .before .before .before .before .before .before .before .before .before .before in
+    counted-dirty (r .before .before .before .before .before .before .before .before .before .before .before .before .before .args .b .now) _ _ _ _ _
+    (r .before .before .before .before .before .before .before .before .before .before .before .before .before .args .v)
+    (r .before .before .before .before .before .before .before .before .before .before .evictions .ensures)
+    (r .before .before .before .before .before .before .before .before .dirty-evictions .ensures)
+    (r .before .before .before .before .before .before .writebacks .ensures) (r .before .before .before .before .item-writebacks .ensures)
+    (r .before .before .write-cost .ensures) (r .item-write-cost .ensures)
+    (c .before .before .before .before .before .before .before .before .before .before .before .before .before .before .before .before .before .before .before .put-evictions .ensures)
+    (c .before .before .before .before .before .before .before .before .before .before .before .before .before .before .before .before .if1 .taken)
+    (c .before .before .before .before .before .before .before .before .before .before .before .before .before .before .put-dirty-evictions .ensures)
+    (c .before .before .before .before .before .before .before .before .before .before .put-writebacks .ensures)
+    (c .before .before .before .before .before .before .put-item-writebacks .ensures) (c .before .before .put-write-cost .ensures)
+
+same-length-2 : tie.Need-same-length-2
+same-length-2 c = search needs
 
 returns-2 : tie.Need-returns-2
-returns-2 c = rw (c .if1 .left)
+returns-2 c =
+    counted-clean
+    (c .before .before .before .before .before .before .before .before .before .before .before .before .before .before .before .before .before .before .args .b .now)
+    _
+    (c .before .before .before .before .before .before .before .before .before .before .before .before .before .before .before .before .before .before .args .v)
+    (c .before .before .before .before .before .before .before .before .before .before .before .before .before .before .before .evictions .ensures)
+    (c .before .before .before .put-evictions .ensures) (c .if1 .left)
 
 pub count-spec : {M : Type 1} → statement M
 count-spec =
     tie.close
     (tie.spec
-    add-q
-    add-q-2
-    add-q-3
-    mul-q
-    element-copy-out-q
-    add-q-4
-    mul-q-2
-    element-write-q
-    mul-q-3
-    element-copy-out-q-2
-    cast-q
-    add-q-5
+    evictions-requires
+    dirty-evictions-requires
+    writebacks-requires
+    item-writebacks-requires
+    write-cost-requires
+    item-write-cost-requires
+    cast-price
+    add-put-evictions
+    put-evictions-requires
+    add-put-dirty-evictions
+    put-dirty-evictions-requires
+    add-put-writebacks
+    put-writebacks-requires
+    add-put-item-writebacks
+    put-item-writebacks-requires
+    add-put-write-cost
+    put-write-cost-requires
+    same-length
     returns
+    same-length-2
     returns-2)

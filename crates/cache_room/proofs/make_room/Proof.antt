@@ -1,69 +1,138 @@
--- `cache_room::make_room` meets its contract. The loop keeps that what is left to do leads where the rule's loop leads from the start;
--- with each eviction one item fewer is held. Assumes nothing.
+-- `cache_room::make_room` meets its contract. The loop keeps that what is left to do leads where the rule's loop leads from the start,
+-- and the blocks held; with each eviction one item fewer is held. Assumes nothing.
+use mathlib.Core.Path.{sym, _∙_}
+use Prim.Native.Nat.{_+_, _≤_, _<_}
 use native.Mathlib.Omega.{arith}
+use borrow.Author.Needs.{needs}
 use Rattle.landlord.specs.Rule.{heldCount}
 use Rattle.cache_state.specs.View.{stateOf}
-use Rattle.cache_room.proofs.Rooms.{Going, going-starts, crowded, going-on, going-less, room-hit, room-miss}
+use Rattle.layout.specs.Layout.{cacheOf}
+use Rattle.layout.specs.Stands.{Readable}
+use Rattle.layout.proofs.Places.{valid-reads}
+use Rattle.cache_room.proofs.Rooms.{Going, Gone, going-starts, going-on, room-hit, room-miss}
 use Rattle.cache_room.proofs.make_room.Statement.{statement}
 use Rattle.cache_room.proofs.make_room.Tie as tie
 
 abbrev Inv-loop : tie.InvT-loop
-Inv-loop i k blocks q₀ q = Going k blocks q₀ q
+Inv-loop b₀ i n k blocks used₀ b used = Readable b × Going k blocks (cacheOf b₀) (cacheOf b) used
 
 abbrev μ-loop : tie.MeasureT-loop
-μ-loop i k blocks q₀ q = heldCount (stateOf q)
+μ-loop b₀ i n k blocks used₀ b used = heldCount (stateOf (cacheOf b))
 
-element-copy-out-if1 : tie.Need-element-copy-out-if1 Inv-loop μ-loop
-element-copy-out-if1 c = omega (arith, c .pre .known, c .pre .valid .fields .few)
+-- the item's place in each field
+place : (c : tie.Start Inv-loop μ-loop) → c .args .i < 256
+place c = omega (arith, c .pre .known, c .pre .valid .cache .fields .few)
+
+-- where the loop began
+abbrev start : tie.At-loop Inv-loop μ-loop → tie.Start Inv-loop μ-loop
+start c = c .before .before .before .before .before .before .before .before .before .before .before .before .before
+
+-- the item has room in an empty cache, and not yet in this one
+fits : (c : tie.At-loop Inv-loop μ-loop) → c .before .before .before .blocks2 .result ≤ c .before .before .before .before .before .capacity .result
+fits c = omega (arith, c .before .before .before .blocks2 .ensures, c .before .before .before .before .before .capacity .ensures, start c .pre .fits)
+
+wanting :
+    (c : tie.In-loop Inv-loop μ-loop) →
+    c .before .before .before .before .before .before .capacity .result < c .before .loop .used + c .before .before .before .before .blocks2 .result
+wanting c = omega arith
+
+held-requires : tie.Need-held-requires Inv-loop μ-loop
+held-requires c κs = (c .before .before .pre .valid .size, place (c .before .before))
+
+same-length : tie.Need-same-length Inv-loop μ-loop
+same-length c = search needs
 
 returns : tie.Need-returns Inv-loop μ-loop
-returns c = room-hit (c .before .before .args .t1) (c .before .before .args .i) (c .before .before .pre) (c .if1 .taken)
+returns c =
+    let s = c .before .before .before .before in
+    record {
+      reads = valid-reads (s .pre .valid);
+      cache =
+          room-hit (cacheOf (s .args .b .now)) (s .args .i) (s .pre .valid .cache .fields) (s .pre .known)
+          (sym (c .before .held .ensures) ∙ c .if1 .taken);
+    }
 
-element-copy-out-blocks : tie.Need-element-copy-out-blocks Inv-loop μ-loop
-element-copy-out-blocks c = omega (arith, c .before .before .pre .known, c .before .before .pre .valid .fields .few)
+count-requires : tie.Need-count-requires Inv-loop μ-loop
+count-requires c κs = c .before .before .before .before .before .pre .valid .size
+
+capacity-requires : tie.Need-capacity-requires Inv-loop μ-loop
+capacity-requires c κs = c .before .before .before .before .before .before .before .pre .valid .size
+
+blocks-requires : tie.Need-blocks-requires Inv-loop μ-loop
+blocks-requires c κs =
+    (c .before .before .before .before .before .before .before .before .before .pre .valid .size, place (c .before .before .before .before .before .before .before .before .before))
 
 cast-blocks : tie.Need-cast-blocks Inv-loop μ-loop
-cast-blocks c = omega (arith, c .before .before .before .pre .fits, c .before .before .before .pre .valid .rule .capacity .high)
-
-loop-holds : tie.Need-loop-holds Inv-loop μ-loop
-loop-holds c = going-starts (c .before .before .before .args .t1) (c .before .before .before .pre .valid)
+cast-blocks c = search needs
 
 used-requires : tie.Need-used-requires Inv-loop μ-loop
-used-requires c κs = c .loop .inv .valid .fields .few
+used-requires c κs =
+    let ok = c .before .before .before .before .before .before .before .before .before .before .before .pre .valid in
+    let n = c .before .before .before .before .before .count .ensures .0 in
+    record { size = ok .size; count = n; few = omega (arith, n, ok .cache .fields .few) }
 
-add-if2 : tie.Need-add-if2 Inv-loop μ-loop
-add-if2 c =
-    omega (
-      arith,
-      c .used .ensures,
-      c .before .loop .inv .valid .rule .kept .room,
-      c .before .loop .inv .valid .rule .capacity .high,
-      c .before .before .before .before .before .pre .fits,
-      c .before .before .before .before .before .pre .valid .rule .capacity .high,
-    )
+loop-holds : tie.Need-loop-holds Inv-loop μ-loop
+loop-holds c =
+    let s = c .before .before .before .before .before .before .before .before .before .before .before .before in
+    (valid-reads (s .pre .valid), going-starts (cacheOf (s .args .b .now)) (s .pre .valid .cache) (c .used .ensures))
+
+add-loop : tie.Need-add-loop Inv-loop μ-loop
+add-loop c =
+    let so = c .loop .inv .1 in
+    omega (arith, c .before .before .before .blocks2 .ok, so .taken, so .valid .rule .kept .room, so .valid .rule .capacity .high)
 
 evict-requires : tie.Need-evict-requires Inv-loop μ-loop
 evict-requires c κs =
-    crowded (c .before .before .before .before .before .before .args .t1) (c .before .before .loop .q) (c .before .before .loop .inv) (c .before .used .ensures)
-    (c .before .before .before .before .before .before .pre .fits) (c .if2 .taken)
+    let inv = c .before .before .loop .inv in
+    record {
+      valid =
+          record {
+            valid = record { size = inv .0 .size; allowed = inv .0 .allowed; cache = inv .1 .valid };
+            count = c .before .before .before .before .before .before .before .before .before .count .ensures .0 ∙ sym (inv .1 .count);
+          };
+      some = omega (arith, fits (c .before .before), wanting (c .before), inv .1 .taken);
+    }
+
+cast-used : tie.Need-cast-used Inv-loop μ-loop
+cast-used c = search needs
+
+-- what the eviction leaves
+gone :
+    (c : tie.After-slice-known2 Inv-loop μ-loop) →
+    Gone (c .before .before .before .before .before .before .before .before .before .before .capacity .result)
+    (c .before .before .before .before .before .before .before .before .blocks2 .result)
+    (cacheOf (start (c .before .before .before .before .before) .args .b .now)) (cacheOf (c .before .before .before .before .before .loop .b))
+    (cacheOf (c .before .before .evict .last .0))
+    (c .before .before .before .before .before .loop .used) (c .before .before .evict .result)
+gone c =
+    going-on (cacheOf (start (c .before .before .before .before .before) .args .b .now))
+    (cacheOf (c .before .before .before .before .before .loop .b)) _ (c .before .before .before .before .before .loop .inv .1)
+    (fits (c .before .before .before .before .before)) (wanting (c .before .before .before .before)) (c .before .before .evict .ensures .0)
+    (c .before .before .evict .ensures .1 .cache)
+
+sub-used : tie.Need-sub-used Inv-loop μ-loop
+sub-used c = gone c .within
 
 loop-less : tie.Need-loop-less Inv-loop μ-loop
-loop-less c =
-    going-less (c .before .before .before .before .before .before .before .args .t1) (c .before .before .before .loop .q) (c .evict .result)
-    (c .before .before .before .loop .inv) (c .before .before .used .ensures) (c .before .before .before .before .before .before .before .pre .fits)
-    (c .before .if2 .taken) (c .evict .ensures)
+loop-less c = gone c .less
 
 loop-again : tie.Need-loop-again Inv-loop μ-loop
-loop-again c =
-    going-on (c .before .before .before .before .before .before .before .args .t1) (c .before .before .before .loop .q) (c .evict .result)
-    (c .before .before .before .loop .inv) (c .before .before .used .ensures) (c .before .before .before .before .before .before .before .pre .fits)
-    (c .before .if2 .taken) (c .evict .ensures)
+loop-again c = (c .before .before .evict .ensures .1 .reads, gone c .going)
+
+same-length-2 : tie.Need-same-length-2 Inv-loop μ-loop
+same-length-2 c = omega (arith, c .before .loop .inv .0 .size, start (c .before) .pre .valid .size)
 
 returns-2 : tie.Need-returns-2 Inv-loop μ-loop
 returns-2 c =
-    room-miss (c .before .before .before .before .before .before .args .t1) (c .before .before .loop .q) (c .before .before .before .before .before .before .args .i)
-    (c .before .before .before .before .before .before .pre) (c .before .before .before .before .if1 .left) (c .before .before .loop .inv)
-    (c .before .used .ensures) (c .if2 .left)
+    let s = start (c .before) in
+    record {
+      reads = c .before .loop .inv .0;
+      cache =
+          room-miss (cacheOf (s .args .b .now)) (cacheOf (c .before .loop .b)) (s .args .i)
+          (c .before .before .before .before .before .before .capacity .ensures) (c .before .before .before .before .blocks2 .ensures) (s .pre .known)
+          (sym (c .before .before .before .before .before .before .before .before .before .before .before .held .ensures) ∙ c .before .before .before .before .before .before .before .before .before .before .if1 .left)
+          (c .before .loop .inv .1) (c .loop-test .left);
+    }
 
 pub make-room-spec : {M : Type 1} → statement M
 make-room-spec =
@@ -71,14 +140,20 @@ make-room-spec =
     (tie.spec
     Inv-loop
     μ-loop
-    element-copy-out-if1
+    held-requires
+    same-length
     returns
-    element-copy-out-blocks
+    count-requires
+    capacity-requires
+    blocks-requires
     cast-blocks
-    loop-holds
     used-requires
-    add-if2
+    loop-holds
+    add-loop
     evict-requires
+    cast-used
+    sub-used
     loop-less
     loop-again
+    same-length-2
     returns-2)

@@ -1,80 +1,73 @@
--- `cache_serve::count_write` meets its contract. Assumes nothing.
+-- `cache_serve::count_write` meets its contract: three stores. Assumes nothing.
 use borrow.Author.Needs.{needs}
-use Rattle.cache_serve.specs.Stores.{Sizes}
+use mathlib.Core.Path.{ap, _∙_}
+use Rattle.landlord.specs.Catalog.{full}
+use Rattle.cache_serve.proofs.Counts.{write-counted}
 use Rattle.cache_serve.proofs.count_write.Statement.{statement}
 use Rattle.cache_serve.proofs.count_write.Tie as tie
 
--- what a cache's type says of its arrays
-sizes : (c : tie.Start) → Sizes (c .args .t1)
-sizes c =
-    record {
-      held = search needs;
-      loadCredit = search needs;
-      writeCredit = search needs;
-      tenths = search needs;
-      loads = search needs;
-      writebacks = search needs;
-    }
+dirty-requires : tie.Need-dirty-requires
+dirty-requires c κs = search needs
 
-mark-requires : tie.Need-mark-requires
-mark-requires c κs = search needs
-
-mul-shares : tie.Need-mul-shares
-mul-shares c = search needs
-
-element-copy-out-shares : tie.Need-element-copy-out-shares
-element-copy-out-shares c = search needs
+item-write-cost-requires : tie.Need-item-write-cost-requires
+item-write-cost-requires c κs = search needs
 
 shares-requires : tie.Need-shares-requires
 shares-requires c κs = search needs
 
-mul-q : tie.Need-mul-q
-mul-q c = search needs
+tenths-requires : tie.Need-tenths-requires
+tenths-requires c κs = search needs
 
-element-write-q : tie.Need-element-write-q
-element-write-q c = search needs
+mark-requires : tie.Need-mark-requires
+mark-requires c κs = search needs
 
-mul-q-2 : tie.Need-mul-q-2
-mul-q-2 c = search needs
+put-dirty-requires : tie.Need-put-dirty-requires
+put-dirty-requires c κs = search needs
 
-element-copy-out-q : tie.Need-element-copy-out-q
-element-copy-out-q c = search needs
+put-write-credit-requires : tie.Need-put-write-credit-requires
+put-write-credit-requires c κs = search needs
 
 whole-tenths-requires : tie.Need-whole-tenths-requires
 whole-tenths-requires c κs = search needs
 
-add-q : tie.Need-add-q
-add-q c = search needs
+add-put-tenths : tie.Need-add-put-tenths
+add-put-tenths c = search needs
 
-mul-q-3 : tie.Need-mul-q-3
-mul-q-3 c = search needs
+put-tenths-requires : tie.Need-put-tenths-requires
+put-tenths-requires c κs = search needs
 
-element-write-q-2 : tie.Need-element-write-q-2
-element-write-q-2 c = search needs
+same-length : tie.Need-same-length
+same-length c = search needs
 
 returns : tie.Need-returns
 returns c =
-    let m = c .before .before .before .before in
-    record {
-      sizes = sizes (m .before .before);
-      store = rw (c .before .before .shares .ensures, c .whole-tenths .ensures .0);
-      mark = m .mark .ensures;
-    }
+    let s3 = c .before .before in
+    let r5 = s3 .before in
+    let s2 = r5 .before .before .before .before in
+    let s1 = s2 .before .before .before .before in
+    let m = s1 .before in
+    let r4 = m .before .before in
+    let r3 = r4 .before .before in
+    let r2 = r3 .before in
+    let r1 = r2 .before .before in
+    let s = r1 .before .before .before in
+    write-counted (s .args .b .now) _ _ _ (s .args .i) (s .args .minutes) (r1 .dirty .ensures)
+    (r3 .shares .ensures ∙ ap full (r2 .item-write-cost .ensures)) (r4 .tenths .ensures) (r5 .whole-tenths .ensures .0)
+    (m .mark .ensures) (s1 .put-dirty .ensures) (s2 .put-write-credit .ensures) (s3 .put-tenths .ensures)
 
 pub count-write-spec : {M : Type 1} → statement M
 count-write-spec =
     tie.close
     (tie.spec
-    mark-requires
-    mul-shares
-    element-copy-out-shares
+    dirty-requires
+    item-write-cost-requires
     shares-requires
-    mul-q
-    element-write-q
-    mul-q-2
-    element-copy-out-q
+    tenths-requires
+    mark-requires
+    put-dirty-requires
+    put-write-credit-requires
     whole-tenths-requires
-    add-q
-    mul-q-3
-    element-write-q-2
+    add-put-tenths
+    put-tenths-requires
+    same-length
     returns)

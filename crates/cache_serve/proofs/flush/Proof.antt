@@ -1,32 +1,50 @@
 -- `cache_serve::flush` meets its contract. What is left to do leads where the whole leads; the measure is what is left of the
 -- marks. Assumes nothing.
+use mathlib.Core.Path.{sym, _∙_}
 use Prim.Native.Nat.{_-_}
 use native.Mathlib.Omega.{arith}
-use Rattle.cache_serve.proofs.Landings.{Flushing, flush-starts, flush-ends, flush-turn, flushable}
+use Rattle.cache_serve.proofs.InPlace.{FlushingAt, flush-starts-at, flush-ends-at, flushable-at, flush-turn-at}
 use Rattle.cache_serve.proofs.flush.Statement.{statement}
 use Rattle.cache_serve.proofs.flush.Tie as tie
 
 abbrev Inv-loop : tie.InvT-loop
-Inv-loop q₀ at₀ q at = Flushing q₀ q at
+Inv-loop b₀ at₀ b at = FlushingAt b₀ b at
 
 abbrev μ-loop : tie.MeasureT-loop
-μ-loop q₀ at₀ q at = 256 - at
+μ-loop b₀ at₀ b at = 256 - at
 
 loop-holds : tie.Need-loop-holds Inv-loop μ-loop
-loop-holds c = flush-starts (c .args .c) (c .pre)
+loop-holds c =
+    let s = c .before in flush-starts-at (s .args .b .now) (s .pre)
+
+dirty-requires : tie.Need-dirty-requires Inv-loop μ-loop
+dirty-requires c κs = c .before .loop .inv .reads .size
 
 next-requires : tie.Need-next-requires Inv-loop μ-loop
 next-requires c κs = tt
 
+same-length : tie.Need-same-length Inv-loop μ-loop
+same-length c =
+    let l = c .before .before .before .before in
+    let s = l .before .before in
+    l .loop .inv .reads .size ∙ sym (s .pre .size)
+
 returns : tie.Need-returns Inv-loop μ-loop
 returns c =
-    let l = c .before .before .before in
-    flush-ends (l .before .args .c) (l .loop .q) (l .loop .at) (c .before .next .result) (l .loop .inv) (c .before .next .ensures) (c .if1 .taken)
+    let n = c .before in
+    let d = n .before in
+    let l = d .before .before in
+    let s = l .before .before in
+    flush-ends-at (s .args .b .now) (l .loop .b) (l .loop .at) _ (l .loop .inv) (d .dirty .ensures) (n .next .ensures) (c .if1 .taken)
 
 write-back-requires : tie.Need-write-back-requires Inv-loop μ-loop
 write-back-requires c κs =
-    let l = c .before .before .before in
-    flushable (l .before .args .c) (l .loop .q) (l .loop .at) (c .before .next .result) (l .loop .inv) (c .before .next .ensures) (c .if1 .left)
+    let t = c .before in
+    let n = t .before in
+    let d = n .before in
+    let l = d .before .before in
+    let s = l .before .before in
+    flushable-at (s .args .b .now) (l .loop .b) (l .loop .at) _ (l .loop .inv) (d .dirty .ensures) (n .next .ensures) (t .if1 .left)
 
 add-at : tie.Need-add-at Inv-loop μ-loop
 add-at c = omega arith
@@ -36,10 +54,14 @@ loop-less c = omega arith
 
 loop-again : tie.Need-loop-again Inv-loop μ-loop
 loop-again c =
-    let n = c .before .before in
-    let l = n .before .before in
-    flush-turn (l .before .args .c) (l .loop .q) (l .loop .at) (n .next .result) (l .loop .inv) (n .next .ensures) (c .before .if1 .left)
-    (c .write-back .result) (c .write-back .ensures)
+    let w = c .before .before in
+    let t = w .before .before in
+    let n = t .before in
+    let d = n .before in
+    let l = d .before .before in
+    let s = l .before .before in
+    flush-turn-at (s .args .b .now) (l .loop .b) (l .loop .at) _ (l .loop .inv) (d .dirty .ensures) (n .next .ensures) (t .if1 .left) _
+    (w .write-back .ensures)
 
 pub flush-spec : {M : Type 1} → statement M
 flush-spec =
@@ -48,7 +70,9 @@ flush-spec =
     Inv-loop
     μ-loop
     loop-holds
+    dirty-requires
     next-requires
+    same-length
     returns
     write-back-requires
     add-at

@@ -1,27 +1,33 @@
--- `cache_serve::refill` meets its contract. Assumes nothing.
+-- `cache_serve::refill` meets its contract: one store of the credit in shares. Assumes nothing.
 use borrow.Author.Needs.{needs}
+use mathlib.Core.Path.{ap, _∙_}
+use Rattle.landlord.specs.Catalog.{full}
+use Rattle.cache_serve.proofs.Counts.{credit-filled}
 use Rattle.cache_serve.proofs.refill.Statement.{statement}
 use Rattle.cache_serve.proofs.refill.Tie as tie
 
-mul-shares : tie.Need-mul-shares
-mul-shares c = search needs
-
-element-copy-out-shares : tie.Need-element-copy-out-shares
-element-copy-out-shares c = search needs
+item-load-cost-requires : tie.Need-item-load-cost-requires
+item-load-cost-requires c κs = search needs
 
 shares-requires : tie.Need-shares-requires
 shares-requires c κs = search needs
 
-mul-q : tie.Need-mul-q
-mul-q c = search needs
+put-load-credit-requires : tie.Need-put-load-credit-requires
+put-load-credit-requires c κs = search needs
 
-element-write-q : tie.Need-element-write-q
-element-write-q c = search needs
+same-length : tie.Need-same-length
+same-length c = search needs
 
 returns : tie.Need-returns
-returns c = rw (c .shares .ensures)
+returns c =
+    let s1 = c .before .before in
+    let r2 = s1 .before .before in
+    let r1 = r2 .before in
+    let s = r1 .before .before .before in
+    credit-filled (s .args .b .now) _ (s .args .i) (r2 .shares .ensures ∙ ap full (r1 .item-load-cost .ensures))
+    (s1 .put-load-credit .ensures)
 
 pub refill-spec : {M : Type 1} → statement M
 refill-spec =
     tie.close
-    (tie.spec mul-shares element-copy-out-shares shares-requires mul-q element-write-q returns)
+    (tie.spec item-load-cost-requires shares-requires put-load-credit-requires same-length returns)

@@ -1,55 +1,53 @@
 -- `cache_serve::serve_read` meets its contract: a law for each of its two ways. Assumes nothing.
 use borrow.Author.Needs.{needs}
-use Rattle.cache_serve.specs.Stores.{Sizes}
-use Rattle.cache_serve.proofs.Serves.{read-hit, read-load}
+use mathlib.Core.Logic.{⊎-elim}
+use Rattle.cache_serve.proofs.InPlace.{Counted, hit-way, load-way, refillable, read-at}
 use Rattle.cache_serve.proofs.serve_read.Statement.{statement}
 use Rattle.cache_serve.proofs.serve_read.Tie as tie
 
--- what a cache's type says of its arrays
-sizes : (c : tie.Start) → Sizes (c .args .t1)
-sizes c =
-    record {
-      held = search needs;
-      loadCredit = search needs;
-      writeCredit = search needs;
-      tenths = search needs;
-      loads = search needs;
-      writebacks = search needs;
-    }
+abbrev start : tie.Joined1 → tie.Start
+start j = j .before .before .before .before
 
-element-copy-out-if1 : tie.Need-element-copy-out-if1
-element-copy-out-if1 c = search needs
+-- what has been counted when the ways meet
+counted : (j : tie.Joined1) → Counted (start j .args .b .now) (start j .args .i) (j .if1 .b)
+counted j =
+    let s = start j in
+    let h = j .before .held in
+    ⊎-elim (λ w. hit-way (s .args .b .now) (s .args .i) (h .ensures) (w .0 .taken) (w .2 .ensures) (w .5))
+    (λ w. load-way (s .args .b .now) (s .args .i) (h .ensures) (w .0 .left) (w .2 .ensures) (w .5)) (j .if1 .came)
+
+held-requires : tie.Need-held-requires
+held-requires c κs = search needs
 
 count-hit-requires : tie.Need-count-hit-requires
 count-hit-requires c κs = search needs
 
-refill-requires : tie.Need-refill-requires
-refill-requires c κs = search needs
-
-returns : tie.Need-returns
-returns c =
-    let s = c .before .before .before .before in
-    rw (c .refill .ensures, c .before .count-hit .ensures) (read-hit (s .args .t1) (s .args .i) (sizes s) (s .pre) (c .before .before .if1 .taken))
-
 load-item-requires : tie.Need-load-item-requires
 load-item-requires c κs = search needs
 
-refill-requires-2 : tie.Need-refill-requires-2
-refill-requires-2 c κs = search needs
+refill-requires : tie.Need-refill-requires
+refill-requires c κs =
+    let j = c .before in
+    let s = start j in
+    refillable (s .args .b .now) (s .args .i) (s .pre) (j .if1 .b) (counted j)
 
-returns-2 : tie.Need-returns-2
-returns-2 c =
-    let s = c .before .before .before .before in
-    rw (c .refill2 .ensures, c .before .load-item .ensures) (read-load (s .args .t1) (s .args .i) (sizes s) (s .pre) (c .before .before .if1 .left))
+same-length : tie.Need-same-length
+same-length c = search needs
+
+returns : tie.Need-returns
+returns c =
+    let r = c .before .before in
+    let j = r .before .before in
+    let s = start j in
+    read-at (s .args .b .now) (s .args .i) (s .pre) (j .if1 .b) _ (counted j) (r .refill .ensures)
 
 pub serve-read-spec : {M : Type 1} → statement M
 serve-read-spec =
     tie.close
     (tie.spec
-    element-copy-out-if1
+    held-requires
     count-hit-requires
-    refill-requires
-    returns
     load-item-requires
-    refill-requires-2
-    returns-2)
+    refill-requires
+    same-length
+    returns)

@@ -1,6 +1,6 @@
 -- `cache_serve::serve_write` meets its contract: the write's law after the read's. Assumes nothing.
 use borrow.Author.Needs.{needs}
-use Rattle.cache_serve.proofs.Serves.{writable, write-becomes}
+use Rattle.cache_serve.proofs.InPlace.{writable-at, write-at}
 use Rattle.cache_serve.proofs.serve_write.Statement.{statement}
 use Rattle.cache_serve.proofs.serve_write.Tie as tie
 
@@ -9,14 +9,20 @@ serve-read-requires c κs = search needs
 
 count-write-requires : tie.Need-count-write-requires
 count-write-requires c κs =
-    let s = c .before in
-    writable (s .args .c) (c .serve-read .result) (s .args .i) (s .pre .0) (c .serve-read .ensures) (s .args .minutes) (s .pre .1)
+    let r = c .before .before .before in
+    let s = r .before .before .before in
+    writable-at (s .args .b .now) (s .args .i) (s .pre .0) _ (s .args .minutes) (r .serve-read .ensures) (s .pre .1)
+
+same-length : tie.Need-same-length
+same-length c = search needs
 
 returns : tie.Need-returns
 returns c =
-    let s = c .before .before in
-    let q = c .before .serve-read in
-    write-becomes (s .args .c) (q .result) (s .args .i) (s .pre .0) (q .ensures) (c .count-write .result) (s .args .minutes) (c .count-write .ensures)
+    let w = c .before .before in
+    let r = w .before .before .before .before in
+    let s = r .before .before .before in
+    write-at (s .args .b .now) (s .args .i) (s .pre .0) _ (s .args .minutes) (r .serve-read .ensures) _ (w .count-write .ensures)
 
 pub serve-write-spec : {M : Type 1} → statement M
-serve-write-spec = tie.close (tie.spec serve-read-requires count-write-requires returns)
+serve-write-spec =
+    tie.close (tie.spec serve-read-requires count-write-requires same-length returns)

@@ -6,22 +6,28 @@ use native.Mathlib.Omega.{arith}
 use borrow.Author.Needs.{needs}
 use lib.ListN.{length, drop}
 use Rattle.cache_state.specs.View.{usesOf}
+use Rattle.layout.specs.Layout.{cacheOf}
 use Rattle.report.specs.Report.{itemLines}
 use Rattle.report.proofs.Laws.{items-count, items-end}
 use Rattle.report.proofs.items_length.Statement.{statement}
 use Rattle.report.proofs.items_length.Tie as tie
 
 abbrev Inv-loop : tie.InvT-loop
-Inv-loop c n sum₀ i₀ sum i = (i ≤ c .n) × (sum ≤ 231 * i) × (sum + length (itemLines i (drop i (usesOf c))) ≡ length (itemLines 0 (usesOf c)))
+Inv-loop b n sum₀ i₀ sum i =
+    let uses = usesOf (cacheOf b) in
+    (i ≤ n) × (sum ≤ 231 * i) × (sum + length (itemLines i (drop i uses)) ≡ length (itemLines 0 uses))
 
 abbrev μ-loop : tie.MeasureT-loop
-μ-loop c n sum₀ i₀ sum i = c .n - i
+μ-loop b n sum₀ i₀ sum i = n - i
+
+count-requires : tie.Need-count-requires Inv-loop μ-loop
+count-requires c κs = search needs
 
 loop-holds : tie.Need-loop-holds Inv-loop μ-loop
 loop-holds c = omega arith
 
 item-numbers-requires : tie.Need-item-numbers-requires Inv-loop μ-loop
-item-numbers-requires c κs = search needs
+item-numbers-requires c κs = (c .before .before .before .before .pre .size, omega (arith, c .before .before .count .ensures .0, c .before .before .before .before .pre .cache .fields .few))
 
 slice-aggregate-line-length : tie.Need-slice-aggregate-line-length Inv-loop μ-loop
 slice-aggregate-line-length c = search needs
@@ -40,13 +46,11 @@ loop-less c = search needs
 
 loop-again : tie.Need-loop-again Inv-loop μ-loop
 loop-again c =
-    let a = c .before .before .before .before .before .args in
-    let i = c .before .before .before .before .loop .i in
-    omega (arith, items-count (a .c) i _ (omega arith) (c .before .before .item-numbers .ensures))
+    omega (arith, items-count (cacheOf (c .before .before .before .before .before .before .before .args .b .now)) (c .before .before .before .before .loop .i) _ (omega (arith, c .before .before .before .before .before .count .ensures .0)) (c .before .before .item-numbers .ensures))
 
 returns : tie.Need-returns Inv-loop μ-loop
 returns c =
-    let e = ap length (items-end (c .before .before .args .c) (c .before .loop .i) (omega arith)) in
+    let e = ap length (items-end (cacheOf (c .before .before .before .before .args .b .now)) (c .before .loop .i) (omega (arith, c .before .before .count .ensures .0))) in
     omega arith
 
 pub items-length-spec : {M : Type 1} → statement M
@@ -55,6 +59,7 @@ items-length-spec =
     (tie.spec
     Inv-loop
     μ-loop
+    count-requires
     loop-holds
     item-numbers-requires
     slice-aggregate-line-length

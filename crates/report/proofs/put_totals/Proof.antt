@@ -7,6 +7,7 @@ use borrow.Author.Needs.{needs}
 use lib.ListN.{length, take}
 use lib.Seq.{length-take-le}
 use Rattle.cache_state.specs.View.{view}
+use Rattle.layout.specs.Layout.{cacheOf}
 use Rattle.report.specs.declared.Rival.the-variants.{Absent, Priced}
 use Rattle.report.specs.Words.{moreWords, wordsOf}
 use Rattle.report.specs.Report.{lineOf, totalNames, totalLines}
@@ -21,20 +22,20 @@ figures-requires c κs = search needs
 -- the last two lines, without a rival and with one
 alone :
     (c : tie.After-enum-told) →
-    (let a = c .before .before .before .before .args in
-    totalLines (view (a .c)) (a .rival) ≡ totalNames Absent ++ lineOf (take 8 (c .before .before .figures .result)))
+    (let a = c .before .before .before .before .before .args in
+    totalLines (view (cacheOf (a .b .now))) (a .rival) ≡ totalNames Absent ++ lineOf (take 8 (c .before .before .figures .result)))
 alone c =
-    let a = c .before .before .before .before .args in
-    totals-alone (view (a .c)) (a .rival) _ (c .enum-told .given .1) (c .before .before .figures .ensures)
+    let a = c .before .before .before .before .before .args in
+    totals-alone (view (cacheOf (a .b .now))) (a .rival) _ (c .enum-told .given .1) (c .before .before .figures .ensures)
 
 priced :
     (c : tie.After-enum-told2) →
-    (let a = c .before .before .before .before .args in
-    totalLines (view (a .c)) (a .rival) ≡ totalNames (Priced 0 0 0) ++ lineOf (c .before .before .figures .result))
+    (let a = c .before .before .before .before .before .args in
+    totalLines (view (cacheOf (a .b .now))) (a .rival) ≡ totalNames (Priced 0 0 0) ++ lineOf (c .before .before .figures .result))
 priced c =
-    let a = c .before .before .before .before .args in
+    let a = c .before .before .before .before .before .args in
     let l : length (c .before .before .figures .result) ≡ 11 = search needs in
-    totals-priced (view (a .c)) (a .rival) _ _ _ _ l (c .enum-told2 .given .1) (c .before .before .figures .ensures)
+    totals-priced (view (cacheOf (a .b .now))) (a .rival) _ _ _ _ l (c .enum-told2 .given .1) (c .before .before .figures .ensures)
 
 enum-told : tie.Need-enum-told
 enum-told c = search needs
@@ -52,7 +53,7 @@ slice-aggregate-put-table-2 c =
 
 put-table-requires : tie.Need-put-table-requires
 unfolding moreWords wordsOf
-put-table-requires c κs = rw (alone (c .before .before .before)) at (c .before .before .before .before .before .before .before .pre .room)
+put-table-requires c κs = rw (alone (c .before .before .before)) at (c .before .before .before .before .before .before .before .before .pre .room)
 
 enum-told-2 : tie.Need-enum-told-2
 enum-told-2 c = search needs
@@ -65,7 +66,7 @@ slice-aggregate-put-table-4 c = search needs
 
 put-table-requires-2 : tie.Need-put-table-requires-2
 unfolding moreWords wordsOf
-put-table-requires-2 c κs = rw (priced (c .before .before .before)) at (c .before .before .before .before .before .before .before .pre .room)
+put-table-requires-2 c κs = rw (priced (c .before .before .before)) at (c .before .before .before .before .before .before .before .before .pre .room)
 
 same-length : tie.Need-same-length
 same-length c = search needs
@@ -73,7 +74,7 @@ same-length c = search needs
 returns : tie.Need-returns
 unfolding moreWords wordsOf
 returns c =
-    let page = c .before .before .before .before .before .before .before .before .before .before .args .page .now in
+    let page = c .before .before .before .before .before .before .before .before .before .before .before .args .page .now in
     c .before .before .put-table .ensures ∙ ap (λ (t : List ℕ). over t page) (sym (alone (c .before .before .before .before .before .before)))
 
 same-length-2 : tie.Need-same-length-2
@@ -82,7 +83,7 @@ same-length-2 c = search needs
 returns-2 : tie.Need-returns-2
 unfolding moreWords wordsOf
 returns-2 c =
-    let page = c .before .before .before .before .before .before .before .before .before .before .args .page .now in
+    let page = c .before .before .before .before .before .before .before .before .before .before .before .args .page .now in
     c .before .before .put-table2 .ensures ∙ ap (λ (t : List ℕ). over t page) (sym (priced (c .before .before .before .before .before .before)))
 
 pub put-totals-spec : {M : Type 1} → statement M

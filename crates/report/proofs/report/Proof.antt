@@ -5,9 +5,10 @@ use native.Mathlib.Omega.{arith}
 use borrow.Author.Needs.{needs}
 use borrow.Author.Tests.{not-true, not-false}
 use Rattle.cache_state.specs.View.{view}
-use Rattle.cache_state.specs.Valid.{Valid}
+use Rattle.layout.specs.Layout.{cacheOf}
+use Rattle.layout.specs.Stands.{ValidBytes}
 use Rattle.report.specs.Report.{reportOf}
-use Rattle.report.proofs.Laws.{put-short, put-whole, foul-told, fine-told}
+use Rattle.report.proofs.Laws.{put-short, put-whole, invalid-told, fine-told}
 use Rattle.report.proofs.report.Statement.{statement}
 use Rattle.report.proofs.report.Tie as tie
 
@@ -16,11 +17,11 @@ valid-requires c κs = search needs
 
 returns : tie.Need-returns
 returns c =
-    let a = c .before .before .before .args in
-    foul-told (a .c) (a .rival) (a .page .now) (λ v. false≢true (sym (not-true _ (c .if1 .taken)) ∙ c .before .valid .ensures .only v))
+    let a = c .before .before .before .before .args in
+    invalid-told (a .b .now) (a .rival) (a .page .now) (λ v. false≢true (sym (not-true _ (c .if1 .taken)) ∙ c .before .valid .ensures .only v))
 
--- past the first test the cache is valid
-valid : (c : tie.Else1) → Valid (c .before .before .before .args .c)
+-- past the first test the state is valid
+valid : (c : tie.Else1) → ValidBytes (c .before .before .before .before .args .b .now)
 valid c = c .before .valid .ensures .yes (not-false _ (c .if1 .left))
 
 report-length-requires : tie.Need-report-length-requires
@@ -28,9 +29,9 @@ report-length-requires c κs = valid c
 
 returns-2 : tie.Need-returns-2
 returns-2 c =
-    let a = c .before .before .before .before .before .args in
-    let t = reportOf (view (a .c)) (a .rival) in
-    fine-told (a .c) (a .rival) (a .page .now) _ _ (valid (c .before .before)) (put-short t (a .page .now) (omega arith))
+    let a = c .before .before .before .before .before .before .args in
+    let t = reportOf (view (cacheOf (a .b .now))) (a .rival) in
+    fine-told (a .b .now) (a .rival) (a .page .now) _ _ (valid (c .before .before)) (put-short t (a .page .now) (omega arith))
 
 put-report-requires : tie.Need-put-report-requires
 put-report-requires c κs = record { valid = valid (c .before .before .before); room = omega arith }
@@ -40,9 +41,9 @@ same-length c = search needs
 
 returns-3 : tie.Need-returns-3
 returns-3 c =
-    let a = c .before .before .before .before .before .before .before .before .before .args in
-    let t = reportOf (view (a .c)) (a .rival) in
-    fine-told (a .c) (a .rival) (a .page .now) _ _ (valid (c .before .before .before .before .before .before))
+    let a = c .before .before .before .before .before .before .before .before .before .before .args in
+    let t = reportOf (view (cacheOf (a .b .now))) (a .rival) in
+    fine-told (a .b .now) (a .rival) (a .page .now) _ _ (valid (c .before .before .before .before .before .before))
     (put-whole t (a .page .now) _ _ (omega arith) (c .before .before .before .before .before .report-length .ensures) (c .before .before .put-report .ensures))
 
 pub report-spec : {M : Type 1} → statement M

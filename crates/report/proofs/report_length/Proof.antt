@@ -2,6 +2,7 @@
 use native.Mathlib.Omega.{arith}
 use borrow.Author.Needs.{needs}
 use Rattle.cache_state.specs.View.{view}
+use Rattle.layout.specs.Layout.{cacheOf}
 use Rattle.report.proofs.Laws.{report-count}
 use Rattle.report.proofs.Longest.{items-longest}
 use Rattle.report.proofs.report_length.Statement.{statement}
@@ -11,16 +12,16 @@ items-length-requires : tie.Need-items-length-requires
 items-length-requires c κs = search needs
 
 add-result : tie.Need-add-result
-add-result c = omega (arith, items-longest (c .before .args .c) (c .before .pre))
+add-result c = omega (arith, items-longest (cacheOf (c .before .before .args .b .now)) (c .before .before .pre .cache))
 
 totals-length-requires : tie.Need-totals-length-requires
 totals-length-requires c κs = search needs
 
 add-result-2 : tie.Need-add-result-2
-add-result-2 c = omega (arith, items-longest (c .before .before .args .c) (c .before .before .pre))
+add-result-2 c = omega (arith, items-longest (cacheOf (c .before .before .before .args .b .now)) (c .before .before .before .pre .cache))
 
 returns : tie.Need-returns
-returns c = omega (arith, report-count (view (c .before .before .args .c)) (c .before .before .args .rival))
+returns c = omega (arith, report-count (view (cacheOf (c .before .before .before .args .b .now))) (c .before .before .before .args .rival))
 
 pub report-length-spec : {M : Type 1} → statement M
 report-length-spec =

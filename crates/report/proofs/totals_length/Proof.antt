@@ -6,6 +6,7 @@ use borrow.Author.Needs.{needs}
 use lib.ListN.{length, take, length-append}
 use lib.Seq.{length-take-le}
 use Rattle.cache_state.specs.View.{view}
+use Rattle.layout.specs.Layout.{cacheOf}
 use Rattle.report.specs.declared.Rival.the-variants.{Absent, Priced}
 use Rattle.report.specs.Report.{lineOf, totalNames, totalLines}
 use Rattle.report.proofs.Laws.{totals-alone, totals-priced, names-alone-count, names-priced-count}
@@ -18,20 +19,20 @@ figures-requires c κs = search needs
 -- the last two lines, without a rival and with one
 alone :
     (c : tie.After-enum-told) →
-    (let a = c .before .before .before .args in
-    totalLines (view (a .c)) (a .rival) ≡ totalNames Absent ++ lineOf (take 8 (c .before .before .figures .result)))
+    (let a = c .before .before .before .before .args in
+    totalLines (view (cacheOf (a .b .now))) (a .rival) ≡ totalNames Absent ++ lineOf (take 8 (c .before .before .figures .result)))
 alone c =
-    let a = c .before .before .before .args in
-    totals-alone (view (a .c)) (a .rival) _ (c .enum-told .given .1) (c .before .before .figures .ensures)
+    let a = c .before .before .before .before .args in
+    totals-alone (view (cacheOf (a .b .now))) (a .rival) _ (c .enum-told .given .1) (c .before .before .figures .ensures)
 
 priced :
     (c : tie.After-enum-told2) →
-    (let a = c .before .before .before .args in
-    totalLines (view (a .c)) (a .rival) ≡ totalNames (Priced 0 0 0) ++ lineOf (c .before .before .figures .result))
+    (let a = c .before .before .before .before .args in
+    totalLines (view (cacheOf (a .b .now))) (a .rival) ≡ totalNames (Priced 0 0 0) ++ lineOf (c .before .before .figures .result))
 priced c =
-    let a = c .before .before .before .args in
+    let a = c .before .before .before .before .args in
     let l : length (c .before .before .figures .result) ≡ 11 = search needs in
-    totals-priced (view (a .c)) (a .rival) _ _ _ _ l (c .enum-told2 .given .1) (c .before .before .figures .ensures)
+    totals-priced (view (cacheOf (a .b .now))) (a .rival) _ _ _ _ l (c .enum-told2 .given .1) (c .before .before .figures .ensures)
 
 enum-told : tie.Need-enum-told
 enum-told c = search needs

@@ -1,11 +1,11 @@
 -- `season_plan::fetch` meets its contract: held already, or not. Assumes nothing.
-use mathlib.Core.Path.{_≡_, ap}
-use Prim.Native.Nat.{_<_}
+use mathlib.Core.Path.{_≡_, ap, _∙_}
+use Prim.Native.Nat.{_+_, _<_}
 use native.Mathlib.Omega.{arith}
 use lib.ListN.{length}
 use borrow.Author.Needs.{needs}
 use Rattle.season_plan.specs.declared.Copies.{Copies}
-use Rattle.season_plan.proofs.Deeds.{fetch-fails, fetch-does, used-most, item-most}
+use Rattle.season_plan.proofs.Deeds.{fetch-fails, fetch-does, used-most}
 use Rattle.season_plan.proofs.fetch.Statement.{statement}
 use Rattle.season_plan.proofs.fetch.Tie as tie
 
@@ -23,54 +23,41 @@ failed-requires c κs = search needs
 
 returns : tie.Need-returns
 returns c =
-    let s = c .before .before .before in
-    fetch-fails (s .args .t1) (s .args .t2) (s .args .item) (s .pre .known) (placed s) (c .failed .result) (c .before .if1 .taken) (c .failed .ensures)
+    let s = c .before .before .before .before in
+    fetch-fails (s .args .catalog .now) (s .args .t2) (s .args .item) (s .pre .known) (placed s) (c .failed .result) (c .before .if1 .taken) (c .failed .ensures)
 
 element-write-q : tie.Need-element-write-q
 element-write-q c = search needs
 
-element-copy-out-q : tie.Need-element-copy-out-q
-element-copy-out-q c = search needs
+blocks-requires : tie.Need-blocks-requires
+blocks-requires c κs = search needs
 
 cast-q : tie.Need-cast-q
 cast-q c = search needs
 
 add-q : tie.Need-add-q
 add-q c =
-    let s = c .before .before .before in
-    omega (
-      arith,
-      used-most (s .args .t1) (s .args .t2) (s .pre .ready),
-      item-most (s .args .t1) (s .args .t2) (s .args .item) (s .pre .ready) (s .pre .known) .0,
-    )
+    let s = c .before .before .before .before in
+    omega (arith, used-most (s .args .catalog .now) (s .args .t2) (s .pre .ready), c .blocks2 .ok)
 
-mul-q : tie.Need-mul-q
-mul-q c = search needs
-
-element-copy-out-q-2 : tie.Need-element-copy-out-q-2
-element-copy-out-q-2 c = search needs
+load-cost-requires : tie.Need-load-cost-requires
+load-cost-requires c κs = search needs
 
 cast-q-2 : tie.Need-cast-q-2
 cast-q-2 c = search needs
 
 add-q-2 : tie.Need-add-q-2
-add-q-2 c =
-    let s = c .before .before .before .before in
-    omega (
-      arith,
-      s .pre .ready .low,
-      item-most (s .args .t1) (s .args .t2) (s .args .item) (s .pre .ready) (s .pre .known) .1,
-    )
+add-q-2 c = search needs
 
 done-requires : tie.Need-done-requires
 done-requires c κs = search needs
 
 returns-2 : tie.Need-returns-2
 returns-2 c =
-    let s = c .before .before .before .before .before in
+    let s = c .before .before .before .before .before .before in
     let is = c .done .ensures .1 in
-    fetch-does (s .args .t1) (s .args .t2) (s .args .item) (s .pre .known) (placed s) (c .done .result) (omega arith)
-    (c .done .ensures .0) (ap (λ (t : Copies). t .marks) is) (ap (λ (t : Copies). t .used) is) (ap (λ (t : Copies). t .paid) is)
+    fetch-does (s .args .catalog .now) (s .args .t2) (s .args .item) (s .pre .known) (placed s) (c .done .result) (omega arith)
+    (c .done .ensures .0) (ap (λ (t : Copies). t .marks) is) (ap (λ (t : Copies). t .used) is ∙ ap (λ t. s .args .t2 .used + t) (c .before .before .blocks2 .ensures)) (ap (λ (t : Copies). t .paid) is ∙ ap (λ t. s .args .t2 .paid + t) (c .before .load-cost .ensures))
 
 pub fetch-spec : {M : Type 1} → statement M
 fetch-spec =
@@ -80,11 +67,10 @@ fetch-spec =
     failed-requires
     returns
     element-write-q
-    element-copy-out-q
+    blocks-requires
     cast-q
     add-q
-    mul-q
-    element-copy-out-q-2
+    load-cost-requires
     cast-q-2
     add-q-2
     done-requires

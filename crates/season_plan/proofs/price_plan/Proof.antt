@@ -8,126 +8,126 @@ use Rattle.season_plan.proofs.price_plan.Statement.{statement}
 use Rattle.season_plan.proofs.price_plan.Tie as tie
 
 abbrev Inv-loop : tie.InvT-loop
-Inv-loop seen calls acts steps p₀ a₀ s₀ p a s = Pricing seen calls acts p a s
+Inv-loop seen catalog calls acts steps p₀ a₀ s₀ p a s = Pricing seen catalog calls acts p a s
 
 abbrev μ-loop : tie.MeasureT-loop
-μ-loop seen calls acts steps p₀ a₀ s₀ p a s = seen .steps - s
+μ-loop seen catalog calls acts steps p₀ a₀ s₀ p a s = seen .steps - s
 
 loop-holds : tie.Need-loop-holds Inv-loop μ-loop
 loop-holds c =
-    let t = c .before .before in
-    pricing-starts (t .args .seen) (t .args .calls .now) (t .args .acts .now) (t .pre) _ refl refl refl
+    let t = c .before .before .before in
+    pricing-starts (t .args .seen) (t .args .catalog .now) (t .args .calls .now) (t .args .acts .now) (t .pre) _ refl refl refl
 
 cast-acts-before : tie.Need-cast-acts-before Inv-loop μ-loop
-cast-acts-before c = omega (arith, c .before .before .before .before .pre .fewSteps, c .before .before .before .before .pre .fewActs, c .before .before .before .before .pre .holds .few)
+cast-acts-before c = omega (arith, c .before .before .before .before .before .pre .fewSteps, c .before .before .before .before .before .pre .fewActs, c .before .before .before .before .before .pre .holds .few)
 
 acts-before-requires : tie.Need-acts-before-requires Inv-loop μ-loop
 acts-before-requires c κs =
-    let t = c .before .before .before .before in
+    let t = c .before .before .before .before .before in
     let l = c .before .loop in
-    pricing-acts (t .args .seen) (t .args .calls .now) (t .args .acts .now) (t .pre) (l .p) (l .a) (l .s) (l .inv) (omega arith)
+    pricing-acts (t .args .seen) (t .args .catalog .now) (t .args .calls .now) (t .args .acts .now) (t .pre) (l .p) (l .a) (l .s) (l .inv) (omega arith)
 
 add-refusal-for : tie.Need-add-refusal-for Inv-loop μ-loop
-add-refusal-for c = omega (arith, c .before .before .before .before .before .before .before .pre .fewSteps, c .before .before .before .before .before .before .before .pre .fewActs, c .before .before .before .before .before .before .before .pre .holds .few, c .before .before .acts-before .ensures .1 .next)
+add-refusal-for c = omega (arith, c .before .before .before .before .before .before .before .before .pre .fewSteps, c .before .before .before .before .before .before .before .before .pre .fewActs, c .before .before .before .before .before .before .before .before .pre .holds .few, c .before .before .acts-before .ensures .1 .next)
 
 add-refusal-for-2 : tie.Need-add-refusal-for-2 Inv-loop μ-loop
-add-refusal-for-2 c = omega (arith, c .before .before .before .before .before .before .before .pre .fewSteps, c .before .before .before .before .before .before .before .pre .fewActs, c .before .before .before .before .before .before .before .pre .holds .few, c .before .before .acts-before .ensures .1 .next)
+add-refusal-for-2 c = omega (arith, c .before .before .before .before .before .before .before .before .pre .fewSteps, c .before .before .before .before .before .before .before .before .pre .fewActs, c .before .before .before .before .before .before .before .before .pre .holds .few, c .before .before .acts-before .ensures .1 .next)
 
 add-refusal-for-3 : tie.Need-add-refusal-for-3 Inv-loop μ-loop
-add-refusal-for-3 c = omega (arith, c .before .before .before .before .before .before .before .pre .fewSteps, c .before .before .before .before .before .before .before .pre .fewActs, c .before .before .before .before .before .before .before .pre .holds .few, c .before .before .acts-before .ensures .1 .next)
+add-refusal-for-3 c = omega (arith, c .before .before .before .before .before .before .before .before .pre .fewSteps, c .before .before .before .before .before .before .before .before .pre .fewActs, c .before .before .before .before .before .before .before .before .pre .holds .few, c .before .before .acts-before .ensures .1 .next)
 
 cast-refusal-for : tie.Need-cast-refusal-for Inv-loop μ-loop
-cast-refusal-for c = omega (arith, c .before .before .before .before .before .before .before .pre .fewSteps, c .before .before .before .before .before .before .before .pre .fewActs, c .before .before .before .before .before .before .before .pre .holds .few, c .before .before .acts-before .ensures .1 .next)
+cast-refusal-for c = omega (arith, c .before .before .before .before .before .before .before .before .pre .fewSteps, c .before .before .before .before .before .before .before .before .pre .fewActs, c .before .before .before .before .before .before .before .before .pre .holds .few, c .before .before .acts-before .ensures .1 .next)
 
 refusal-for-requires : tie.Need-refusal-for-requires Inv-loop μ-loop
 refusal-for-requires c κs = tt
 
 returns : tie.Need-returns Inv-loop μ-loop
 returns c =
-    let t = c .before .before .before .before .before .before .before .before in
+    let t = c .before .before .before .before .before .before .before .before .before in
     let l = c .before .before .before .before .before .loop in
-    (rw (c .refusal-for .ensures) (pricing-act-fails (t .args .seen) (t .args .calls .now) (t .args .acts .now) (t .pre) (l .p) (l .a) (l .s) (l .inv) (omega arith) (c .before .before .before .acts-before .result) (c .before .before .before .acts-before .ensures .0) (c .before .before .before .acts-before .ensures .1) _ (c .before .before .if1 .taken) (omega arith)), tt)
+    (rw (c .refusal-for .ensures) (pricing-act-fails (t .args .seen) (t .args .catalog .now) (t .args .calls .now) (t .args .acts .now) (t .pre) (l .p) (l .a) (l .s) (l .inv) (omega arith) (c .before .before .before .acts-before .result) (c .before .before .before .acts-before .ensures .0) (c .before .before .before .acts-before .ensures .1) _ (c .before .before .if1 .taken) (omega arith)), tt)
 
 mul-serve : tie.Need-mul-serve Inv-loop μ-loop
-mul-serve c = omega (arith, c .before .before .before .before .before .before .before .pre .fewSteps, c .before .before .before .before .before .before .before .pre .fewActs, c .before .before .before .before .before .before .before .pre .holds .few)
+mul-serve c = omega (arith, c .before .before .before .before .before .before .before .before .pre .fewSteps, c .before .before .before .before .before .before .before .before .pre .fewActs, c .before .before .before .before .before .before .before .before .pre .holds .few)
 
 add-serve : tie.Need-add-serve Inv-loop μ-loop
-add-serve c = omega (arith, c .before .before .before .before .before .before .before .pre .fewSteps, c .before .before .before .before .before .before .before .pre .fewActs, c .before .before .before .before .before .before .before .pre .holds .few)
+add-serve c = omega (arith, c .before .before .before .before .before .before .before .before .pre .fewSteps, c .before .before .before .before .before .before .before .before .pre .fewActs, c .before .before .before .before .before .before .before .before .pre .holds .few)
 
 mul-serve-2 : tie.Need-mul-serve-2 Inv-loop μ-loop
-mul-serve-2 c = omega (arith, c .before .before .before .before .before .before .before .pre .fewSteps, c .before .before .before .before .before .before .before .pre .fewActs, c .before .before .before .before .before .before .before .pre .holds .few)
+mul-serve-2 c = omega (arith, c .before .before .before .before .before .before .before .before .pre .fewSteps, c .before .before .before .before .before .before .before .before .pre .fewActs, c .before .before .before .before .before .before .before .before .pre .holds .few)
 
 shared-slice-read-serve : tie.Need-shared-slice-read-serve Inv-loop μ-loop
-shared-slice-read-serve c = omega (arith, c .before .before .before .before .before .before .before .before .pre .fewSteps, c .before .before .before .before .before .before .before .before .pre .forSteps)
+shared-slice-read-serve c = omega (arith, c .before .before .before .before .before .before .before .before .before .pre .fewSteps, c .before .before .before .before .before .before .before .before .before .pre .forSteps)
 
 mul-serve-3 : tie.Need-mul-serve-3 Inv-loop μ-loop
-mul-serve-3 c = omega (arith, c .before .before .before .before .before .before .before .before .pre .fewSteps, c .before .before .before .before .before .before .before .before .pre .fewActs, c .before .before .before .before .before .before .before .before .pre .holds .few)
+mul-serve-3 c = omega (arith, c .before .before .before .before .before .before .before .before .before .pre .fewSteps, c .before .before .before .before .before .before .before .before .before .pre .fewActs, c .before .before .before .before .before .before .before .before .before .pre .holds .few)
 
 add-serve-2 : tie.Need-add-serve-2 Inv-loop μ-loop
-add-serve-2 c = omega (arith, c .before .before .before .before .before .before .before .before .pre .fewSteps, c .before .before .before .before .before .before .before .before .pre .fewActs, c .before .before .before .before .before .before .before .before .pre .holds .few)
+add-serve-2 c = omega (arith, c .before .before .before .before .before .before .before .before .before .pre .fewSteps, c .before .before .before .before .before .before .before .before .before .pre .fewActs, c .before .before .before .before .before .before .before .before .before .pre .holds .few)
 
 mul-serve-4 : tie.Need-mul-serve-4 Inv-loop μ-loop
-mul-serve-4 c = omega (arith, c .before .before .before .before .before .before .before .before .pre .fewSteps, c .before .before .before .before .before .before .before .before .pre .fewActs, c .before .before .before .before .before .before .before .before .pre .holds .few)
+mul-serve-4 c = omega (arith, c .before .before .before .before .before .before .before .before .before .pre .fewSteps, c .before .before .before .before .before .before .before .before .before .pre .fewActs, c .before .before .before .before .before .before .before .before .before .pre .holds .few)
 
 shared-slice-read-serve-2 : tie.Need-shared-slice-read-serve-2 Inv-loop μ-loop
-shared-slice-read-serve-2 c = omega (arith, c .before .before .before .before .before .before .before .before .before .pre .fewSteps, c .before .before .before .before .before .before .before .before .before .pre .forSteps)
+shared-slice-read-serve-2 c = omega (arith, c .before .before .before .before .before .before .before .before .before .before .pre .fewSteps, c .before .before .before .before .before .before .before .before .before .before .pre .forSteps)
 
 cast-serve : tie.Need-cast-serve Inv-loop μ-loop
-cast-serve c = omega (arith, c .shared-slice-known4 .given (4 * c .before .before .before .before .before .before .loop .s + 2))
+cast-serve c = omega (arith, c .shared-slice-known5 .given (4 * c .before .before .before .before .before .before .loop .s + 2))
 
 serve-requires : tie.Need-serve-requires Inv-loop μ-loop
 serve-requires c κs =
-    let t = c .before .before .before .before .before .before .before .before .before in
+    let t = c .before .before .before .before .before .before .before .before .before .before in
     let l = c .before .before .before .before .before .before .loop in
-    pricing-serves (t .args .seen) (t .args .calls .now) (t .args .acts .now) (t .pre) (l .p) (l .a) (l .s) (l .inv) (omega arith) (c .before .before .before .before .acts-before .result) (c .before .before .before .before .acts-before .ensures .0) (c .before .before .before .before .acts-before .ensures .1) (c .before .before .before .if1 .left)
+    pricing-serves (t .args .seen) (t .args .catalog .now) (t .args .calls .now) (t .args .acts .now) (t .pre) (l .p) (l .a) (l .s) (l .inv) (omega arith) (c .before .before .before .before .acts-before .result) (c .before .before .before .before .acts-before .ensures .0) (c .before .before .before .before .acts-before .ensures .1) (c .before .before .before .if1 .left)
 
 add-refusal-for-4 : tie.Need-add-refusal-for-4 Inv-loop μ-loop
-add-refusal-for-4 c = omega (arith, c .before .before .before .before .before .before .before .before .before .before .before .before .pre .fewSteps, c .before .before .before .before .before .before .before .before .before .before .before .before .pre .fewActs, c .before .before .before .before .before .before .before .before .before .before .before .before .pre .holds .few)
+add-refusal-for-4 c = omega (arith, c .before .before .before .before .before .before .before .before .before .before .before .before .before .pre .fewSteps, c .before .before .before .before .before .before .before .before .before .before .before .before .before .pre .fewActs, c .before .before .before .before .before .before .before .before .before .before .before .before .before .pre .holds .few)
 
 add-refusal-for-5 : tie.Need-add-refusal-for-5 Inv-loop μ-loop
-add-refusal-for-5 c = omega (arith, c .before .before .before .before .before .before .before .before .before .before .before .before .pre .fewSteps, c .before .before .before .before .before .before .before .before .before .before .before .before .pre .fewActs, c .before .before .before .before .before .before .before .before .before .before .before .before .pre .holds .few)
+add-refusal-for-5 c = omega (arith, c .before .before .before .before .before .before .before .before .before .before .before .before .before .pre .fewSteps, c .before .before .before .before .before .before .before .before .before .before .before .before .before .pre .fewActs, c .before .before .before .before .before .before .before .before .before .before .before .before .before .pre .holds .few)
 
 cast-refusal-for-2 : tie.Need-cast-refusal-for-2 Inv-loop μ-loop
-cast-refusal-for-2 c = omega (arith, c .before .before .before .before .before .before .before .before .before .before .before .before .pre .fewSteps, c .before .before .before .before .before .before .before .before .before .before .before .before .pre .fewActs, c .before .before .before .before .before .before .before .before .before .before .before .before .pre .holds .few)
+cast-refusal-for-2 c = omega (arith, c .before .before .before .before .before .before .before .before .before .before .before .before .before .pre .fewSteps, c .before .before .before .before .before .before .before .before .before .before .before .before .before .pre .fewActs, c .before .before .before .before .before .before .before .before .before .before .before .before .before .pre .holds .few)
 
 refusal-for-requires-2 : tie.Need-refusal-for-requires-2 Inv-loop μ-loop
 refusal-for-requires-2 c κs = tt
 
 returns-2 : tie.Need-returns-2 Inv-loop μ-loop
 returns-2 c =
-    let t = c .before .before .before .before .before .before .before .before .before .before .before .before .before in
+    let t = c .before .before .before .before .before .before .before .before .before .before .before .before .before .before in
     let l = c .before .before .before .before .before .before .before .before .before .before .loop in
-    (rw (c .refusal-for2 .ensures) (pricing-step-fails (t .args .seen) (t .args .calls .now) (t .args .acts .now) (t .pre) (l .p) (l .a) (l .s) (l .inv) (omega arith) (c .before .before .before .before .before .before .before .before .acts-before .result) (c .before .before .before .before .before .before .before .before .acts-before .ensures .0) (c .before .before .before .before .before .before .before .before .acts-before .ensures .1) (c .before .before .before .before .before .before .before .if1 .left) (c .before .before .before .serve .result) (c .before .before .before .serve .ensures) _ (c .before .before .if2 .taken) (omega arith)), tt)
+    (rw (c .refusal-for2 .ensures) (pricing-step-fails (t .args .seen) (t .args .catalog .now) (t .args .calls .now) (t .args .acts .now) (t .pre) (l .p) (l .a) (l .s) (l .inv) (omega arith) (c .before .before .before .before .before .before .before .before .acts-before .result) (c .before .before .before .before .before .before .before .before .acts-before .ensures .0) (c .before .before .before .before .before .before .before .before .acts-before .ensures .1) (c .before .before .before .before .before .before .before .if1 .left) (c .before .before .before .serve .result) (c .before .before .before .serve .ensures) _ (c .before .before .if2 .taken) (omega arith)), tt)
 
 add-s : tie.Need-add-s Inv-loop μ-loop
-add-s c = omega (arith, c .before .before .before .before .before .before .before .before .before .before .before .before .pre .fewSteps, c .before .before .before .before .before .before .before .before .before .before .before .before .pre .fewActs, c .before .before .before .before .before .before .before .before .before .before .before .before .pre .holds .few)
+add-s c = omega (arith, c .before .before .before .before .before .before .before .before .before .before .before .before .before .pre .fewSteps, c .before .before .before .before .before .before .before .before .before .before .before .before .before .pre .fewActs, c .before .before .before .before .before .before .before .before .before .before .before .before .before .pre .holds .few)
 
 loop-less : tie.Need-loop-less Inv-loop μ-loop
 loop-less c = omega arith
 
 loop-again : tie.Need-loop-again Inv-loop μ-loop
 loop-again c =
-    let t = c .before .before .before .before .before .before .before .before .before .before .before .before in
+    let t = c .before .before .before .before .before .before .before .before .before .before .before .before .before in
     let l = c .before .before .before .before .before .before .before .before .before .loop in
-    pricing-turn (t .args .seen) (t .args .calls .now) (t .args .acts .now) (t .pre) (l .p) (l .a) (l .s) (l .inv) (omega arith) (c .before .before .before .before .before .before .before .acts-before .result) (c .before .before .before .before .before .before .before .acts-before .ensures .0) (c .before .before .before .before .before .before .before .acts-before .ensures .1) (c .before .before .before .before .before .before .if1 .left) (c .before .before .serve .result) (c .before .before .serve .ensures) (c .before .if2 .left)
+    pricing-turn (t .args .seen) (t .args .catalog .now) (t .args .calls .now) (t .args .acts .now) (t .pre) (l .p) (l .a) (l .s) (l .inv) (omega arith) (c .before .before .before .before .before .before .before .acts-before .result) (c .before .before .before .before .before .before .before .acts-before .ensures .0) (c .before .before .before .before .before .before .before .acts-before .ensures .1) (c .before .before .before .before .before .before .if1 .left) (c .before .before .serve .result) (c .before .before .serve .ensures) (c .before .if2 .left)
 
 owed-requires : tie.Need-owed-requires Inv-loop μ-loop
 owed-requires c κs =
-    let t = c .before .before .before .before in
+    let t = c .before .before .before .before .before in
     let l = c .before .loop in
-    pricing-ready (t .args .seen) (t .args .calls .now) (t .args .acts .now) (t .pre) (l .p) (l .a) (l .s) (l .inv)
+    pricing-ready (t .args .seen) (t .args .catalog .now) (t .args .calls .now) (t .args .acts .now) (t .pre) (l .p) (l .a) (l .s) (l .inv)
 
 add-total : tie.Need-add-total Inv-loop μ-loop
 add-total c =
-    let t = c .before .before .before .before .before .before in
+    let t = c .before .before .before .before .before .before .before in
     let l = c .before .before .before .loop in
-    omega (arith, pricing-low (t .args .seen) (t .args .calls .now) (t .args .acts .now) (t .pre) (l .p) (l .a) (l .s) (l .inv), c .before .owed .ensures .1)
+    omega (arith, pricing-low (t .args .seen) (t .args .catalog .now) (t .args .calls .now) (t .args .acts .now) (t .pre) (l .p) (l .a) (l .s) (l .inv), c .before .owed .ensures .1)
 
 returns-3 : tie.Need-returns-3 Inv-loop μ-loop
 returns-3 c =
-    let t = c .before .before .before .before .before .before in
+    let t = c .before .before .before .before .before .before .before in
     let l = c .before .before .before .loop in
-    (pricing-ends (t .args .seen) (t .args .calls .now) (t .args .acts .now) (t .pre) (l .p) (l .a) (l .s) (l .inv) (c .before .owed .result) _ (omega arith) (c .before .owed .ensures .0) (omega arith), omega (arith, pricing-low (t .args .seen) (t .args .calls .now) (t .args .acts .now) (t .pre) (l .p) (l .a) (l .s) (l .inv), c .before .owed .ensures .1))
+    (pricing-ends (t .args .seen) (t .args .catalog .now) (t .args .calls .now) (t .args .acts .now) (t .pre) (l .p) (l .a) (l .s) (l .inv) (c .before .owed .result) _ (omega arith) (c .before .owed .ensures .0) (omega arith), omega (arith, pricing-low (t .args .seen) (t .args .catalog .now) (t .args .calls .now) (t .args .acts .now) (t .pre) (l .p) (l .a) (l .s) (l .inv), c .before .owed .ensures .1))
 
 pub price-plan-spec : {M : Type 1} → statement M
 price-plan-spec =

@@ -18,31 +18,36 @@ use Rattle.season_scan.proofs.scan.Statement.{statement}
 use Rattle.season_scan.proofs.scan.Tie as tie
 
 abbrev Inv-loop : tie.InvT-loop
-Inv-loop s calls acts seen at line end fields₀ count₀ i₀ more₀ fields count i more = Fielded s seen at end fields count i more
+Inv-loop s catalog calls acts seen at line end fields₀ count₀ i₀ more₀ fields count i more = Fielded s seen at end fields count i more
 
 abbrev μ-loop : tie.MeasureT-loop
-μ-loop s calls acts seen at line end fields₀ count₀ i₀ more₀ fields count i more = end + 1 - i
+μ-loop s catalog calls acts seen at line end fields₀ count₀ i₀ more₀ fields count i more = end + 1 - i
 
 abbrev Inv-lines : tie.InvT-lines
-Inv-lines s calls₀ acts₀ seen₀ at₀ line₀ calls acts seen at line = Lined s calls acts seen at line
+Inv-lines s catalog₀ calls₀ acts₀ seen₀ at₀ line₀ catalog calls acts seen at line = Lined s catalog calls acts seen at line
 
 abbrev μ-lines : tie.MeasureT-lines
-μ-lines s calls₀ acts₀ seen₀ at₀ line₀ calls acts seen at line = length s - at
+μ-lines s catalog₀ calls₀ acts₀ seen₀ at₀ line₀ catalog calls acts seen at line = length s - at
 
 -- the slices are as long as they were
+same-items :
+    (c : tie.At-lines Inv-loop μ-loop Inv-lines μ-lines) →
+    length (c .lines .catalog) ≡ length (c .before .before .before .before .before .before .args .catalog .now)
+same-items c = c .lines .inv .roomy .forItems ∙ sym (c .before .before .before .before .before .before .pre .roomy .forItems)
+
 same-steps :
     (c : tie.At-lines Inv-loop μ-loop Inv-lines μ-lines) →
-    length (c .lines .calls) ≡ length (c .before .before .before .before .before .args .calls .now)
-same-steps c = c .lines .inv .roomy .forSteps ∙ sym (c .before .before .before .before .before .pre .roomy .forSteps)
+    length (c .lines .calls) ≡ length (c .before .before .before .before .before .before .args .calls .now)
+same-steps c = c .lines .inv .roomy .forSteps ∙ sym (c .before .before .before .before .before .before .pre .roomy .forSteps)
 
 same-acts :
     (c : tie.At-lines Inv-loop μ-loop Inv-lines μ-lines) →
-    length (c .lines .acts) ≡ length (c .before .before .before .before .before .args .acts .now)
-same-acts c = c .lines .inv .roomy .forActs ∙ sym (c .before .before .before .before .before .pre .roomy .forActs)
+    length (c .lines .acts) ≡ length (c .before .before .before .before .before .before .args .acts .now)
+same-acts c = c .lines .inv .roomy .forActs ∙ sym (c .before .before .before .before .before .before .pre .roomy .forActs)
 
 -- the text, and where in it the line begins and ends
 abbrev text : tie.After-find Inv-loop μ-loop Inv-lines μ-lines → List ℕ
-text c = c .before .before .before .before .before .before .before .before .args .s .now
+text c = c .before .before .before .before .before .before .before .before .before .args .s .now
 
 abbrev from : tie.After-find Inv-loop μ-loop Inv-lines μ-lines → ℕ
 from c = c .before .before .before .lines .at
@@ -51,7 +56,7 @@ abbrev to : tie.After-find Inv-loop μ-loop Inv-lines μ-lines → ℕ
 to c = from c + c .find .result
 
 short : (c : tie.After-find Inv-loop μ-loop Inv-lines μ-lines) → length (text c) ≤ 65536
-short c = c .before .before .before .before .before .before .before .before .pre .short
+short c = c .before .before .before .before .before .before .before .before .before .pre .short
 
 found : (c : tie.After-find Inv-loop μ-loop Inv-lines μ-lines) → to c ≡ from c + length (before 10 (drop (from c) (text c)))
 found c = line-end (text c) (from c) (c .find .result) (c .find .ensures)
@@ -101,7 +106,7 @@ at-start-requires : tie.Need-at-start-requires Inv-loop μ-loop Inv-lines μ-lin
 at-start-requires c κs = search needs
 
 lines-holds : tie.Need-lines-holds Inv-loop μ-loop Inv-lines μ-lines
-lines-holds c = begins _ _ _ _ (c .before .before .before .before .pre .roomy) (c .at-start .ensures)
+lines-holds c = begins _ _ _ _ _ (c .before .before .before .before .before .pre .roomy) (c .at-start .ensures)
 
 ended-requires : tie.Need-ended-requires Inv-loop μ-loop Inv-lines μ-lines
 ended-requires c κs = search needs
@@ -209,9 +214,9 @@ part-lead-end c = found-le (c .before .before .before .before)
 
 lead-requires : tie.Need-lead-requires Inv-loop μ-loop Inv-lines μ-lines
 lead-requires c κs =
-    let l = c .before .before .before in
+    let l = c .before .before .before .before in
     let a = l .before .before .before .before in
-    can-lead _ _ _ _ _ _ (a .before .before .before .lines .inv) _ (found a) (l .before .before .before .if2 .left) _ _ _
+    can-lead _ _ _ _ _ _ _ (a .before .before .before .lines .inv) _ (found a) (l .before .before .before .if2 .left) _ _ _
     (fielded (l .before) false (l .loop-test .left)) (short a)
 
 enum-told : tie.Need-enum-told Inv-loop μ-loop Inv-lines μ-lines
@@ -222,64 +227,69 @@ enum-told-2 c = search needs
 
 add-at : tie.Need-add-at Inv-loop μ-loop Inv-lines μ-lines
 add-at c =
-    let l = c .before .before .before .before .before .before .before .before .before .before .before in
+    let l = c .before .before .before .before .before .before .before .before .before .before .before .before .before .before in
     let a = l .before .before .before .before in
     omega (arith, found-le a, short a)
 
 add-line : tie.Need-add-line Inv-loop μ-loop Inv-lines μ-lines
 add-line c =
-    let l = c .before .before .before .before .before .before .before .before .before .before .before in
+    let l = c .before .before .before .before .before .before .before .before .before .before .before .before .before .before in
     let a = l .before .before .before .before in
     let h = a .before .before .before .lines .inv in
     omega (arith, h .counted, h .within, short a)
 
 lines-less : tie.Need-lines-less Inv-loop μ-loop Inv-lines μ-lines
 lines-less c =
-    let l = c .before .before .before .before .before .before .before .before .before .before .before in
+    let l = c .before .before .before .before .before .before .before .before .before .before .before .before .before .before in
     omega (arith, l .before .before .before .if2 .left)
 
 lines-again : tie.Need-lines-again Inv-loop μ-loop Inv-lines μ-lines
 lines-again c =
-    let r = c .before .before .before .before .before .before .before in
-    let l = r .before .before .before .before in
+    let r = c .before .before .before .before .before .before .before .before .before in
+    let l = r .before .before .before .before .before in
     let a = l .before .before .before .before in
-    line-taken _ _ _ _ _ _ (a .before .before .before .lines .inv) _ (found a) (l .before .before .before .if2 .left) _ _ _
-    (fielded (l .before) false (l .loop-test .left)) (r .lead .result) _ _ (r .lead .ensures .0) (r .lead .ensures .1)
+    line-taken _ _ _ _ _ _ _ (a .before .before .before .lines .inv) _ (found a) (l .before .before .before .if2 .left) _ _ _
+    (fielded (l .before) false (l .loop-test .left)) (r .lead .result) _ _ _ (r .lead .ensures .0) (r .lead .ensures .1)
     (c .before .enum-told2 .given .1)
 
 same-length : tie.Need-same-length Inv-loop μ-loop Inv-lines μ-lines
-same-length c = same-steps (c .before .before)
+same-length c = same-items (c .before .before)
 
 same-length-2 : tie.Need-same-length-2 Inv-loop μ-loop Inv-lines μ-lines
-same-length-2 c = same-acts (c .before .before)
+same-length-2 c = same-steps (c .before .before)
+
+same-length-3 : tie.Need-same-length-3 Inv-loop μ-loop Inv-lines μ-lines
+same-length-3 c = same-acts (c .before .before)
 
 returns : tie.Need-returns Inv-loop μ-loop Inv-lines μ-lines
 returns c =
-    ends _ _ _ _ _ _ (c .before .before .lines .inv) _ (c .before .before .before .before .before .before .before .pre .short)
+    ends _ _ _ _ _ _ _ (c .before .before .lines .inv) _ (c .before .before .before .before .before .before .before .before .pre .short)
     (omega (arith, c .before .if1 .taken)) (c .ended .ensures)
 
-same-length-3 : tie.Need-same-length-3 Inv-loop μ-loop Inv-lines μ-lines
-same-length-3 c = same-steps (c .before .before .before .before .before)
-
 same-length-4 : tie.Need-same-length-4 Inv-loop μ-loop Inv-lines μ-lines
-same-length-4 c = same-acts (c .before .before .before .before .before)
+same-length-4 c = same-items (c .before .before .before .before .before)
+
+same-length-5 : tie.Need-same-length-5 Inv-loop μ-loop Inv-lines μ-lines
+same-length-5 c = same-steps (c .before .before .before .before .before)
+
+same-length-6 : tie.Need-same-length-6 Inv-loop μ-loop Inv-lines μ-lines
+same-length-6 c = same-acts (c .before .before .before .before .before)
 
 returns-2 : tie.Need-returns-2 Inv-loop μ-loop Inv-lines μ-lines
 returns-2 c =
     let a = c .before .before in
-    no-line-feed _ _ _ _ _ _ (a .before .before .before .lines .inv) (c .stopped .result)
+    no-line-feed _ _ _ _ _ _ _ (a .before .before .before .lines .inv) (c .stopped .result)
     (omega (arith, a .before .before .if1 .left))
     (omega (arith, found a, c .before .if2 .taken)) (c .stopped .ensures)
 
-same-length-5 : tie.Need-same-length-5 Inv-loop μ-loop Inv-lines μ-lines
-same-length-5 c =
-    let f = c .before .before .before in
-    same-steps (f .before .before .before .before .before .before .before .before .before .before .before)
+same-length-7 : tie.Need-same-length-7 Inv-loop μ-loop Inv-lines μ-lines
+same-length-7 c = same-items (c .before .before .before .before .before .before .before .before .before .before .before .before .before .before)
 
-same-length-6 : tie.Need-same-length-6 Inv-loop μ-loop Inv-lines μ-lines
-same-length-6 c =
-    let f = c .before .before .before in
-    same-acts (f .before .before .before .before .before .before .before .before .before .before .before)
+same-length-8 : tie.Need-same-length-8 Inv-loop μ-loop Inv-lines μ-lines
+same-length-8 c = same-steps (c .before .before .before .before .before .before .before .before .before .before .before .before .before .before)
+
+same-length-9 : tie.Need-same-length-9 Inv-loop μ-loop Inv-lines μ-lines
+same-length-9 c = same-acts (c .before .before .before .before .before .before .before .before .before .before .before .before .before .before)
 
 returns-3 : tie.Need-returns-3 Inv-loop μ-loop Inv-lines μ-lines
 returns-3 c =
@@ -290,32 +300,27 @@ returns-3 c =
     let torn =
     ⊎-elim (λ w. inl (sym (c .before .before .is-other .ensures) ∙ w .taken))
     (λ w. inr (leb-true 4 (b .before .before .before .loop .count) (w .1 .taken))) (c .before .if3 .came) in
-    torn-here _ _ _ _ _ _ (a .before .before .before .lines .inv) _ (found a) (b .before .before .before .before .before .if2 .left)
+    torn-here _ _ _ _ _ _ _ (a .before .before .before .lines .inv) _ (found a) (b .before .before .before .before .before .if2 .left)
     (c .stopped2 .result)
     (h .going refl .1) (λ table. field-torn _ _ _ _ _ _ _ _ _ (found-le a) h (b .find2 .ensures) (field-is f) table _ torn)
     (c .stopped2 .ensures)
 
-same-length-7 : tie.Need-same-length-7 Inv-loop μ-loop Inv-lines μ-lines
-same-length-7 c =
-    let r = c .before .before .before .before .before .before in
-    let l = r .before .before .before .before in
-    let a = l .before .before .before .before in
-    r .lead .ensures .1 .forSteps ∙ sym (a .before .before .before .before .before .before .before .before .pre .roomy .forSteps)
+same-length-10 : tie.Need-same-length-10 Inv-loop μ-loop Inv-lines μ-lines
+same-length-10 c = c .before .before .before .before .before .before .before .before .lead .ensures .1 .forItems ∙ sym (c .before .before .before .before .before .before .before .before .before .before .before .before .before .before .before .before .before .before .before .before .before .before .before .before .before .before .pre .roomy .forItems)
 
-same-length-8 : tie.Need-same-length-8 Inv-loop μ-loop Inv-lines μ-lines
-same-length-8 c =
-    let r = c .before .before .before .before .before .before in
-    let l = r .before .before .before .before in
-    let a = l .before .before .before .before in
-    r .lead .ensures .1 .forActs ∙ sym (a .before .before .before .before .before .before .before .before .pre .roomy .forActs)
+same-length-11 : tie.Need-same-length-11 Inv-loop μ-loop Inv-lines μ-lines
+same-length-11 c = c .before .before .before .before .before .before .before .before .lead .ensures .1 .forSteps ∙ sym (c .before .before .before .before .before .before .before .before .before .before .before .before .before .before .before .before .before .before .before .before .before .before .before .before .before .before .pre .roomy .forSteps)
+
+same-length-12 : tie.Need-same-length-12 Inv-loop μ-loop Inv-lines μ-lines
+same-length-12 c = c .before .before .before .before .before .before .before .before .lead .ensures .1 .forActs ∙ sym (c .before .before .before .before .before .before .before .before .before .before .before .before .before .before .before .before .before .before .before .before .before .before .before .before .before .before .pre .roomy .forActs)
 
 returns-4 : tie.Need-returns-4 Inv-loop μ-loop Inv-lines μ-lines
 returns-4 c =
-    let r = c .before .before .before .before .before .before in
-    let l = r .before .before .before .before in
+    let r = c .before .before .before .before .before .before .before .before in
+    let l = r .before .before .before .before .before in
     let a = l .before .before .before .before in
-    line-refused _ _ _ _ _ _ (a .before .before .before .lines .inv) _ (found a) (l .before .before .before .if2 .left) _ _ _
-    (fielded (l .before) false (l .loop-test .left)) (r .lead .result) _ _ (r .lead .ensures .0) (r .lead .ensures .1) _
+    line-refused _ _ _ _ _ _ _ (a .before .before .before .lines .inv) _ (found a) (l .before .before .before .if2 .left) _ _ _
+    (fielded (l .before) false (l .loop-test .left)) (r .lead .result) _ _ _ (r .lead .ensures .0) (r .lead .ensures .1) _
     (c .enum-told .given .1)
 
 pub scan-spec : {M : Type 1} → statement M
@@ -367,13 +372,17 @@ scan-spec =
     lines-again
     same-length
     same-length-2
-    returns
     same-length-3
+    returns
     same-length-4
-    returns-2
     same-length-5
     same-length-6
-    returns-3
+    returns-2
     same-length-7
     same-length-8
+    same-length-9
+    returns-3
+    same-length-10
+    same-length-11
+    same-length-12
     returns-4)

@@ -23,9 +23,9 @@ take-names-requires c κs = search needs
 
 returns : tie.Need-returns
 returns c =
-    let a = c .before .before .before .before .before .before .before .args in (
-      lead-names (a .seen) (a .calls .now) (a .acts .now) (a .text .now) (take (a .count) (a .fields)) (a .at) (c .take-names .result) (c .before .is-heading .result) (not-true _ (c .before .before .if1 .taken)) (c .before .is-heading .ensures) (c .take-names .ensures),
-      c .before .before .before .before .before .before .before .pre .room .roomy,
+    let a = c .before .before .before .before .before .before .before .before .args in (
+      lead-names (a .seen) (a .catalog .now) (a .calls .now) (a .acts .now) (a .text .now) (take (a .count) (a .fields)) (a .at) (c .take-names .result) (c .before .is-heading .result) (not-true _ (c .before .before .if1 .taken)) (c .before .is-heading .ensures) (c .take-names .ensures),
+      c .before .before .before .before .before .before .before .before .pre .room .roomy,
     )
 
 wants-values-requires : tie.Need-wants-values-requires
@@ -36,9 +36,9 @@ line-in-requires c κs = search needs
 
 take-line-requires : tie.Need-take-line-requires
 take-line-requires c κs =
-    let a = c .before .before .before .before .before .before .before .before .before .before .args in
-    let p = c .before .before .before .before .before .before .before .before .before .before .pre in
-    let line = c .before .before .line-in in
+    let a = c .before .before .before .before .before .before .before .before .before .before .before .before .args in
+    let p = c .before .before .before .before .before .before .before .before .before .before .before .before .pre in
+    let line = c .before .before .before .line-in in
     record { room = p .room; few = p .few; numbered = line-numbered (a .seen .table) (take (a .count) (a .fields)) (a .at) (line .result) (line .ensures) }
 
 same-length : tie.Need-same-length
@@ -47,12 +47,15 @@ same-length c = search needs
 same-length-2 : tie.Need-same-length-2
 same-length-2 c = search needs
 
+same-length-3 : tie.Need-same-length-3
+same-length-3 c = search needs
+
 returns-2 : tie.Need-returns-2
 returns-2 c =
-    let a = c .before .before .before .before .before .before .before .before .before .before .before .before .before .before .before .args in
-    let p = c .before .before .before .before .take-line in
-    let line = c .before .before .before .before .before .before .before .line-in in (
-      lead-values (a .seen) (a .calls .now) (a .acts .now) (a .text .now) (take (a .count) (a .fields)) (a .at) (p .result) (line .result) (p .last .1 .1 .1 .0) (p .last .1 .1 .1 .1 .0) (not-false _ (c .before .before .before .before .before .before .before .before .before .before .if1 .left)) (sym (c .before .before .before .before .before .before .before .before .before .wants-values .ensures) ∙ c .before .before .before .before .before .before .before .before .if2 .taken) (line .ensures) (p .ensures .0),
+    let a = c .before .before .before .before .before .before .before .before .before .before .before .before .before .before .before .before .before .before .before .args in
+    let p = c .before .before .before .before .before .before .take-line in
+    let line = c .before .before .before .before .before .before .before .before .before .before .line-in in (
+      lead-values (a .seen) (a .catalog .now) (a .calls .now) (a .acts .now) (a .text .now) (take (a .count) (a .fields)) (a .at) (p .result) (line .result) (p .last .1 .1 .1 .0) (p .last .1 .1 .1 .1 .0) (p .last .1 .1 .1 .1 .1 .0) (not-false _ (c .before .before .before .before .before .before .before .before .before .before .before .before .before .if1 .left)) (sym (c .before .before .before .before .before .before .before .before .before .before .before .before .wants-values .ensures) ∙ c .before .before .before .before .before .before .before .before .before .before .before .if2 .taken) (line .ensures) (p .ensures .0),
       p .ensures .1,
     )
 
@@ -61,9 +64,9 @@ take-blank-requires c κs = search needs
 
 returns-3 : tie.Need-returns-3
 returns-3 c =
-    let a = c .before .before .before .before .before .before .before .before .args in (
-      lead-blank (a .seen) (a .calls .now) (a .acts .now) (a .text .now) (take (a .count) (a .fields)) (a .at) (c .take-blank .result) (not-false _ (c .before .before .before .if1 .left)) (sym (c .before .before .wants-values .ensures) ∙ c .before .if2 .left) (c .take-blank .ensures),
-      c .before .before .before .before .before .before .before .before .pre .room .roomy,
+    let a = c .before .before .before .before .before .before .before .before .before .args in (
+      lead-blank (a .seen) (a .catalog .now) (a .calls .now) (a .acts .now) (a .text .now) (take (a .count) (a .fields)) (a .at) (c .take-blank .result) (not-false _ (c .before .before .before .if1 .left)) (sym (c .before .before .wants-values .ensures) ∙ c .before .if2 .left) (c .take-blank .ensures),
+      c .before .before .before .before .before .before .before .before .before .pre .room .roomy,
     )
 
 pub lead-spec : {M : Type 1} → statement M
@@ -78,6 +81,7 @@ lead-spec =
     take-line-requires
     same-length
     same-length-2
+    same-length-3
     returns-2
     take-blank-requires
     returns-3)

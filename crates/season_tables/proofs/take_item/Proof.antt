@@ -1,10 +1,12 @@
 -- `season_tables::take_item` meets its contract: each return is a law of proofs/Held.antt. Assumes nothing.
 use borrow.Author.Needs.{needs}
-use Rattle.season_tables.proofs.Held.{Places, item-next, item-skipped}
+use mathlib.Core.Path.{refl}
+use Rattle.season_tables.proofs.Held.{item-next, item-skipped}
 use Rattle.season_tables.proofs.take_item.Statement.{statement}
 use Rattle.season_tables.proofs.take_item.Tie as tie
 use Rattle.season_tables.proofs.take_item.Reads as reads
 use Rattle.season_tables.proofs.take_item.Lts as lts
+use Rattle.catalog_bytes.proofs.put.Reads as put-reads
 use Rattle.season_tables.proofs.stopped.Reads as stopped-reads
 use Rattle.season_tables.proofs.taken.Reads as taken-reads
 
@@ -13,23 +15,11 @@ stopped-requires c κs = search needs
 
 returns : tie.Need-returns
 returns c =
-    let a = c .before .before .before .args in
-    item-skipped (a .seen) (a .number) (a .blocks) (a .load) (a .write) (a .at) (c .stopped .result) (c .before .if1 .taken) (c .stopped .ensures)
+    let a = c .before .before .before .before .args in
+    (item-skipped (a .seen) (a .catalog .now) (a .number) (a .blocks) (a .load) (a .write) (a .at) (c .stopped .result) (c .before .if1 .taken) (c .stopped .ensures), refl)
 
-element-write-q : tie.Need-element-write-q
-element-write-q c = search needs
-
-mul-q : tie.Need-mul-q
-mul-q c = search needs
-
-element-write-q-2 : tie.Need-element-write-q-2
-element-write-q-2 c = search needs
-
-mul-q-2 : tie.Need-mul-q-2
-mul-q-2 c = search needs
-
-element-write-q-3 : tie.Need-element-write-q-3
-element-write-q-3 c = search needs
+put-requires : tie.Need-put-requires
+put-requires c κs = search needs
 
 add-q : tie.Need-add-q
 add-q c = search needs
@@ -37,23 +27,16 @@ add-q c = search needs
 taken-requires : tie.Need-taken-requires
 taken-requires c κs = search needs
 
+same-length : tie.Need-same-length
+same-length c = search needs
+
 returns-2 : tie.Need-returns-2
 returns-2 c =
-    let a = c .before .before .before .args in
-    let p : Places (a .seen) = search needs in
-    item-next (a .seen) (a .number) (a .blocks) (a .load) (a .write) (a .at) (c .taken .result) p (c .before .before .before .pre) (c .before .if1 .left) (c .taken .ensures .0) (c .taken .ensures .1)
+    let a = c .before .before .before .before .before .before .before .before .args in
+    let p = c .before .before .before .put in
+    (item-next (a .seen) (a .catalog .now) (a .number) (a .blocks) (a .load) (a .write) (a .at) (c .taken .result) (p .last .0) (c .before .before .before .before .before .before .before .before .pre .1) (c .before .before .before .before .before .before .before .before .pre .0) (c .before .before .before .before .before .if1 .left) (c .taken .ensures .0) (c .taken .ensures .1) (p .ensures), p .kept .0)
 
 pub take-item-spec : {M : Type 1} → statement M
 take-item-spec =
     tie.close
-    (tie.spec
-    stopped-requires
-    returns
-    element-write-q
-    mul-q
-    element-write-q-2
-    mul-q-2
-    element-write-q-3
-    add-q
-    taken-requires
-    returns-2)
+    (tie.spec stopped-requires returns put-requires add-q taken-requires same-length returns-2)

@@ -23,8 +23,8 @@ enum-known-line-2 c = search needs
 
 take-item-requires : tie.Need-take-item-requires
 take-item-requires c κs =
-    let a = c .before .before .before .before .before .args in
-    line-number (a .line) _ _ _ _ (c .before .line2 .given .1) (c .before .before .before .before .before .pre .numbered)
+    let a = c .before .before .before .before .before .before .before .args in
+    (line-number (a .line) _ _ _ _ (c .before .before .line2 .given .1) (c .before .before .before .before .before .before .before .pre .numbered), c .before .before .before .before .before .before .before .pre .room .roomy .forItems)
 
 enum-known-line-3 : tie.Need-enum-known-line-3
 enum-known-line-3 c = search needs
@@ -46,47 +46,55 @@ stopped-requires c κs = search needs
 
 returns : tie.Need-returns
 returns c =
-    let a = c .before .before .before .before .before .before .args in (
-      line-says (a .seen) (a .line) _ (a .at) (c .take-sizes .result) (a .calls .now) (a .acts .now) (a .calls .now) (a .acts .now) (c .before .before .line .given .1) (c .take-sizes .ensures (a .calls .now) (a .acts .now)),
-      c .before .before .before .before .before .before .pre .room .roomy,
-    )
-
-returns-2 : tie.Need-returns-2
-returns-2 c =
-    let a = c .before .before .before .before .before .before .args in (
-      line-says (a .seen) (a .line) _ (a .at) (c .take-item .result) (a .calls .now) (a .acts .now) (a .calls .now) (a .acts .now) (c .before .before .line2 .given .1) (c .take-item .ensures (a .calls .now) (a .acts .now)),
-      c .before .before .before .before .before .before .pre .room .roomy,
+    let a = c .before .before .before .before .before .before .before .args in (
+      line-says (a .seen) (a .line) _ (a .at) (c .take-sizes .result) (a .catalog .now) (a .calls .now) (a .acts .now) (a .catalog .now) (a .calls .now) (a .acts .now) (c .before .before .line .given .1) (c .take-sizes .ensures (a .catalog .now) (a .calls .now) (a .acts .now)),
+      c .before .before .before .before .before .before .before .pre .room .roomy,
     )
 
 same-length : tie.Need-same-length
 same-length c = search needs
 
-returns-3 : tie.Need-returns-3
-returns-3 c =
-    let a = c .before .before .before .before .before .before .before .before .before .args in
-    let p = c .before .before .take-step in
-    let roomy = c .before .before .before .before .before .before .before .before .before .pre .room .roomy in (
-      line-says (a .seen) (a .line) _ (a .at) (p .result) (a .calls .now) (a .acts .now) (p .last .1 .1 .1 .0) (a .acts .now) (c .before .before .before .before .before .line3 .given .1) (p .ensures .0 (a .acts .now)),
-      record { forSteps = p .ensures .1 ∙ roomy .forSteps; forActs = roomy .forActs },
+returns-2 : tie.Need-returns-2
+returns-2 c =
+    let a = c .before .before .before .before .before .before .before .before .before .before .args in
+    let p = c .before .before .take-item in
+    let roomy = c .before .before .before .before .before .before .before .before .before .before .pre .room .roomy in (
+      line-says (a .seen) (a .line) _ (a .at) (p .result) (a .catalog .now) (a .calls .now) (a .acts .now) (p .last .1 .1 .1 .1 .1 .1 .0) (a .calls .now) (a .acts .now) (c .before .before .before .before .before .line2 .given .1) (p .ensures .0 (a .calls .now) (a .acts .now)),
+      record { forItems = p .ensures .1 ∙ roomy .forItems; forSteps = roomy .forSteps; forActs = roomy .forActs },
     )
 
 same-length-2 : tie.Need-same-length-2
 same-length-2 c = search needs
 
+same-length-3 : tie.Need-same-length-3
+same-length-3 c = search needs
+
+returns-3 : tie.Need-returns-3
+returns-3 c =
+    let a = c .before .before .before .before .before .before .before .before .before .before .before .args in
+    let p = c .before .before .take-step in
+    let roomy = c .before .before .before .before .before .before .before .before .before .before .before .pre .room .roomy in (
+      line-says (a .seen) (a .line) _ (a .at) (p .result) (a .catalog .now) (a .calls .now) (a .acts .now) (a .catalog .now) (p .last .1 .1 .1 .1 .0) (a .acts .now) (c .before .before .before .before .before .before .line3 .given .1) (p .ensures .0 (a .acts .now)),
+      record { forItems = roomy .forItems; forSteps = p .ensures .1 ∙ roomy .forSteps; forActs = roomy .forActs },
+    )
+
+same-length-4 : tie.Need-same-length-4
+same-length-4 c = search needs
+
 returns-4 : tie.Need-returns-4
 returns-4 c =
-    let a = c .before .before .before .before .before .before .before .before .before .args in
+    let a = c .before .before .before .before .before .before .before .before .before .before .args in
     let p = c .before .before .take-act in
-    let roomy = c .before .before .before .before .before .before .before .before .before .pre .room .roomy in (
-      line-says (a .seen) (a .line) _ (a .at) (p .result) (a .calls .now) (a .acts .now) (a .calls .now) (p .last .1 .1 .1 .1 .0) (c .before .before .before .before .before .line4 .given .1) (p .ensures .0 (a .calls .now)),
-      record { forSteps = roomy .forSteps; forActs = p .ensures .1 ∙ roomy .forActs },
+    let roomy = c .before .before .before .before .before .before .before .before .before .before .pre .room .roomy in (
+      line-says (a .seen) (a .line) _ (a .at) (p .result) (a .catalog .now) (a .calls .now) (a .acts .now) (a .catalog .now) (a .calls .now) (p .last .1 .1 .1 .1 .0) (c .before .before .before .before .before .line4 .given .1) (p .ensures .0 (a .catalog .now) (a .calls .now)),
+      record { forItems = roomy .forItems; forSteps = roomy .forSteps; forActs = p .ensures .1 ∙ roomy .forActs },
     )
 
 returns-5 : tie.Need-returns-5
 returns-5 c =
-    let a = c .before .before .before .before .before .before .args in (
-      line-says (a .seen) (a .line) _ (a .at) (c .stopped .result) (a .calls .now) (a .acts .now) (a .calls .now) (a .acts .now) (c .before .before .line5 .given .1) (line-refused (a .seen) _ (a .at) (c .stopped .result) (a .calls .now) (a .acts .now) (c .stopped .ensures)),
-      c .before .before .before .before .before .before .pre .room .roomy,
+    let a = c .before .before .before .before .before .before .before .args in (
+      line-says (a .seen) (a .line) _ (a .at) (c .stopped .result) (a .catalog .now) (a .calls .now) (a .acts .now) (a .catalog .now) (a .calls .now) (a .acts .now) (c .before .before .line5 .given .1) (line-refused (a .seen) _ (a .at) (c .stopped .result) (a .catalog .now) (a .calls .now) (a .acts .now) (c .stopped .ensures)),
+      c .before .before .before .before .before .before .before .pre .room .roomy,
     )
 
 pub take-line-spec : {M : Type 1} → statement M
@@ -104,9 +112,11 @@ take-line-spec =
     enum-known-line-5
     stopped-requires
     returns
-    returns-2
     same-length
-    returns-3
+    returns-2
     same-length-2
+    same-length-3
+    returns-3
+    same-length-4
     returns-4
     returns-5)

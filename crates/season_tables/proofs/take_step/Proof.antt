@@ -20,16 +20,16 @@ stopped-requires c κs = search needs
 
 returns : tie.Need-returns
 returns c =
-    let a = c .before .before .before .before .args in
-    (step-unknown (a .seen) (a .calls .now) (a .step) (a .at) (c .before .before .step-refused .result) (c .stopped .result) (c .before .before .step-refused .ensures) (c .before .if1 .taken) (c .stopped .ensures), refl)
+    let a = c .before .before .before .before .before .args in
+    (step-unknown (a .seen) (a .catalog .now) (a .calls .now) (a .step) (a .at) (c .before .before .step-refused .result) (c .stopped .result) (c .before .before .step-refused .ensures) (c .before .if1 .taken) (c .stopped .ensures), refl)
 
 stopped-requires-2 : tie.Need-stopped-requires-2
 stopped-requires-2 c κs = search needs
 
 returns-2 : tie.Need-returns-2
 returns-2 c =
-    let a = c .before .before .before .before .before .args in
-    (step-large (a .seen) (a .calls .now) (a .step) (a .at) (c .before .before .before .step-refused .result) (c .stopped2 .result) (c .before .before .before .step-refused .ensures) (c .before .before .if1 .left) (c .before .if2 .taken) (c .stopped2 .ensures), refl)
+    let a = c .before .before .before .before .before .before .args in
+    (step-large (a .seen) (a .catalog .now) (a .calls .now) (a .step) (a .at) (c .before .before .before .step-refused .result) (c .stopped2 .result) (c .before .before .before .step-refused .ensures) (c .before .before .if1 .left) (c .before .if2 .taken) (c .stopped2 .ensures), refl)
 
 mul-put-step : tie.Need-mul-put-step
 mul-put-step c = search needs
@@ -48,9 +48,9 @@ same-length c = search needs
 
 returns-3 : tie.Need-returns-3
 returns-3 c =
-    let a = c .before .before .before .before .before .before .before .before .before .args in
+    let a = c .before .before .before .before .before .before .before .before .before .before .args in
     let p = c .before .before .before .put-step in
-    (step-noted (a .seen) (a .calls .now) (a .step) (a .at) (c .before .before .before .before .before .before .before .step-refused .result) (c .taken .result) (p .last .0) (c .before .before .before .before .before .before .before .step-refused .ensures) (c .before .before .before .before .before .if2 .left) (omega arith) (c .taken .ensures .0) (c .taken .ensures .1) (p .ensures), p .kept .0)
+    (step-noted (a .seen) (a .catalog .now) (a .calls .now) (a .step) (a .at) (c .before .before .before .before .before .before .before .step-refused .result) (c .taken .result) (p .last .0) (c .before .before .before .before .before .before .before .step-refused .ensures) (c .before .before .before .before .before .if2 .left) (omega arith) (c .taken .ensures .0) (c .taken .ensures .1) (p .ensures), p .kept .0)
 
 pub take-step-spec : {M : Type 1} → statement M
 take-step-spec =

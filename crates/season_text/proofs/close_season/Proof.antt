@@ -42,10 +42,14 @@ run-requires c κs = search needs
 same-length : tie.Need-same-length
 same-length c = search needs
 
+same-length-2 : tie.Need-same-length-2
+same-length-2 c = search needs
+
 returns : tie.Need-returns
 returns c =
-    let s = c .before .before .before .before .before .before .before .before .before in
-    season-closes (s .args .seen) (s .args .calls .now) _ _ (c .before .before .run .result) (s .pre) (c .before .before .run .ensures)
+    let s = c .before .before .before .before .before .before .before .before .before .before in
+    let run = c .before .before .before .run in
+    season-closes (s .args .seen) (s .args .catalog .now) (s .args .calls .now) (s .args .state .now) _ _ (run .result) _ (s .pre) (run .ensures)
 
 pub close-season-spec : {M : Type 1} → statement M
 close-season-spec =
@@ -60,4 +64,5 @@ close-season-spec =
     slice-aggregate-run-2
     run-requires
     same-length
+    same-length-2
     returns)

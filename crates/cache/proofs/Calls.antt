@@ -1,0 +1,140 @@
+-- Laws of the answers to a step and to the closing: refused, and the state stays; or taken, and it moves on. Assumes nothing.
+use mathlib.Core.Path.{_≡_, refl, sym, ap, subst, _∙_}
+use mathlib.Core.Logic.{_≢_}
+use mathlib.Core.Bool.{true, false}
+use mathlib.Core.List.{List}
+use Prim.Native.Nat.{ℕ}
+use native.Mathlib.Omega.{arith}
+use borrow.Author.Tests.{ne-eqb}
+use Rattle.landlord.specs.Slot.{writeFirst}
+use Rattle.landlord.specs.Rule.{flush}
+use Rattle.landlord.specs.Figures.{Standing, moved, took, closes}
+use Rattle.landlord.specs.Calls.{Call, take, close, stepOf, refusalAt, refusalNow, accepted, after}
+use Rattle.landlord.specs.Valid.{StandingOk}
+use Rattle.landlord.proofs.Slots.{write-first-ok}
+use Rattle.landlord.proofs.Valid.{ok-after}
+use Rattle.cache_state.specs.Cache.{Cache}
+use Rattle.cache_state.specs.View.{catalogOf, slotsOf, usesOf, stateOf, view}
+use Rattle.cache_state.specs.Valid.{Normal}
+use Rattle.cache_state.specs.Becomes.{Becomes}
+use Rattle.cache_state.specs.With.{withClosed}
+use Rattle.layout.specs.Layout.{cacheOf}
+use Rattle.layout.specs.Stands.{Stands, ValidBytes, BecomesAt}
+use Rattle.layout.proofs.Places.{readable}
+use Rattle.cache.specs.Contract.{Kind, lent, Answers, Called}
+
+-- ---- a state of any kind
+
+-- an invalid one: 17, and it stays
+pub invalid-called : {C : Type 0} (kind : Kind C) (c : C) (call : Call) → (kind .Valid c → ⊥) → Called kind c call 17 c
+invalid-called kind c call bad = record { fine = λ ok. absurd (bad ok); invalid = λ none. (refl, refl) }
+
+-- an answer on a valid one is all that is asked
+pub answers-called : {C : Type 0} (kind : Kind C) (c d : C) (call : Call) (n : ℕ) → kind .Valid c → Answers kind c call n d → Called kind c call n d
+answers-called kind c d call n ok a = record { fine = λ again. a; invalid = λ none. absurd (none ok) }
+
+-- a refused call changes nothing
+pub refused-answers :
+    {C : Type 0} (kind : Kind C) (c : C) (call : Call) (n : ℕ) →
+    kind .Valid c →
+    n ≡ refusalNow (kind .view c) call →
+    n ≢ 0 →
+    Answers kind c call n c
+unfolding after
+refused-answers kind c call n ok e d = record { answer = e; valid = ok; stands = sym stays; refused = λ z. refl }
+  where
+    stays : after writeFirst (kind .view c) call ≡ kind .view c
+    stays = rw (sym e, ne-eqb n 0 d)
+
+-- ---- lent bytes
+
+-- bytes of a cache that stands where the rule stands
+pub stands-become : {b : List ℕ} {c : Cache} {v : Standing} → Stands b c → Becomes v c → BecomesAt v b
+stands-become {v = v} s h = record { reads = readable s; cache = subst (Becomes v) (sym (s .cache)) h }
+
+-- where the rule stands in order they are valid
+pub becomes-valid : {v : Standing} {b : List ℕ} → StandingOk v → BecomesAt v b → ValidBytes b
+becomes-valid ok h =
+    record {
+      size = h .reads .size;
+      allowed = h .reads .allowed;
+      cache = record { fields = h .cache .fields; rule = subst StandingOk (sym (h .cache .stands)) ok };
+    }
+
+-- a call that is not refused moves the rule on
+taken-answers :
+    (b left : List ℕ) (call : Call) →
+    ValidBytes b →
+    0 ≡ refusalNow (view (cacheOf b)) call →
+    BecomesAt (accepted writeFirst (view (cacheOf b)) call) left →
+    Answers lent b call 0 left
+unfolding after
+taken-answers b left call ok e h =
+    record {
+      answer = e;
+      valid = becomes-valid (subst StandingOk goes (ok-after writeFirst (view (cacheOf b)) call write-first-ok (ok .cache .rule))) h;
+      stands = h .cache .stands ∙ sym goes;
+      refused = λ z. absurd (z refl);
+    }
+  where
+    goes : after writeFirst (view (cacheOf b)) call ≡ accepted writeFirst (view (cacheOf b)) call
+    goes = rw (sym e)
+
+pub step-answers :
+    (b left : List ℕ) (kind i m : ℕ) →
+    ValidBytes b →
+    0 ≡ refusalNow (view (cacheOf b)) (take kind i m) →
+    BecomesAt (took writeFirst (view (cacheOf b)) (stepOf kind i m)) left →
+    Answers lent b (take kind i m) 0 left
+step-answers b left kind i m ok e h = taken-answers b left (take kind i m) ok e h
+
+-- the closing: closed already, or open
+pub closed-answers : (b : List ℕ) → ValidBytes b → cacheOf b .closed ≡ true → Answers lent b close 9 b
+closed-answers b ok e = refused-answers lent b close 9 ok (unfold refusalAt in rw e) (λ z. let y : _≡_ {A = ℕ} 9 0 = z in omega arith)
+
+closed-normal : (q : Cache) → Normal q → Normal (withClosed q true)
+closed-normal q n =
+    record {
+      few = n .few;
+      past = λ i a b.
+          let x = n .past i a b in
+          record {
+            blocks = x .blocks;
+            load = x .load;
+            write = x .write;
+            held = x .held;
+            loadCredit = x .loadCredit;
+            writeCredit = x .writeCredit;
+            dirty = x .dirty;
+            tenths = x .tenths;
+            loads = x .loads;
+            writebacks = x .writebacks;
+          };
+      absent = λ i a e.
+          let x = n .absent i a e in
+          record { dirty = x .dirty; loadCredit = x .loadCredit; writeCredit = x .writeCredit };
+      clean = n .clean;
+    }
+
+-- the closing flushes, counts no step, and closes
+closed-becomes : (c q : Cache) → Becomes (moved (view c) (flush (stateOf c)) (c .closed)) q → Becomes (closes (view c)) (withClosed q true)
+closed-becomes c q h = record { stands = ended ∙ ap shut (h .stands) ∙ same; fields = closed-normal q (h .fields) }
+  where
+    shut : Standing → Standing
+    shut v = record { k = v .k; state = v .state; figures = v .figures; closed = true }
+
+    same : shut (moved (view c) (flush (stateOf c)) (c .closed)) ≡ closes (view c)
+    same = unfold closes in refl
+
+    ended : view (withClosed q true) ≡ shut (view q)
+    ended = unfold catalogOf slotsOf usesOf in refl
+
+pub closing-answers :
+    (b flushed left : List ℕ) →
+    ValidBytes b →
+    cacheOf b .closed ≡ false →
+    BecomesAt (moved (view (cacheOf b)) (flush (stateOf (cacheOf b))) (cacheOf b .closed)) flushed →
+    Stands left (withClosed (cacheOf flushed) true) →
+    Answers lent b close 0 left
+closing-answers b flushed left ok e h s =
+    taken-answers b left close ok (unfold refusalAt in rw e) (stands-become s (closed-becomes (cacheOf b) (cacheOf flushed) (h .cache)))

@@ -1,0 +1,101 @@
+-- The cache of an opening: nothing is held and nothing counted, and it stands where the rule starts. Assumes nothing.
+use mathlib.Core.Path.{_≡_, sym, ap, _∙_}
+use mathlib.Core.Bool.{Bool, false}
+use mathlib.Core.List.{List}
+use Prim.Native.Nat.{ℕ, _/_, _%_, _^_, _≤_, _<_}
+use native.Mathlib.Nat.{zero-div}
+use native.Mathlib.Omega.{arith}
+use lib.Dec.{eqb}
+use lib.ListN.{length, getD, replicate, getD-replicate}
+use Rattle.landlord.specs.Fold.{tab}
+use Rattle.landlord.specs.Catalog.{Catalog, Item}
+use Rattle.landlord.specs.Slot.{absent}
+use Rattle.landlord.specs.Rule.{emptied}
+use Rattle.landlord.specs.Figures.{Standing, nothing, noUse, totalsOf}
+use Rattle.landlord.proofs.Folds.{tab-length, tab-eq}
+use Rattle.marks.specs.Marks.{bit, marked}
+use Rattle.cache_state.specs.Cache.{Cache}
+use Rattle.cache_state.specs.View.{slotOf, usageOf, catalogOf, slotsOf, usesOf}
+use Rattle.cache_state.specs.Valid.{Blank, Emptied}
+use Rattle.cache_state.specs.Becomes.{Becomes}
+use Rattle.cache.specs.Contract.{EmptyPlace}
+use Rattle.cache.specs.Opening.{emptyWith, Column}
+
+-- no mark is set in words that are 0
+unmarked : (i : ℕ) → i < 256 → marked (replicate 4 0) i ≡ false
+unfolding marked bit
+unmarked i l =
+    ap (λ (w : ℕ). eqb (w / 2 ^ (i % 64) % 2) 1) (getD-replicate 4 (i / 64) 0 0 (omega arith)) ∙ ap (λ (w : ℕ). eqb (w % 2) 1) (zero-div (2 ^ (i % 64)))
+
+pub empty-place : (k n : ℕ) (blocks load write : List ℕ) (isClosed : Bool) (i : ℕ) → i < 256 → EmptyPlace (emptyWith k n blocks load write isClosed) i
+empty-place k n blocks load write isClosed i l =
+    record {
+      held = getD-replicate 256 i false false l;
+      loadCredit = getD-replicate 256 i 0 0 l;
+      writeCredit = getD-replicate 256 i 0 0 l;
+      dirty = unmarked i l;
+      tenths = getD-replicate 256 i 0 0 l;
+      loads = getD-replicate 256 i 0 0 l;
+      writebacks = getD-replicate 256 i 0 0 l;
+    }
+
+-- where the rule starts, and a closed cache as empty
+abbrev pub started : ℕ → Catalog → Bool → Standing
+started k cat isClosed = record { k = k; state = emptied cat; figures = nothing cat; closed = isClosed }
+
+-- the empty cache with n items stands where the rule starts with their catalog
+module _ (k n : ℕ) (item : ℕ → Item) (isClosed : Bool) (blocks load write : List ℕ) (few : n ≤ 256) (b : Column n (λ i. item i .blocks) blocks) (l : Column n (λ i. item i .load) load) (w : Column n (λ i. item i .write) write) where
+  abbrev new : Cache
+  new = emptyWith k n blocks load write isClosed
+
+  place : (i : ℕ) → i < 256 → EmptyPlace new i
+  place = empty-place k n blocks load write isClosed
+
+  same-catalog : catalogOf new ≡ tab n item
+  unfolding catalogOf
+  same-catalog = tab-eq n _ _ (λ i m z. record { blocks = b .front i m z; load = l .front i m z; write = w .front i m z })
+
+  same-length : n ≡ length (tab n item)
+  same-length = sym (tab-length n item)
+
+  slots : tab n (slotOf new) ≡ tab n (λ i. absent)
+  slots = tab-eq n _ _ (λ i m. rw (place i (omega (arith, few)) .held))
+
+  uses : tab n (usageOf new) ≡ tab n (λ i. noUse)
+  uses =
+      tab-eq n _ _
+      (λ i m z.
+      let p = place i (omega (arith, few)) in
+      record { tenths = p .tenths z; loads = p .loads z; writebacks = p .writebacks z })
+
+  gone : (i : ℕ) → i < 256 → Emptied new i
+  gone i m = let p = place i m in record { dirty = p .dirty; loadCredit = p .loadCredit; writeCredit = p .writeCredit }
+
+  past : (i : ℕ) → n ≤ i → i < 256 → Blank new i
+  past i m u =
+      let p = place i u in
+      record {
+        blocks = b .rest i m u;
+        load = l .rest i m u;
+        write = w .rest i m u;
+        held = p .held;
+        loadCredit = p .loadCredit;
+        writeCredit = p .writeCredit;
+        dirty = p .dirty;
+        tenths = p .tenths;
+        loads = p .loads;
+        writebacks = p .writebacks;
+      }
+
+  pub empty-becomes : Becomes (started k (tab n item) isClosed) (emptyWith k n blocks load write isClosed)
+  unfolding slotsOf usesOf
+  empty-becomes =
+      record {
+        stands = λ z. record {
+          k = k;
+          state = record { catalog = same-catalog z; slots = (slots ∙ ap (λ (m : ℕ). tab m (λ i. absent)) same-length) z };
+          figures = record { totals = totalsOf 0 0 0 0 0 0 0 0 0; uses = (uses ∙ ap (λ (m : ℕ). tab m (λ i. noUse)) same-length) z };
+          closed = isClosed;
+        };
+        fields = record { few = few; past = past; absent = λ i m e. gone i (omega (arith, few)); clean = λ i m e. gone i (omega (arith, few)) .writeCredit };
+      }

@@ -1,0 +1,142 @@
+-- Bytes that are 0: the loop that looks for another, and the numbers and flags that they stand for. Assumes nothing.
+use mathlib.Core.Path.{_≡_, refl, sym, ap, subst, _∙_}
+use mathlib.Core.Bool.{Bool, false, not}
+use mathlib.Core.List.{List, [], _∷_}
+use Prim.Native.Nat.{ℕ, zero, suc, _+_, _*_, _-_, _≤_, _<_}
+use native.Mathlib.Nat.{mul-le-mul-right, le-refl}
+use native.Mathlib.Decide.{decLt, ℕ-discrete}
+use native.Mathlib.Omega.{arith}
+use lib.Bits.{bitOr, or-zero-l, or-add-and, and-le-l, and-le-r}
+use lib.Dec.{eqb}
+use lib.ListN.{take, drop, getD}
+use lib.Seq.{drop-drop, getD-drop}
+use borrow.Author.Tests.{eq-eqb, eqb-true, not-false}
+use Rattle.fields.specs.LittleEndian.{un, unrun}
+use Rattle.validity.specs.Decided.{Decided}
+use Rattle.layout.proofs.Places.{unrun-at, flag-at}
+use Rattle.cache_check.specs.Blanks.{Zeros, BlankRun, BlankFlags}
+
+-- ---- the loop: `all` is 0 exactly if every byte passed is
+
+or-none : (a x : ℕ) → bitOr a x ≡ 0 → (a ≡ 0) × (x ≡ 0)
+or-none a x e = (omega (arith, or-add-and a x, and-le-l a x, and-le-r a x), omega (arith, or-add-and a x, and-le-l a x, and-le-r a x))
+
+pub record Passed (b : List ℕ) (from i all : ℕ) : Type 0 where
+  pub after : from ≤ i
+  pub yes : all ≡ 0 → Zeros b from i
+  pub only : Zeros b from i → all ≡ 0
+
+pub passed-none : (b : List ℕ) (from : ℕ) → Passed b from from 0
+passed-none b from =
+    record {
+      after = le-refl from;
+      yes = λ e. record { each = λ j l m. absurd (let x : from ≤ j = l in let y : j < from = m in omega arith) };
+      only = λ z. refl;
+    }
+
+pub passed-more : (b : List ℕ) (from i all : ℕ) → Passed b from i all → Passed b from (i + 1) (bitOr all (getD b i 0))
+passed-more b from i all p =
+    record {
+      after = omega (arith, p .after);
+      yes = λ e.
+          let o = or-none all (getD b i 0) e in
+          record { each = λ j l m. more (o .0) (o .1) j l m (ℕ-discrete j i) };
+      only = λ z.
+          let e : all ≡ 0 = p .only (record { each = λ j l m. z .each j l (omega arith) }) in
+          ap (λ (x : ℕ). bitOr x (getD b i 0)) e ∙ or-zero-l (getD b i 0) ∙ z .each i (p .after) (omega arith);
+    }
+  where
+    more : all ≡ 0 → getD b i 0 ≡ 0 → (j : ℕ) → from ≤ j → j < i + 1 → Dec (j ≡ i) → getD b j 0 ≡ 0
+    more e f j l m (yes s) = ap (λ (x : ℕ). getD b x 0) s ∙ f
+    more e f j l m (no s) = p .yes e .each j l (omega arith)
+
+pub passed-all : (b : List ℕ) (from to i all : ℕ) → i ≡ to → Passed b from i all → Decided (Zeros b from to) (eqb all 0)
+passed-all b from to i all e p =
+    record {
+      yes = λ t. subst (Zeros b from) e (p .yes (eqb-true all 0 t));
+      only = λ z. eq-eqb all 0 (p .only (subst (Zeros b from) (sym e) z));
+    }
+
+-- ---- numbers of bytes 0
+
+un-zero : (w : ℕ) (bs : List ℕ) → ((j : ℕ) → j < w → getD bs j 0 ≡ 0) → un (take w bs) ≡ 0
+unfolding un
+un-zero zero bs h = refl
+un-zero (suc w) [] h = refl
+un-zero (suc w) (x ∷ bs) h = omega (arith, h 0 (omega arith), un-zero w bs (λ j l. h (suc j) (omega arith)))
+
+zero-un : (w : ℕ) (bs : List ℕ) → un (take w bs) ≡ 0 → (j : ℕ) → j < w → getD bs j 0 ≡ 0
+unfolding un
+zero-un zero bs e j l = absurd (omega arith)
+zero-un (suc w) [] e j l = refl
+zero-un (suc w) (x ∷ bs) e zero l = omega arith
+zero-un (suc w) (x ∷ bs) e (suc j) l = zero-un w bs (omega arith) j (omega arith)
+
+run-zero : (b : List ℕ) (at w n : ℕ) → Zeros b (at + n * w) (at + 256 * w) → BlankRun b at w n
+run-zero b at w n z =
+    record {
+      each = λ i l m.
+          unrun-at w 256 (drop at b) i m
+          ∙ un-zero w (drop (i * w) (drop at b))
+          (λ j s.
+          getD-drop (i * w) (drop at b) j 0
+          ∙ getD-drop at b (i * w + j) 0
+          ∙ z .each (at + (i * w + j)) (omega (arith, mul-le-mul-right w l)) (let k : suc i ≤ 256 = m in omega (arith, mul-le-mul-right w k)));
+    }
+
+-- the bytes of m numbers that are all 0
+zeros-go : (w m : ℕ) (bs : List ℕ) → ((i : ℕ) → i < m → getD (unrun w m bs) i 0 ≡ 0) → (j : ℕ) → j < m * w → getD bs j 0 ≡ 0
+unfolding unrun
+zeros-go w zero bs h j l = absurd (omega arith)
+zeros-go w (suc m) bs h j l = go (decLt j w) (λ k. zeros-go w m (drop w bs) (λ i s. h (suc i) (omega arith)) (j - w) (omega arith))
+  where
+    go : Dec (j < w) → (w ≤ j → getD (drop w bs) (j - w) 0 ≡ 0) → getD bs j 0 ≡ 0
+    go (yes k) rest = zero-un w bs (h 0 (omega arith)) j k
+    go (no k) rest =
+        let e : w + (j - w) ≡ j = omega arith in
+        ap (λ (x : ℕ). getD bs x 0) (sym e) ∙ sym (getD-drop w bs (j - w) 0) ∙ rest (omega arith)
+
+zero-run : (b : List ℕ) (at w n : ℕ) → n ≤ 256 → BlankRun b at w n → Zeros b (at + n * w) (at + 256 * w)
+zero-run b at w n few r =
+    record {
+      each = λ j l m.
+          let e : at + n * w + (j - (at + n * w)) ≡ j = omega arith in
+          let f : (256 - n) * w + n * w ≡ 256 * w = (let g : 256 - n + n ≡ 256 = omega arith in omega (arith, ap (λ (x : ℕ). x * w) g)) in
+          ap (λ (x : ℕ). getD b x 0) (sym e)
+          ∙ sym (getD-drop (at + n * w) b (j - (at + n * w)) 0)
+          ∙ zeros-go w (256 - n) (drop (at + n * w) b) same (j - (at + n * w)) (omega arith);
+    }
+  where
+    same : (i : ℕ) → i < 256 - n → getD (unrun w (256 - n) (drop (at + n * w) b)) i 0 ≡ 0
+    same i l =
+        let e : at + n * w + i * w ≡ at + (n + i) * w = omega arith in
+        unrun-at w (256 - n) (drop (at + n * w) b) i l
+        ∙ ap (λ (x : List ℕ). un (take w x)) (drop-drop (i * w) (at + n * w) b ∙ ap (λ (x : ℕ). drop x b) e ∙ sym (drop-drop ((n + i) * w) at b))
+        ∙ sym (unrun-at w 256 (drop at b) (n + i) (omega arith))
+        ∙ r .each (n + i) (omega arith) (omega arith)
+
+pub decided-run : (b : List ℕ) (at w n : ℕ) {r : Bool} → n ≤ 256 → Decided (Zeros b (at + n * w) (at + 256 * w)) r → Decided (BlankRun b at w n) r
+decided-run b at w n few d = record { yes = λ t. run-zero b at w n (d .yes t); only = λ x. d .only (zero-run b at w n few x) }
+
+-- ---- flags of bytes 0
+
+unset : (v : ℕ) → not (eqb v 0) ≡ false → v ≡ 0
+unset v e = eqb-true v 0 (not-false (eqb v 0) e)
+
+pub decided-flags : (b : List ℕ) (at n : ℕ) {r : Bool} → n ≤ 256 → Decided (Zeros b (at + n) (at + 256)) r → Decided (BlankFlags b at n) r
+decided-flags b at n few d =
+    record {
+      yes = λ t.
+          record {
+            each = λ i l m.
+                flag-at 256 at b i m ∙ ap (λ (v : ℕ). not (eqb v 0)) (d .yes t .each (at + i) (omega arith) (omega arith));
+          };
+      only = λ x.
+          d .only
+          record {
+            each = λ j l m.
+                let e : at + (j - at) ≡ j = omega arith in
+                ap (λ (z : ℕ). getD b z 0) (sym e)
+                ∙ unset (getD b (at + (j - at)) 0) (sym (flag-at 256 at b (j - at) (omega arith)) ∙ x .each (j - at) (omega arith) (omega arith));
+          };
+    }

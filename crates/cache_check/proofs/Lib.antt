@@ -1,0 +1,3 @@
+mod Blanks
+mod Past
+mod Sums

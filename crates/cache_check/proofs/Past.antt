@@ -1,0 +1,78 @@
+-- The places past the catalog: the ten tests of them find `PastOk`, no less and no more. Assumes nothing.
+use mathlib.Core.Path.{_≡_}
+use mathlib.Core.Bool.{true}
+use mathlib.Core.List.{List}
+use Prim.Native.Nat.{ℕ, _+_, _≤_, _<_}
+use native.Mathlib.Decide.{decLt}
+use native.Mathlib.Omega.{arith}
+use lib.Dec.{leb}
+use lib.ListN.{drop}
+use borrow.Author.Tests.{leb-true, le-leb}
+use Rattle.marks.specs.Marks.{marked, marks, firstSet}
+use Rattle.marks.proofs.Laws.{NextMark, next-is}
+use Rattle.cache_state.specs.Valid.{Blank}
+use Rattle.cache_state.specs.Parts.{PastOk}
+use Rattle.validity.specs.Decided.{Decided}
+use Rattle.validity.proofs.Decides.{clash}
+use Rattle.layout.specs.Layout.{cacheOf, atLoadCredits, atWriteCredits, atTenths, atItemLoads, atItemWritebacks, atItemLoadCosts, atItemWriteCosts, atBlocks, atHeld}
+use Rattle.cache_check.specs.Blanks.{BlankRun, BlankFlags}
+
+-- what the nine tests of runs find; the tenth is of the dirty marks
+pub record RunsBlank (b : List ℕ) (n : ℕ) : Type 0 where
+  pub loadCredit : BlankRun b atLoadCredits 8 n
+  pub writeCredit : BlankRun b atWriteCredits 8 n
+  pub tenths : BlankRun b atTenths 4 n
+  pub loads : BlankRun b atItemLoads 4 n
+  pub writebacks : BlankRun b atItemWritebacks 4 n
+  pub load : BlankRun b atItemLoadCosts 2 n
+  pub write : BlankRun b atItemWriteCosts 2 n
+  pub blocks : BlankRun b atBlocks 1 n
+  pub held : BlankFlags b atHeld n
+
+module _ (b : List ℕ) (n : ℕ) (e : n ≡ cacheOf b .n) where
+  pub runs-blank : PastOk (cacheOf b) → RunsBlank b n
+  runs-blank p =
+      record {
+        loadCredit = record { each = λ i l m. here i l m .loadCredit };
+        writeCredit = record { each = λ i l m. here i l m .writeCredit };
+        tenths = record { each = λ i l m. here i l m .tenths };
+        loads = record { each = λ i l m. here i l m .loads };
+        writebacks = record { each = λ i l m. here i l m .writebacks };
+        load = record { each = λ i l m. here i l m .load };
+        write = record { each = λ i l m. here i l m .write };
+        blocks = record { each = λ i l m. here i l m .blocks };
+        held = record { each = λ i l m. here i l m .held };
+      }
+    where
+      here : (i : ℕ) → n ≤ i → i < 256 → Blank (cacheOf b) i
+      here i l m = p .each i (omega arith) m
+
+  pub past-so : (r : ℕ) → n ≤ 256 → r ≡ n + firstSet (drop n (marks (cacheOf b .dirty))) → RunsBlank b n → Decided (PastOk (cacheOf b)) (leb 256 r)
+  past-so r few is a =
+      record {
+        yes = λ t.
+            record {
+              each = λ i l m.
+                  let k : n ≤ i = omega arith in
+                  record {
+                    blocks = a .blocks .each i k m;
+                    load = a .load .each i k m;
+                    write = a .write .each i k m;
+                    held = a .held .each i k m;
+                    loadCredit = a .loadCredit .each i k m;
+                    writeCredit = a .writeCredit .each i k m;
+                    dirty = mark .before i k (omega (arith, leb-true 256 r t));
+                    tenths = a .tenths .each i k m;
+                    loads = a .loads .each i k m;
+                    writebacks = a .writebacks .each i k m;
+                  };
+            };
+        only = λ p. past (decLt r 256) p;
+      }
+    where
+      mark : NextMark (cacheOf b .dirty) n r
+      mark = next-is (cacheOf b .dirty) n r few is
+
+      past : Dec (r < 256) → PastOk (cacheOf b) → leb 256 r ≡ true
+      past (yes l) p = clash (marked (cacheOf b .dirty) r) (mark .here l) (p .each r (omega (arith, mark .after)) l .dirty)
+      past (no l) p = le-leb 256 r (omega arith)

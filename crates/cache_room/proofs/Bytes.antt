@@ -1,0 +1,208 @@
+-- The laws of an eviction for the bytes that it is made on: which cache they are after each store. Assumes nothing.
+use mathlib.Core.Path.{_≡_, sym, ap, _∙_}
+use mathlib.Core.Bool.{Bool, true, false}
+use mathlib.Core.List.{List}
+use Prim.Native.Nat.{ℕ, _+_, _*_, _-_, _/_, _≤_, _<_}
+use native.Mathlib.Nat.{le-refl}
+use native.Mathlib.Omega.{arith}
+use lib.ListN.{getD, set}
+use Rattle.landlord.specs.Slot.{writeFirst}
+use Rattle.landlord.specs.Rule.{victim, evict}
+use Rattle.landlord.specs.Figures.{moved}
+use Rattle.marks.specs.Marks.{marks}
+use Rattle.cache_state.specs.Cache.{Cache}
+use Rattle.cache_state.specs.View.{dirtyAt, stateOf, view}
+use Rattle.cache_state.specs.Valid.{Normal}
+use Rattle.cache_state.specs.With.{withHeld, withLoadCredit, withWriteCredit, withDirty, withEvictions, withDirtyEvictions, withWritebacks, withWriteCost, withItemWritebacks}
+use Rattle.layout.specs.Layout.{cacheOf}
+use Rattle.layout.specs.Stands.{Stands, Readable, ValidAt, BecomesAt}
+use Rattle.layout.proofs.Rounds.{whole}
+use Rattle.layout.proofs.Places.{readable, stands-as, valid-reads}
+use Rattle.cache_room.specs.Room.{mostCredit, Ranked, withCounts, loadLeft, writeLeft, chargedOf, droppedOf, countedOf, ChargeableAt, DroppedAt, CountableAt, CrowdedAt}
+use Rattle.cache_room.proofs.Laws.{store-past}
+use Rattle.cache_room.proofs.Views.{rankOf, ranked, rank-bound, Choosing, Turn}
+use Rattle.cache_room.proofs.Stores.{Sizes, charge-starts, charge-more, charge-skip}
+use Rattle.cache_room.proofs.Evicts.{Leaving, victim-known, countable, evict-becomes}
+
+-- ---- the search: an item that is held, with its rank from what is read
+
+pub turn-at :
+    (b : List ℕ) (n : ℕ) {best least i load write blocks here : ℕ} {h : Bool} →
+    ValidAt b n →
+    Choosing (cacheOf b) best least i →
+    i < n →
+    h ≡ getD (cacheOf b .held) i false →
+    h ≡ true →
+    load ≡ getD (cacheOf b .loadcredit) i 0 →
+    write ≡ getD (cacheOf b .writecredit) i 0 →
+    blocks ≡ getD (cacheOf b .blocks) i 0 →
+    here ≡ (load + write) / blocks →
+    Turn (cacheOf b) best least i here
+turn-at b n ok so l eh h el ew eb is =
+    record {
+      fields = ok .valid .cache .fields;
+      soFar = so;
+      below = omega (arith, ok .count);
+      isHeld = sym eh ∙ h;
+      is = is ∙ (λ z. (el z + ew z) / eb z);
+    }
+
+-- ---- the charge: the items below i are charged
+
+pub charge-begun : {b : List ℕ} (m : ℕ) → Readable b → Stands b (chargedOf (cacheOf b) m 0)
+charge-begun {b} m s = stands-as s (charge-starts (cacheOf b) m)
+
+-- one item more: its numbers are read before they are stored, so they are those that came in
+pub charge-stored :
+    (c : Cache) (m i : ℕ) (b b1 b2 : List ℕ) {blocks write load x y z : ℕ} →
+    Stands b (chargedOf c m i) →
+    blocks ≡ getD (cacheOf b .blocks) i 0 →
+    write ≡ getD (cacheOf b .writecredit) i 0 →
+    load ≡ getD (cacheOf b .loadcredit) i 0 →
+    x ≡ write - blocks * m →
+    y ≡ blocks * m - write →
+    z ≡ load - y →
+    Stands b1 (withWriteCredit (cacheOf b) i x) →
+    Stands b2 (withLoadCredit (cacheOf b1) i z) →
+    Stands b2 (chargedOf c m (i + 1))
+charge-stored c m i b b1 b2 {blocks} {write} {load} {x} {y} {z} s eb ew el ex ey ez s1 s2 =
+    stands-as s2 (ap (λ (q : Cache). withLoadCredit q i z) (s1 .cache) ∙ charge-more c (cacheOf b) m i (s .cache) is-load is-write)
+  where
+    b-is : blocks ≡ getD (c .blocks) i 0
+    b-is = eb ∙ ap (λ (q : Cache). getD (q .blocks) i 0) (s .cache)
+
+    w-is : write ≡ getD (c .writecredit) i 0
+    w-is = ew ∙ ap (λ (q : Cache). getD (q .writecredit) i 0) (s .cache) ∙ store-past i (writeLeft c m) (c .writecredit) i (le-refl i)
+
+    l-is : load ≡ getD (c .loadcredit) i 0
+    l-is = el ∙ ap (λ (q : Cache). getD (q .loadcredit) i 0) (s .cache) ∙ store-past i (loadLeft c m) (c .loadcredit) i (le-refl i)
+
+    is-write : x ≡ writeLeft c m i
+    is-write = ex ∙ (λ t. w-is t - b-is t * m)
+
+    is-load : z ≡ loadLeft c m i
+    is-load = ez ∙ ap (λ (v : ℕ). load - v) ey ∙ (λ t. l-is t - (b-is t * m - w-is t))
+
+-- one item more that is not held
+pub charge-passed :
+    (c : Cache) (m i : ℕ) {b : List ℕ} →
+    Normal c →
+    i < c .n →
+    Stands b (chargedOf c m i) →
+    getD (cacheOf b .held) i false ≡ false →
+    Stands b (chargedOf c m (i + 1))
+charge-passed c m i ok l s h =
+    stands-as s (charge-skip c m i (ok .absent i l (sym (ap (λ (q : Cache). getD (q .held) i false) (s .cache)) ∙ h)))
+
+-- ---- the drop and the count
+
+-- the four stores of a drop
+pub dropped-at :
+    (b b1 b2 b3 left : List ℕ) (v : ℕ) (ds ws : List ℕ) →
+    ds ≡ cacheOf b .dirty →
+    Stands b1 (withHeld (cacheOf b) v false) →
+    Stands b2 (withLoadCredit (cacheOf b1) v 0) →
+    Stands b3 (withWriteCredit (cacheOf b2) v 0) →
+    marks ws ≡ set (marks ds) v false →
+    Stands left (withDirty (cacheOf b3) ws) →
+    DroppedAt b v left
+dropped-at b b1 b2 b3 left v ds ws e s1 s2 s3 un s4 =
+    record {
+      reads = readable s4;
+      cache =
+          record {
+            fields = all ∙ ap (droppedOf (cacheOf b) v) (sym (ap (λ (q : Cache). q .dirty) all));
+            unmarked = ap (λ (q : Cache). marks (q .dirty)) all ∙ un ∙ ap (λ (d : List ℕ). set (marks d) v false) e;
+          };
+    }
+  where
+    all : cacheOf left ≡ droppedOf (cacheOf b) v ws
+    all =
+        s4 .cache
+        ∙ ap (λ (q : Cache). withDirty q ws)
+        (s3 .cache ∙ ap (λ (q : Cache). withWriteCredit q v 0) (s2 .cache ∙ ap (λ (q : Cache). withLoadCredit q v 0) (s1 .cache)))
+
+-- the five stores that count a dirty eviction
+pub counted-dirty :
+    (b b1 b2 b3 b4 left : List ℕ) (v : ℕ) {e de w own paid price : ℕ} {d : Bool} →
+    e ≡ cacheOf b .evictions →
+    de ≡ cacheOf b .dirtyevictions →
+    w ≡ cacheOf b .writebacks →
+    own ≡ getD (cacheOf b .itemwritebacks) v 0 →
+    paid ≡ cacheOf b .writecost →
+    price ≡ getD (cacheOf b .write) v 0 →
+    Stands b1 (withEvictions (cacheOf b) (e + 1)) →
+    d ≡ true →
+    Stands b2 (withDirtyEvictions (cacheOf b1) (de + 1)) →
+    Stands b3 (withWritebacks (cacheOf b2) (w + 1)) →
+    Stands b4 (withItemWritebacks (cacheOf b3) v (own + 1)) →
+    Stands left (withWriteCost (cacheOf b4) (paid + price)) →
+    Stands left (countedOf (cacheOf b) v d)
+counted-dirty b b1 b2 b3 b4 left v {e} {de} {w} {own} {paid} {price} ee ed ew eo es ep s1 was s2 s3 s4 s5 =
+    stands-as s5
+    (ap (λ (q : Cache). withWriteCost q (paid + price))
+    (s4 .cache
+    ∙ ap (λ (q : Cache). withItemWritebacks q v (own + 1))
+    (s3 .cache
+    ∙ ap (λ (q : Cache). withWritebacks q (w + 1)) (s2 .cache ∙ ap (λ (q : Cache). withDirtyEvictions q (de + 1)) (s1 .cache))))
+    ∙ (λ z. withCounts (cacheOf b) (ee z + 1) (ed z + 1) (ew z + 1) (es z + ep z) (set (cacheOf b .itemwritebacks) v (eo z + 1)))
+    ∙ ap (countedOf (cacheOf b) v) (sym was))
+
+-- the one that counts another
+pub counted-clean :
+    (b left : List ℕ) (v : ℕ) {e : ℕ} {d : Bool} →
+    e ≡ cacheOf b .evictions →
+    Stands left (withEvictions (cacheOf b) (e + 1)) →
+    d ≡ false →
+    Stands left (countedOf (cacheOf b) v d)
+counted-clean b left v ee s was =
+    stands-as s (ap (λ (x : ℕ). withEvictions (cacheOf b) (x + 1)) ee ∙ ap (countedOf (cacheOf b) v) (sym was))
+
+-- ---- the eviction of the victim v, of rank m
+
+pub chargeable : {b : List ℕ} {n m : ℕ} → ValidAt b n → m ≤ mostCredit + mostCredit → ChargeableAt b n m
+chargeable ok l = record { reads = valid-reads (ok .valid); count = ok .count; fields = ok .valid .cache .fields; rank = l }
+
+module _ (b : List ℕ) (n : ℕ) {v : ℕ} (p : CrowdedAt b n) (is : v ≡ victim (stateOf (cacheOf b))) where
+  known : v < cacheOf b .n
+  known = victim-known (cacheOf b) (p .some) is
+
+  pub victim-place : v < 256
+  victim-place = omega (arith, known, p .valid .valid .cache .fields .few)
+
+  pub victim-ranked : Ranked (getD (cacheOf b .loadcredit) v 0) (getD (cacheOf b .writecredit) v 0) (getD (cacheOf b .blocks) v 0)
+  victim-ranked = ranked (cacheOf b) (p .valid .valid .cache) v known
+
+  pub victim-bound : rankOf (cacheOf b) v ≤ mostCredit + mostCredit
+  victim-bound = rank-bound (cacheOf b) (p .valid .valid .cache) v known
+
+  -- what the eviction leaves when the others are charged, and then when v is dropped
+  module _ (m : ℕ) (b1 b2 : List ℕ) (s1 : Stands b1 (chargedOf (cacheOf b) m n)) (s2 : DroppedAt b1 v b2) where
+    leaves : Leaving (cacheOf b) v m (cacheOf b1) (cacheOf b2)
+    leaves = record { charge = s1 .cache ∙ ap (chargedOf (cacheOf b) m) (p .valid .count); drop = s2 .cache }
+
+    pub countable-at : CountableAt b2 v
+    countable-at = record { reads = s2 .reads; counts = countable (cacheOf b) (cacheOf b1) (cacheOf b2) (p .valid .valid .cache) known leaves }
+
+    pub evicted-at :
+        {d : Bool} (left : List ℕ) →
+        m ≡ rankOf (cacheOf b) v →
+        d ≡ dirtyAt (cacheOf b) v →
+        Stands left (countedOf (cacheOf b2) v d) →
+        BecomesAt (moved (view (cacheOf b)) (evict writeFirst (stateOf (cacheOf b))) (cacheOf b .closed)) left
+    evicted-at left worth was s3 =
+        record {
+          reads = readable s3;
+          cache =
+              evict-becomes (cacheOf b) (cacheOf b1) (cacheOf b2) (cacheOf left) sizes (p .valid .valid .cache .fields) (p .some) is worth was leaves
+              (s3 .cache);
+        }
+      where
+        sizes : Sizes (cacheOf b)
+        sizes =
+            record {
+              held = whole b .held;
+              load = whole b .loadcredit;
+              write = whole b .writecredit;
+              writebacks = whole b .itemwritebacks;
+            }

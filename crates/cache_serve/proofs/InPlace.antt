@@ -1,0 +1,157 @@
+-- The public functions on the bytes of a state: what each call leaves for the next, and where the rule stands at the end. Assumes
+-- nothing.
+use mathlib.Core.Path.{_≡_, sym, ap, subst, _∙_}
+use mathlib.Core.Logic.{_⊎_, inl, inr}
+use mathlib.Core.Bool.{Bool, true, false}
+use mathlib.Core.List.{List}
+use Prim.Native.Nat.{ℕ, _+_, _≤_, _<_}
+use native.Mathlib.Omega.{arith}
+use lib.ListN.{getD, drop}
+use Rattle.landlord.specs.declared.Step.the-variants.{Flush}
+use Rattle.landlord.specs.Slot.{writeFirst}
+use Rattle.landlord.specs.Rule.{State, Moved, serveRead, serveWrite, flush, step}
+use Rattle.landlord.specs.Figures.{Standing, moved}
+use Rattle.marks.specs.Marks.{marks, firstSet}
+use Rattle.cache_state.specs.Cache.{Cache}
+use Rattle.cache_state.specs.View.{stateOf, view}
+use Rattle.cache_state.specs.Valid.{Valid}
+use Rattle.cache_state.specs.Becomes.{Becomes}
+use Rattle.layout.specs.Layout.{cacheOf}
+use Rattle.layout.specs.Stands.{Stands, Readable, ValidBytes, BecomesAt}
+use Rattle.layout.proofs.Rounds.{whole}
+use Rattle.layout.proofs.Places.{readable, valid-reads}
+use Rattle.cache_serve.specs.Stores.{hitOf, loadedOf, refilledOf, flushedOf, WroteAt, WroteBackAt}
+use Rattle.cache_serve.specs.Ready.{Servable, SteppableAt, ServableAt, WritableAt, FlushableAt}
+use Rattle.cache_serve.proofs.Serves.{read-hit, read-load, writable, write-becomes}
+use Rattle.cache_serve.proofs.Writebacks.{Flushing, flush-starts, flush-ends, flushable, flush-turn, flushed-valid, flush-step-becomes}
+
+-- bytes that stand where a move of the rule leads
+abbrev MovesTo : List ℕ → (State → Moved) → List ℕ → Type 0
+MovesTo b f left = BecomesAt (moved (view (cacheOf b)) (f (stateOf (cacheOf b))) (cacheOf b .closed)) left
+
+-- ---- a request
+
+-- the item was held, and a hit counted; or it was not, and was loaded
+abbrev pub Counted : List ℕ → ℕ → List ℕ → Type 0
+Counted b i left =
+    ((getD (cacheOf b .held) i false ≡ true) × Stands left (hitOf (cacheOf b)))
+    ⊎ ((getD (cacheOf b .held) i false ≡ false) × Stands left (loadedOf (cacheOf b) i))
+
+pub hit-way :
+    (b : List ℕ) (i : ℕ) {q left : List ℕ} {isHeld : Bool} →
+    isHeld ≡ getD (cacheOf b .held) i false →
+    isHeld ≡ true →
+    Stands q (hitOf (cacheOf b)) →
+    left ≡ q →
+    Counted b i left
+hit-way b i is h s e = inl (sym is ∙ h, subst (λ (x : List ℕ). Stands x (hitOf (cacheOf b))) (sym e) s)
+
+pub load-way :
+    (b : List ℕ) (i : ℕ) {q left : List ℕ} {isHeld : Bool} →
+    isHeld ≡ getD (cacheOf b .held) i false →
+    isHeld ≡ false →
+    Stands q (loadedOf (cacheOf b) i) →
+    left ≡ q →
+    Counted b i left
+load-way b i is h s e = inr (sym is ∙ h, subst (λ (x : List ℕ). Stands x (loadedOf (cacheOf b) i)) (sym e) s)
+
+module _ (b : List ℕ) (i : ℕ) (p : ServableAt b i) where
+  servable : Servable (cacheOf b) i
+  servable = record { valid = p .valid .cache; item = p .item; room = p .room }
+
+  place : i < 256
+  place = omega (arith, p .item, p .valid .cache .fields .few)
+
+  pub refillable : (b1 : List ℕ) → Counted b i b1 → Readable b1 × (i < 256)
+  refillable b1 (inl w) = (readable (w .1), place)
+  refillable b1 (inr w) = (readable (w .1), place)
+
+  -- the load credit is filled last
+  pub read-at :
+      (b1 left : List ℕ) →
+      Counted b i b1 →
+      Stands left (refilledOf (cacheOf b1) i) →
+      MovesTo b (serveRead i) left
+  read-at b1 left w s = record { reads = readable s; cache = by w }
+    where
+      v : Standing
+      v = moved (view (cacheOf b)) (serveRead i (stateOf (cacheOf b))) (cacheOf b .closed)
+
+      at : (c : Cache) → cacheOf b1 ≡ c → Becomes v (refilledOf c i) → Becomes v (cacheOf left)
+      at c e r = subst (Becomes v) (sym (s .cache ∙ ap (λ (q : Cache). refilledOf q i) e)) r
+
+      by : Counted b i b1 → Becomes v (cacheOf left)
+      by (inl h) = at (hitOf (cacheOf b)) (h .1 .cache) (read-hit (cacheOf b) i (whole b) servable (h .0))
+      by (inr h) = at (loadedOf (cacheOf b) i) (h .1 .cache) (read-load (cacheOf b) i (whole b) servable (h .0))
+
+  -- a write after the read
+  module _ (b1 : List ℕ) (minutes : ℕ) (read : MovesTo b (serveRead i) b1) where
+    pub writable-at : minutes ≤ 1440 → WritableAt b1 i minutes
+    writable-at short =
+        record { reads = read .reads; counts = writable (cacheOf b) (cacheOf b1) i servable (read .cache) minutes short }
+
+    pub write-at :
+        (left : List ℕ) →
+        WroteAt b1 i minutes left →
+        MovesTo b (serveWrite i minutes) left
+    write-at left w =
+        record {
+          reads = w .reads;
+          cache = write-becomes (cacheOf b) (cacheOf b1) i servable (read .cache) (cacheOf left) minutes (whole b1) (w .cache);
+        }
+
+-- ---- a flush
+
+-- in a flush of the bytes b, with the items below `at` done
+pub record FlushingAt (b left : List ℕ) (at : ℕ) : Type 0 where
+  pub reads : Readable left
+  pub flushes : Flushing (cacheOf b) (cacheOf left) at
+
+pub flush-starts-at : (b : List ℕ) → ValidBytes b → FlushingAt b b 0
+flush-starts-at b p = record { reads = valid-reads p; flushes = flush-starts (cacheOf b) (p .cache) }
+
+-- i is the lowest dirty item, or 256
+module _
+    (b q : List ℕ) (at i : ℕ) {words : List ℕ}
+    (f : FlushingAt b q at)
+    (is : words ≡ cacheOf q .dirty)
+    (e : i ≡ at + firstSet (drop at (marks words)))
+  where
+    next : i ≡ at + firstSet (drop at (marks (cacheOf q .dirty)))
+    next = e ∙ ap (λ (ws : List ℕ). at + firstSet (drop at (marks ws))) is
+
+    pub flush-ends-at : 256 ≤ i → MovesTo b flush q
+    flush-ends-at l = record { reads = f .reads; cache = flush-ends (cacheOf b) (cacheOf q) at i (f .flushes) next l }
+
+    pub flushable-at : i < 256 → FlushableAt q i
+    flushable-at l = record { reads = f .reads; counts = flushable (cacheOf b) (cacheOf q) at i (f .flushes) next l }
+
+    pub flush-turn-at : i < 256 → (left : List ℕ) → WroteBackAt q i left → FlushingAt b left (i + 1)
+    flush-turn-at l left w =
+        record {
+          reads = w .reads;
+          flushes = flush-turn (cacheOf b) (cacheOf q) at i (f .flushes) next l (cacheOf left) (whole q) (w .cache);
+        }
+
+-- ---- a flush of the log
+
+module _ (b b1 : List ℕ) (p : SteppableAt b) (s : Stands b1 (flushedOf (cacheOf b))) where
+  pub flushed-valid-at : ValidBytes b1
+  flushed-valid-at =
+      record {
+        size = s .size;
+        allowed = s .allowed;
+        cache = subst Valid (sym (s .cache)) (flushed-valid (cacheOf b) (record { valid = p .valid .cache; room = p .room }));
+      }
+
+  pub flush-step-at :
+      (left : List ℕ) →
+      MovesTo b1 flush left →
+      MovesTo b (step writeFirst (cacheOf b .k) Flush) left
+  flush-step-at left r =
+      record {
+        reads = r .reads;
+        cache =
+            flush-step-becomes (cacheOf b) (cacheOf left)
+            (subst (λ (c : Cache). Becomes (moved (view c) (flush (stateOf c)) (c .closed)) (cacheOf left)) (s .cache) (r .cache));
+      }

@@ -1,0 +1,21 @@
+-- `cache_value::Cache::open` meets its contract: the opening, its number as an answer. Assumes nothing.
+use Rattle.cache_value.proofs.Openings.{opened-as}
+use borrow.Author.Needs.{needs}
+use Rattle.cache_value.proofs.Cache.open.Statement.{statement}
+use Rattle.cache_value.proofs.Cache.open.Tie as tie
+use Rattle.cache_value.proofs.Cache.open.Reads as reads
+use Rattle.cache_value.proofs.Cache.open.Lts as lts
+use Rattle.cache_value.proofs.answer_with.Reads as answer-with-reads
+use Rattle.cache_value.proofs.opening.Reads as opening-reads
+
+opening-requires : tie.Need-opening-requires
+opening-requires c κs = search needs
+
+answer-with-requires : tie.Need-answer-with-requires
+answer-with-requires c κs = search needs
+
+returns : tie.Need-returns
+returns c = opened-as _ _ (c .before .opening .result .number) (c .before .opening .result .cache) _ (c .before .opening .ensures) (c .answer-with .ensures .0) (c .answer-with .ensures .1)
+
+pub open-spec : {M : Type 1} → statement M
+open-spec = tie.close (tie.spec opening-requires answer-with-requires returns)

@@ -1,0 +1,73 @@
+-- A call in place on the bytes of a struct, as the call by value. Assumes nothing.
+use mathlib.Core.Path.{_≡_, refl, sym, ap, subst, _∙_}
+use mathlib.Core.Logic.{_≢_}
+use mathlib.Core.List.{List}
+use Prim.Native.Nat.{ℕ, _<_}
+use native.Mathlib.Omega.{arith}
+use Rattle.landlord.specs.declared.Step.{Step}
+use Rattle.landlord.specs.Types.{stepKind, stepItem, stepMinutes}
+use Rattle.landlord.specs.Slot.{writeFirst}
+use Rattle.landlord.specs.Figures.{Standing}
+use Rattle.landlord.specs.Calls.{Call, take, callOf, refusalNow, after}
+use Rattle.cache_state.specs.View.{view}
+use Rattle.cache_state.specs.Valid.{Valid}
+use Rattle.layout.specs.Layout.{cacheOf}
+use Rattle.layout.specs.Stands.{Stands, ValidBytes}
+use Rattle.cache.specs.Contract.{lent, Called}
+use Rattle.cache.proofs.Calls.{invalid-called, refused-answers}
+use Rattle.cache_value.specs.declared.Cache.{Cache}
+use Rattle.cache_value.specs.declared.Answered.{Answered}
+use Rattle.cache_value.specs.Struct.{recordOf, byValue}
+use Rattle.cache_value.specs.Contract.{answerTo, CalledBy}
+
+-- a cache of more items than there are places is refused with 17
+pub many-called : (c : Cache) (call : Call) → 256 < c .n → Called byValue c call 17 c
+many-called c call many = invalid-called byValue c call (λ ok. omega (arith, ok .fields .few))
+
+module _ {b : List ℕ} (c : Cache) (s : Stands b (recordOf c)) where
+  -- the bytes are valid exactly if the struct is
+  pub valid-there : Valid (recordOf c) → ValidBytes b
+  valid-there ok = record { size = s .size; allowed = s .allowed; cache = subst Valid (sym (s .cache)) ok }
+
+  valid-here : ValidBytes b → Valid (recordOf c)
+  valid-here ok = subst Valid (s .cache) (ok .cache)
+
+  pub same-view : view (cacheOf b) ≡ view (recordOf c)
+  same-view = ap view (s .cache)
+
+  -- refused in place, the struct is handed back as it was
+  pub refused-called : {left : List ℕ} (call : Call) (n : ℕ) → Called lent b call n left → n ≢ 0 → Called byValue c call n c
+  refused-called call n h d =
+      record {
+        fine = λ ok. refused-answers byValue c call n ok (h .fine (valid-there ok) .answer ∙ ap (λ (v : Standing). refusalNow v call) same-view) d;
+        invalid = λ bad. (h .invalid (λ ok. bad (valid-here ok)) .0, refl);
+      }
+
+  -- taken in place, the struct that the bytes stand for then is where the rule stands
+  pub taken-called : {left : List ℕ} (call : Call) (n : ℕ) (d : Cache) → Called lent b call n left → n ≡ 0 → recordOf d ≡ cacheOf left → Called byValue c call 0 d
+  taken-called call n d h z e =
+      record {
+        fine = λ ok.
+            let a = h .fine (valid-there ok) in
+            record {
+              answer = sym z ∙ a .answer ∙ ap (λ (v : Standing). refusalNow v call) same-view;
+              valid = subst Valid (sym e) (a .valid .cache);
+              stands = ap view e ∙ a .stands ∙ ap (λ (v : Standing). after writeFirst v call) same-view;
+              refused = λ w. absurd (w refl);
+            };
+        invalid = λ bad. absurd (let y : _≡_ {A = ℕ} 17 0 = sym (h .invalid (λ ok. bad (valid-here ok)) .0) ∙ z in omega arith);
+      }
+
+-- a reply's number as an answer
+pub answered : (c d : Cache) (call : Call) (n : ℕ) (r : Answered) → Called byValue c call n d → r .answer ≡ answerTo n → r .cache ≡ d → CalledBy c call r
+answered c d call n r h a e = record { number = n; called = subst (λ (z : Cache). Called byValue c call n z) (sym e) h; answer = a }
+
+-- a step's numbers are those of its call
+pub called-as :
+    (c d : Cache) (s : Step) (n : ℕ) {kind i m : ℕ} →
+    kind ≡ stepKind s →
+    i ≡ stepItem s →
+    m ≡ stepMinutes s →
+    Called byValue c (take kind i m) n d →
+    Called byValue c (callOf s) n d
+called-as c d s n p q w h = subst (λ (z : Call). Called byValue c z n d) (λ j. take (p j) (q j) (w j)) h

@@ -1,0 +1,160 @@
+-- Laws of an opening: its tests are the table's, the copied arrays, and the cache that it hands back. Assumes nothing.
+use mathlib.Core.Path.{_≡_, refl, sym, subst, _∙_}
+use mathlib.Core.Bool.{Bool, true, false, cond, _&&_}
+use mathlib.Core.List.{List, []}
+use Prim.Native.Nat.{ℕ, _+_, _≤_, _<_}
+use native.Mathlib.Omega.{arith}
+use lib.Dec.{eqb, leb}
+use lib.ListN.{length, getD, set, replicate, getD-replicate}
+use lib.Seq.{getD-set-same, getD-set-other}
+use borrow.Author.Count.{below-more}
+use Rattle.landlord.specs.Fold.{tab, tabFrom, fold}
+use Rattle.landlord.specs.Catalog.{Catalog, Item, CapacityOk, CatalogOk, ItemOk, itemAt, noItem}
+use Rattle.landlord.specs.Rule.{flush, writeBacks}
+use Rattle.landlord.specs.Figures.{opened, closes}
+use Rattle.landlord.specs.Calls.{openingRefusal, allInRange}
+use Rattle.landlord.specs.Valid.{StandingOk}
+use Rattle.landlord.proofs.Folds.{tab-length, tab-at}
+use Rattle.landlord.proofs.Calls.{opening-taken, opening-accepts}
+use Rattle.landlord.proofs.Valid.{ok-opened, ok-closes}
+use Rattle.validity.specs.Decided.{Decided}
+use Rattle.cache_state.specs.Becomes.{Becomes}
+use Rattle.cache_state.specs.Cache as records
+use Rattle.cache.specs.Contract.{EmptyPlace}
+use Rattle.cache.specs.Opening.{emptyWith}
+use Rattle.cache.proofs.Empty.{empty-place, empty-becomes}
+use Rattle.cache_value.specs.declared.Cache.{Cache}
+use Rattle.cache_value.specs.declared.Answered.{Answered}
+use Rattle.cache_value.specs.Struct.{recordOf}
+use Rattle.cache_value.specs.Opening.{FirstOf, BlocksOk, Opens}
+use Rattle.cache_value.specs.Contract.{catalogFrom, refusedOpening, Opened, answerTo, OpenedBy}
+
+-- ---- the tests
+
+pub no-blocks : (bs : List ℕ) → BlocksOk 0 bs
+no-blocks bs = record { some = λ i l. absurd (let z : i < 0 = l in omega arith); small = λ i l. absurd (let z : i < 0 = l in omega arith) }
+
+pub more-blocks : (bs : List ℕ) (i : ℕ) → BlocksOk i bs → 1 ≤ getD bs i 0 → getD bs i 0 ≤ 16 → BlocksOk (i + 1) bs
+more-blocks bs i ok low high =
+    record { some = below-more (λ j. 1 ≤ getD bs j 0) i (ok .some) low; small = below-more (λ j. getD bs j 0 ≤ 16) i (ok .small) high }
+
+-- the last test decides where the others have come out so
+pub opens-so : (k n : ℕ) (blocks : List ℕ) (r : Bool) → 1 ≤ k → k ≤ 4096 → n ≤ 256 → Decided (BlocksOk n blocks) r → Decided (Opens k n blocks) r
+opens-so k n blocks r low high few d =
+    record { yes = λ e. record { low = low; high = high; few = few; each = d .yes e }; only = λ o. d .only (o .each) }
+
+-- an opening that asks for something out of range is refused
+refuses : (k : ℕ) (cat : Catalog) → (CapacityOk k × CatalogOk cat → ⊥) → 3 ≡ openingRefusal k cat
+unfolding openingRefusal
+refuses k cat none = go (leb 1 k && leb k 4096 && leb (length cat) 256 && allInRange cat) refl
+  where
+    go : (t : Bool) → leb 1 k && leb k 4096 && leb (length cat) 256 && allInRange cat ≡ t → _≡_ {A = ℕ} 3 (cond t 0 3)
+    go true e = absurd (none (opening-taken k cat (unfold openingRefusal in rw e)))
+    go false e = refl
+
+-- ---- the copied arrays
+
+pub first-none : (xs : List ℕ) → FirstOf 0 xs (replicate 256 0)
+first-none xs = record { front = λ i l. absurd (let z : i < 0 = l in omega arith); rest = λ i l u. getD-replicate 256 i 0 0 u }
+
+-- one entry more copied
+pub first-more : (xs out : List ℕ) (i : ℕ) → i < length out → FirstOf i xs out → FirstOf (i + 1) xs (set out i (getD xs i 0))
+first-more xs out i l f =
+    record {
+      front =
+          below-more (λ j. getD (set out i (getD xs i 0)) j 0 ≡ getD xs j 0) i
+          (λ j b. getD-set-other out i j (getD xs i 0) 0 (omega arith) ∙ f .front j b) (getD-set-same out i (getD xs i 0) 0 l);
+      rest = λ j b u. getD-set-other out i j (getD xs i 0) 0 (omega arith) ∙ f .rest j (omega arith) u;
+    }
+
+-- ---- the cache
+
+-- a struct that stands in order where an opening of this number stands, all its places empty
+stood :
+    (k : ℕ) (cat : Catalog) (number : ℕ) (c : Cache) {d : records.Cache} →
+    number ≡ openingRefusal k cat →
+    StandingOk (cond (eqb number 0) (opened k cat) refusedOpening) →
+    Becomes (cond (eqb number 0) (opened k cat) refusedOpening) d →
+    ((i : ℕ) → i < 256 → EmptyPlace d i) →
+    recordOf c ≡ d →
+    Opened k cat number c
+stood k cat number c asked ok h empty e =
+    let so : Becomes (cond (eqb number 0) (opened k cat) refusedOpening) (recordOf c) = subst (Becomes (cond (eqb number 0) (opened k cat) refusedOpening)) (sym e) h in
+    record {
+      answer = asked;
+      valid = record { fields = so .fields; rule = subst StandingOk (sym (so .stands)) ok };
+      stands = so .stands;
+      empty = λ i l. subst (λ (z : records.Cache). EmptyPlace z i) (sym e) (empty i l);
+    }
+
+-- a closed cache of 1 block with no items is in order
+refused-ok : StandingOk refusedOpening
+refused-ok = unfold closes flush writeBacks tabFrom fold in ok-closes (opened 1 []) (ok-opened 1 [] size none)
+  where
+    size : CapacityOk 1
+    size = record { low = omega arith; high = omega arith }
+
+    none : CatalogOk []
+    none = record { few = omega arith; each = λ i l. absurd (let z : i < 0 = l in omega arith) }
+
+-- the opening's tests are the table's: costs of 16 bits are in range
+module _ (k n : ℕ) (blocks load write : List ℕ) where
+  abbrev cat : Catalog
+  cat = catalogFrom n blocks load write
+
+  abbrev item : ℕ → Item
+  item i = record { blocks = getD blocks i 0; load = getD load i 0; write = getD write i 0 }
+
+  length-from : length cat ≡ n
+  unfolding catalogFrom
+  length-from = tab-length n item
+
+  item-from : (i : ℕ) → i < n → itemAt cat i ≡ item i
+  unfolding catalogFrom
+  item-from i l = tab-at n item i noItem l
+
+  opens-from : CapacityOk k × CatalogOk cat → Opens k n blocks
+  opens-from f = record { low = f .0 .low; high = f .0 .high; few = omega (arith, f .1 .few, length-from); each = record { some = λ i l. at i l .some; small = λ i l. at i l .small } }
+    where
+      at : (i : ℕ) → i < n → ItemOk (item i)
+      at i l = subst ItemOk (item-from i l) (f .1 .each i (omega (arith, length-from)))
+
+  in-range : Opens k n blocks → ((i : ℕ) → getD load i 0 ≤ 65535) → ((i : ℕ) → getD write i 0 ≤ 65535) → CatalogOk cat
+  in-range o fl fw = record { few = omega (arith, length-from, o .few); each = at }
+    where
+      at : (i : ℕ) → i < length cat → ItemOk (itemAt cat i)
+      at i l =
+          let m : i < n = omega (arith, length-from) in
+          subst ItemOk (sym (item-from i m)) (record { some = o .each .some i m; small = o .each .small i m; load = fl i; write = fw i })
+
+  pub open-taken :
+      {b l w : List ℕ} (c : Cache) →
+      Opens k n blocks →
+      FirstOf n blocks b →
+      FirstOf n load l →
+      FirstOf n write w →
+      ((i : ℕ) → getD load i 0 ≤ 65535) →
+      ((i : ℕ) → getD write i 0 ≤ 65535) →
+      recordOf c ≡ emptyWith k n b l w false →
+      Opened k cat 0 c
+  unfolding catalogFrom
+  open-taken {b = b} {l = l} {w = w} c o fb fl fw ll lw e =
+      let room : CapacityOk k = record { low = o .low; high = o .high } in
+      let good : CatalogOk cat = in-range o ll lw in
+      stood k cat 0 c (sym (opening-accepts k cat room good)) (ok-opened k cat room good)
+      (empty-becomes k n item false b l w (o .few) fb fl fw) (empty-place k n b l w false) e
+
+  pub open-refused :
+      (c : Cache) →
+      (Opens k n blocks → ⊥) →
+      recordOf c ≡ emptyWith 1 0 (replicate 256 0) (replicate 256 0) (replicate 256 0) true →
+      Opened k cat 3 c
+  unfolding tabFrom
+  open-refused c none e =
+      stood k cat 3 c (refuses k cat (λ f. none (opens-from f))) refused-ok
+      (empty-becomes 1 0 item true (replicate 256 0) (replicate 256 0) (replicate 256 0) (omega arith) (first-none blocks) (first-none load) (first-none write))
+      (empty-place 1 0 (replicate 256 0) (replicate 256 0) (replicate 256 0) true) e
+
+-- an opening's number as an answer
+pub opened-as : (k : ℕ) (cat : Catalog) (n : ℕ) (c : Cache) (r : Answered) → Opened k cat n c → r .answer ≡ answerTo n → r .cache ≡ c → OpenedBy k cat r
+opened-as k cat n c r o a e = record { number = n; opening = subst (Opened k cat n) (sym e) o; answer = a }

@@ -1,0 +1,84 @@
+-- A whole list of calls from an opening on: the calls are made in place, and the season theorem of the bytes carries over to the struct
+-- that they stand for. Assumes nothing.
+use mathlib.Core.Path.{_≡_, refl, sym, ap, subst, _∙_}
+use mathlib.Core.Logic.{_≢_}
+use mathlib.Core.Bool.{cond}
+use mathlib.Core.List.{List, []}
+use Prim.Native.Nat.{ℕ}
+use lib.Dec.{eqb}
+use borrow.Author.Tests.{ne-eqb}
+use Rattle.landlord.specs.Catalog.{Catalog}
+use Rattle.landlord.specs.Figures.{Standing, opened, totalCost}
+use Rattle.landlord.specs.Calls.{Call}
+use Rattle.cache_state.specs.View.{view}
+use Rattle.cache_state.specs.Valid.{Valid}
+use Rattle.layout.specs.Layout.{cacheOf}
+use Rattle.layout.specs.Stands.{Stands}
+use Rattle.cache.specs.Contract.{lent}
+use Rattle.cache.specs.Chain.{Bounded, Begins, Season}
+use Rattle.cache.specs.Run.{RanCalls}
+use Rattle.cache.proofs.Season.{season-theorem}
+use Rattle.cache_value.specs.declared.Cache.{Cache}
+use Rattle.cache_value.specs.declared.Answered.{Answered}
+use Rattle.cache_value.specs.declared.Answer.the-variants.{Taken}
+use Rattle.cache_value.specs.Struct.{recordOf, byValue}
+use Rattle.cache_value.specs.Contract.{refusedOpening, answerTo, Opened}
+use Rattle.cache_value.specs.Chain.{SeasonByValue, Ran}
+use Rattle.cache_value.proofs.Calls.{valid-there, same-view}
+
+pub run-refused :
+    (k : ℕ) (cat : Catalog) (calls : List Call) (before : List ℕ) (n : ℕ) (c : Cache) (r : Answered) →
+    Opened k cat n c →
+    n ≢ 0 →
+    r .answer ≡ answerTo n →
+    r .cache ≡ c →
+    Ran k cat calls before before r
+run-refused k cat calls before n c r o d a e =
+    record {
+      number = n;
+      isNumber = o .answer;
+      answer = a;
+      refused = λ z. (refl, ap (λ (q : Cache). view (recordOf q)) e ∙ o .stands ∙ rw (ne-eqb n 0 d));
+      numbers = [];
+      season = λ z. absurd (d z);
+    }
+
+-- the bytes of an opened cache begin a season in place
+bytes-begin : (k : ℕ) (cat : Catalog) (n : ℕ) (c : Cache) (b : List ℕ) → Opened k cat n c → n ≡ 0 → Stands b (recordOf c) → Begins lent k cat b
+bytes-begin k cat n c b o z s =
+    record {
+      accepted = sym (o .answer) ∙ z;
+      valid = valid-there c s (o .valid);
+      stands = same-view c s ∙ o .stands ∙ ap (λ (m : ℕ). cond (eqb m 0) (opened k cat) refusedOpening) z;
+    }
+
+-- the conclusions for bytes are those for the struct that they stand for
+season-carried : (k : ℕ) (cat : Catalog) (calls : List Call) (numbers left : List ℕ) (d : Cache) → recordOf d ≡ cacheOf left → Season lent k cat calls numbers left → SeasonByValue k cat calls numbers d
+season-carried k cat calls numbers left d e s = record { season = season; wear = season .wear }
+  where
+    season : Season byValue k cat calls numbers d
+    season =
+        record {
+          answers = s .answers;
+          valid = subst Valid (sym e) (s .valid .cache);
+          stands = ap view e ∙ s .stands;
+          wear = λ closing. subst (λ (v : Standing). Bounded k cat calls (totalCost (v .figures))) (sym (ap view e)) (s .wear closing);
+        }
+
+pub run-taken :
+    (k : ℕ) (cat : Catalog) (calls : List Call) (before : List ℕ) (n : ℕ) (c d : Cache) {after b left : List ℕ} →
+    Opened k cat n c →
+    n ≡ 0 →
+    Stands b (recordOf c) →
+    RanCalls lent b calls before after left →
+    recordOf d ≡ cacheOf left →
+    Ran k cat calls before after (record { answer = Taken; cache = d })
+run-taken k cat calls before n c d {b = b} {left = left} o z s ran e =
+    record {
+      number = 0;
+      isNumber = sym z ∙ o .answer;
+      answer = unfold answerTo in refl;
+      refused = λ w. absurd (w refl);
+      numbers = ran .numbers;
+      season = λ w. (season-carried k cat calls (ran .numbers) left d e (season-theorem lent (bytes-begin k cat n c b o z s) (ran .follows)), ran .noted);
+    }

@@ -1,0 +1,50 @@
+-- The contracts of the methods leave no choice: there is exactly one valid struct that stands where the rule stands. Assumes nothing.
+use mathlib.Core.Path.{_≡_, sym, _∙_}
+use Prim.Native.Nat.{ℕ}
+use Rattle.landlord.specs.Calls.{Call}
+use Rattle.cache_state.proofs.Tells.{Sizes}
+use Rattle.cache_state.proofs.Tells as records
+use Rattle.cache.specs.Contract.{Answers}
+use Rattle.cache_value.specs.declared.Cache.{Cache}
+use Rattle.cache_value.specs.Struct.{recordOf, byValue}
+
+-- structs that are one record are one struct
+pub record-one : (c d : Cache) → recordOf c ≡ recordOf d → c ≡ d
+record-one c d e = λ j.
+    record {
+      k = e j .k;
+      n = e j .n;
+      blocks = e j .blocks;
+      load = e j .load;
+      write = e j .write;
+      held = e j .held;
+      loadcredit = e j .loadcredit;
+      writecredit = e j .writecredit;
+      dirty = e j .dirty;
+      tenths = e j .tenths;
+      itemloads = e j .itemloads;
+      itemwritebacks = e j .itemwritebacks;
+      steps = e j .steps;
+      hits = e j .hits;
+      loads = e j .loads;
+      loadcost = e j .loadcost;
+      evictions = e j .evictions;
+      dirtyevictions = e j .dirtyevictions;
+      writebacks = e j .writebacks;
+      writecost = e j .writecost;
+      flushes = e j .flushes;
+      closed = e j .closed;
+    }
+
+pub valid-one : (c d : Cache) → Sizes (recordOf c) → Sizes (recordOf d) → byValue .Valid c → byValue .Valid d → byValue .view c ≡ byValue .view d → c ≡ d
+valid-one c d sc sd ok so e = record-one c d (records.valid-one (recordOf c) (recordOf d) sc sd ok so e)
+
+-- so of a call: one answer, and one struct handed back
+pub answers-one :
+    (c d e : Cache) (call : Call) (n m : ℕ) →
+    Sizes (recordOf d) →
+    Sizes (recordOf e) →
+    Answers byValue c call n d →
+    Answers byValue c call m e →
+    (n ≡ m) × (d ≡ e)
+answers-one c d e call n m sd se p q = (p .answer ∙ sym (q .answer), valid-one d e sd se (p .valid) (q .valid) (p .stands ∙ sym (q .stands)))

@@ -1,0 +1,156 @@
+-- `cache_value::bytes::decode` meets its contract: each field is what its reader found at its place. Assumes nothing.
+use Rattle.layout.specs.Layout.{numbers, atLoadCredits, atWriteCredits, atTenths, atItemLoads, atItemWritebacks, atItemLoadCosts, atItemWriteCosts, atBlocks}
+use native.Mathlib.Omega.{arith}
+use Prim.Native.Nat.{ℕ}
+use mathlib.Core.List.{List}
+use mathlib.Core.Path.{_≡_}
+use borrow.Author.Needs.{needs}
+use Rattle.cache_value.proofs.bytes.decode.Statement.{statement}
+use Rattle.cache_value.proofs.bytes.decode.Tie as tie
+use Rattle.cache_value.proofs.bytes.decode.Reads as reads
+use Rattle.cache_value.proofs.bytes.decode.Lts as lts
+use Rattle.fields.proofs.get_flags.Reads as get-flags-reads
+use Rattle.fields.proofs.get_run1.Reads as get-run1-reads
+use Rattle.fields.proofs.get_run2.Reads as get-run2-reads
+use Rattle.fields.proofs.get_run4.Reads as get-run4-reads
+use Rattle.fields.proofs.get_run8.Reads as get-run8-reads
+use Rattle.layout.proofs.capacity.Reads as capacity-reads
+use Rattle.layout.proofs.closed.Reads as closed-reads
+use Rattle.layout.proofs.count.Reads as count-reads
+use Rattle.layout.proofs.dirty.Reads as dirty-reads
+use Rattle.layout.proofs.dirty_evictions.Reads as dirty-evictions-reads
+use Rattle.layout.proofs.evictions.Reads as evictions-reads
+use Rattle.layout.proofs.flushes.Reads as flushes-reads
+use Rattle.layout.proofs.hits.Reads as hits-reads
+use Rattle.layout.proofs.load_cost.Reads as load-cost-reads
+use Rattle.layout.proofs.loads.Reads as loads-reads
+use Rattle.layout.proofs.steps.Reads as steps-reads
+use Rattle.layout.proofs.write_cost.Reads as write-cost-reads
+use Rattle.layout.proofs.writebacks.Reads as writebacks-reads
+
+capacity-requires : tie.Need-capacity-requires
+capacity-requires c κs = search needs
+
+count-requires : tie.Need-count-requires
+count-requires c κs = search needs
+
+steps-requires : tie.Need-steps-requires
+steps-requires c κs = search needs
+
+hits-requires : tie.Need-hits-requires
+hits-requires c κs = search needs
+
+loads-requires : tie.Need-loads-requires
+loads-requires c κs = search needs
+
+evictions-requires : tie.Need-evictions-requires
+evictions-requires c κs = search needs
+
+dirty-evictions-requires : tie.Need-dirty-evictions-requires
+dirty-evictions-requires c κs = search needs
+
+writebacks-requires : tie.Need-writebacks-requires
+writebacks-requires c κs = search needs
+
+flushes-requires : tie.Need-flushes-requires
+flushes-requires c κs = search needs
+
+closed-requires : tie.Need-closed-requires
+closed-requires c κs = search needs
+
+load-cost-requires : tie.Need-load-cost-requires
+load-cost-requires c κs = search needs
+
+write-cost-requires : tie.Need-write-cost-requires
+write-cost-requires c κs = search needs
+
+dirty-requires : tie.Need-dirty-requires
+dirty-requires c κs = search needs
+
+get-run8-requires : tie.Need-get-run8-requires
+get-run8-requires c κs = search needs
+
+get-run8-requires-2 : tie.Need-get-run8-requires-2
+get-run8-requires-2 c κs = search needs
+
+get-run4-requires : tie.Need-get-run4-requires
+get-run4-requires c κs = search needs
+
+get-run4-requires-2 : tie.Need-get-run4-requires-2
+get-run4-requires-2 c κs = search needs
+
+get-run4-requires-3 : tie.Need-get-run4-requires-3
+get-run4-requires-3 c κs = search needs
+
+get-run2-requires : tie.Need-get-run2-requires
+get-run2-requires c κs = search needs
+
+get-run2-requires-2 : tie.Need-get-run2-requires-2
+get-run2-requires-2 c κs = omega (arith, c .before .before .before .before .before .before .before .before .before .before .before .before .before .before .before .before .before .before .before .before .pre)
+
+get-run1-requires : tie.Need-get-run1-requires
+get-run1-requires c κs = omega (arith, c .before .before .before .before .before .before .before .before .before .before .before .before .before .before .before .before .before .before .before .before .before .pre)
+
+get-flags-requires : tie.Need-get-flags-requires
+get-flags-requires c κs = omega (arith, c .before .before .before .before .before .before .before .before .before .before .before .before .before .before .before .before .before .before .before .before .before .before .pre)
+
+-- numbers as the reader has found them, with the place and the width at which the layout has them
+many : (b : List ℕ) (at w : ℕ) {vs : List ℕ} → vs ≡ numbers b at 256 w → vs ≡ numbers b at 256 w
+many b at w e = e
+
+returns : tie.Need-returns
+returns c =
+    let b = c .before .before .before .before .before .before .before .before .before .before .before .before .before .before .before .before .before .before .before .before .before .before .before .args .b .now in
+    λ i.
+    record {
+      k = c .before .before .before .before .before .before .before .before .before .before .before .before .before .before .before .before .before .before .before .before .before .capacity .ensures i;
+      n = c .before .before .before .before .before .before .before .before .before .before .before .before .before .before .before .before .before .before .before .before .count .ensures .0 i;
+      steps = c .before .before .before .before .before .before .before .before .before .before .before .before .before .before .before .before .before .before .before .steps .ensures i;
+      hits = c .before .before .before .before .before .before .before .before .before .before .before .before .before .before .before .before .before .before .hits .ensures i;
+      loads = c .before .before .before .before .before .before .before .before .before .before .before .before .before .before .before .before .before .loads .ensures i;
+      evictions = c .before .before .before .before .before .before .before .before .before .before .before .before .before .before .before .before .evictions .ensures i;
+      dirtyevictions = c .before .before .before .before .before .before .before .before .before .before .before .before .before .before .before .dirty-evictions .ensures i;
+      writebacks = c .before .before .before .before .before .before .before .before .before .before .before .before .before .before .writebacks .ensures i;
+      flushes = c .before .before .before .before .before .before .before .before .before .before .before .before .before .flushes .ensures i;
+      closed = c .before .before .before .before .before .before .before .before .before .before .before .before .closed .ensures i;
+      loadcost = c .before .before .before .before .before .before .before .before .before .before .before .load-cost .ensures i;
+      writecost = c .before .before .before .before .before .before .before .before .before .before .write-cost .ensures i;
+      dirty = c .before .before .before .before .before .before .before .before .before .dirty .ensures i;
+      loadcredit = many b atLoadCredits 8 (c .before .before .before .before .before .before .before .before .get-run8 .ensures) i;
+      writecredit = many b atWriteCredits 8 (c .before .before .before .before .before .before .before .get-run82 .ensures) i;
+      tenths = many b atTenths 4 (c .before .before .before .before .before .before .get-run4 .ensures) i;
+      itemloads = many b atItemLoads 4 (c .before .before .before .before .before .get-run42 .ensures) i;
+      itemwritebacks = many b atItemWritebacks 4 (c .before .before .before .before .get-run43 .ensures) i;
+      load = many b atItemLoadCosts 2 (c .before .before .before .get-run2 .ensures) i;
+      write = many b atItemWriteCosts 2 (c .before .before .get-run22 .ensures) i;
+      blocks = many b atBlocks 1 (c .before .get-run1 .ensures) i;
+      held = c .get-flags .ensures i;
+    }
+
+pub decode-spec : {M : Type 1} → statement M
+decode-spec =
+    tie.close
+    (tie.spec
+    capacity-requires
+    count-requires
+    steps-requires
+    hits-requires
+    loads-requires
+    evictions-requires
+    dirty-evictions-requires
+    writebacks-requires
+    flushes-requires
+    closed-requires
+    load-cost-requires
+    write-cost-requires
+    dirty-requires
+    get-run8-requires
+    get-run8-requires-2
+    get-run4-requires
+    get-run4-requires-2
+    get-run4-requires-3
+    get-run2-requires
+    get-run2-requires-2
+    get-run1-requires
+    get-flags-requires
+    returns)

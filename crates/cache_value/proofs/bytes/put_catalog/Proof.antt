@@ -1,0 +1,43 @@
+-- `cache_value::bytes::put_catalog` meets its contract: the four stores, each at its place. Assumes nothing.
+use borrow.Author.Needs.{needs}
+use Rattle.cache_value.proofs.bytes.put_catalog.Statement.{statement}
+use Rattle.cache_value.proofs.bytes.put_catalog.Tie as tie
+use Rattle.cache_value.proofs.bytes.put_catalog.Reads as reads
+use Rattle.cache_value.proofs.bytes.put_catalog.Lts as lts
+use Rattle.fields.proofs.put_flags.Reads as put-flags-reads
+use Rattle.fields.proofs.put_run1.Reads as put-run1-reads
+use Rattle.fields.proofs.put_run2.Reads as put-run2-reads
+
+put-run2-requires : tie.Need-put-run2-requires
+put-run2-requires c κs = search needs
+
+put-run2-requires-2 : tie.Need-put-run2-requires-2
+put-run2-requires-2 c κs = search needs
+
+put-run1-requires : tie.Need-put-run1-requires
+put-run1-requires c κs = search needs
+
+put-flags-requires : tie.Need-put-flags-requires
+put-flags-requires c κs = search needs
+
+same-length : tie.Need-same-length
+same-length c = search needs
+
+returns : tie.Need-returns
+returns c = rw (
+  c .before .before .put-flags .ensures,
+  c .before .before .before .before .before .before .put-run1 .ensures,
+  c .before .before .before .before .before .before .before .before .before .before .put-run22 .ensures,
+  c .before .before .before .before .before .before .before .before .before .before .before .before .before .before .put-run2 .ensures,
+)
+
+pub put-catalog-spec : {M : Type 1} → statement M
+put-catalog-spec =
+    tie.close
+    (tie.spec
+    put-run2-requires
+    put-run2-requires-2
+    put-run1-requires
+    put-flags-requires
+    same-length
+    returns)

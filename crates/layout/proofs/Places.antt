@@ -1,0 +1,105 @@
+-- What stands at a place of a state's bytes: one number of a run, one flag; and the bytes of a cache, which are the only ones that
+-- stand for it. Assumes nothing.
+use mathlib.Core.Path.{_≡_, refl, sym, ap, subst, _∙_}
+use mathlib.Core.List.{List, [], _∷_}
+use mathlib.Core.Bool.{false, not}
+use Prim.Native.Nat.{ℕ, zero, suc, _+_, _*_, _<_}
+use native.Mathlib.Omega.{arith}
+use lib.Dec.{eqb}
+use lib.ListN.{length, take, drop, getD}
+use lib.Seq.{drop-drop, getD-drop}
+use Rattle.fields.specs.LittleEndian.{Below, un, unrun, unflags}
+use Rattle.landlord.specs.Figures.{Standing}
+use Rattle.cache_state.specs.Cache.{Cache}
+use Rattle.cache_state.proofs.Tells.{Sizes, tells}
+use Rattle.layout.specs.Layout.{bytesOf, number, numbers, cacheOf, Allowed, Fits}
+use Rattle.layout.specs.Stands.{Stands, Readable, ValidBytes, BecomesAt}
+use Rattle.layout.proofs.Rounds.{round, back, fits, length-bytesOf, allowed-bytesOf}
+
+-- ---- reads
+
+-- one number of a run, or one flag of several, is the number at its place
+pub unrun-at : (w n : ℕ) (bs : List ℕ) (i : ℕ) → i < n → getD (unrun w n bs) i 0 ≡ un (take w (drop (i * w) bs))
+unfolding unrun
+unrun-at w zero bs i l = absurd (omega arith)
+unrun-at w (suc n) bs zero l =
+    let e : 0 * w ≡ 0 = omega arith in
+    rw e
+unrun-at w (suc n) bs (suc i) l =
+    let e : suc i * w ≡ w + i * w = omega arith in
+    rw (e, ← drop-drop (i * w) w bs) (unrun-at w n (drop w bs) i (omega arith))
+
+pub number-at : (w n at : ℕ) (b : List ℕ) (i r : ℕ) → i < n → r ≡ number b (at + i * w) w → r ≡ getD (numbers b at n w) i 0
+number-at w n at b i r l e = e ∙ rw (unrun-at w n (drop at b) i l, drop-drop)
+
+pub unflags-at : (n : ℕ) (bs : List ℕ) (i : ℕ) → i < n → getD (unflags n bs) i false ≡ not (eqb (getD bs i 0) 0)
+unfolding unflags
+unflags-at zero bs i l = absurd (omega arith)
+unflags-at (suc n) bs zero l = refl
+unflags-at (suc n) bs (suc i) l =
+    let e : 1 + i ≡ suc i = omega arith in
+    unflags-at n (drop 1 bs) i (omega arith) ∙ rw (getD-drop 1 bs i 0, e)
+
+pub flag-at : (n at : ℕ) (b : List ℕ) (i : ℕ) → i < n → getD (unflags n (drop at b)) i false ≡ not (eqb (getD b (at + i) 0) 0)
+flag-at n at b i l = unflags-at n (drop at b) i l ∙ rw (getD-drop at b i 0)
+
+-- four numbers read one by one
+pub read-four : (b : List ℕ) (at : ℕ) → numbers b at 4 8 ≡ number b at 8 ∷ number b (at + 8) 8 ∷ number b (at + 16) 8 ∷ number b (at + 24) 8 ∷ []
+unfolding unrun
+read-four b at =
+    let p : at + 8 + 8 ≡ at + 16 = omega arith in
+    let q : at + 16 + 8 ≡ at + 24 = omega arith in
+    simp (drop-drop, p, q)
+
+-- ---- the bytes of a cache
+
+-- bytes of a cache are those of what they stand for
+pub readable : {b : List ℕ} {c : Cache} → Stands b c → Readable b
+readable s = record { size = s .size; allowed = s .allowed; cache = refl }
+
+-- the same cache, told in another way
+pub stands-as : {b : List ℕ} {c d : Cache} → Stands b c → c ≡ d → Stands b d
+stands-as s e = record { size = s .size; allowed = s .allowed; cache = s .cache ∙ e }
+
+pub valid-reads : {b : List ℕ} → ValidBytes b → Readable b
+valid-reads v = record { size = v .size; allowed = v .allowed; cache = refl }
+
+-- the bytes of a cache that fits stand for it
+pub stands : {left : List ℕ} {c : Cache} → left ≡ bytesOf c → Fits c → Stands left c
+stands {c = c} e f =
+    record {
+      size = ap length e ∙ length-bytesOf c f;
+      allowed = subst Allowed (sym e) (allowed-bytesOf c f);
+      cache = ap cacheOf e ∙ round c f;
+    }
+
+-- and bytes that stand for a cache are its bytes
+pub encoded : (b : List ℕ) → Below 256 b → Readable b → b ≡ bytesOf (cacheOf b)
+encoded b h s = sym (back b (s .size) h (s .allowed))
+
+-- so there is exactly one list of bytes for a cache
+pub lent-one : (b d : List ℕ) → Below 256 b → Below 256 d → Readable b → Readable d → cacheOf b ≡ cacheOf d → b ≡ d
+lent-one b d hb hd sb sd e = encoded b hb sb ∙ ap bytesOf e ∙ sym (encoded d hd sd)
+
+-- and exactly one that stands where the rule stands: the contracts of calls on lent bytes leave no choice
+sizes : (c : Cache) → Fits c → Sizes c
+sizes c f =
+    record {
+      blocks = f .whole .blocks;
+      load = f .whole .load;
+      write = f .whole .write;
+      held = f .whole .held;
+      loadCredit = f .whole .loadcredit;
+      writeCredit = f .whole .writecredit;
+      dirty = f .whole .dirty;
+      words = f .dirty;
+      tenths = f .whole .tenths;
+      loads = f .whole .itemloads;
+      writebacks = f .whole .itemwritebacks;
+    }
+
+pub becomes-one : (v : Standing) (b d : List ℕ) → Below 256 b → Below 256 d → BecomesAt v b → BecomesAt v d → b ≡ d
+becomes-one v b d hb hd sb sd =
+    lent-one b d hb hd (sb .reads) (sd .reads)
+    (tells (cacheOf b) (cacheOf d) (sizes (cacheOf b) (fits b hb)) (sizes (cacheOf d) (fits d hd)) (sb .cache .fields) (sd .cache .fields)
+    (sb .cache .stands ∙ sym (sd .cache .stands)))

@@ -1,0 +1,26 @@
+-- `layout::is_dirty` meets its contract: the word that it reads is the word of the mark. Assumes nothing.
+use mathlib.Core.Path.{_≡_}
+use Prim.Native.Nat.{ℕ, _/_}
+use native.Mathlib.Omega.{arith}
+use borrow.Author.Needs.{needs}
+use lib.ListN.{getD}
+use Rattle.marks.specs.Marks.{bit, marked}
+use Rattle.layout.specs.Layout.{atDirty, numbers}
+use Rattle.layout.proofs.Places.{number-at}
+use Rattle.layout.proofs.is_dirty.Statement.{statement}
+use Rattle.layout.proofs.is_dirty.Tie as tie
+
+word-requires : tie.Need-word-requires
+word-requires c κs = search needs
+
+shr-result : tie.Need-shr-result
+shr-result c = search needs
+
+returns : tie.Need-returns
+unfolding marked bit
+returns c =
+    let s = c .before .before in
+    rw (number-at 8 4 atDirty (s .args .b .now) (s .args .i / 64) (c .word .result) (omega arith) (c .word .ensures))
+
+pub is-dirty-spec : {M : Type 1} → statement M
+is-dirty-spec = tie.close (tie.spec word-requires shr-result returns)

@@ -1,0 +1,25 @@
+-- `layout::item_loads` meets its contract: one number of a run is the number at its place. Assumes nothing.
+use native.Mathlib.Omega.{arith}
+use borrow.Author.Needs.{needs}
+use Rattle.layout.specs.Layout.{atItemLoads}
+use Rattle.layout.proofs.Places.{number-at}
+use Rattle.layout.proofs.item_loads.Statement.{statement}
+use Rattle.layout.proofs.item_loads.Tie as tie
+
+mul-get : tie.Need-mul-get
+mul-get c = search needs
+
+add-get : tie.Need-add-get
+add-get c = search needs
+
+get-requires : tie.Need-get-requires
+get-requires c κs = search needs
+
+cast-result : tie.Need-cast-result
+cast-result c = search needs
+
+returns : tie.Need-returns
+returns c = number-at 4 256 atItemLoads (c .before .before .args .b .now) (c .before .before .args .i) _ (omega arith) (c .get .ensures .0)
+
+pub item-loads-spec : {M : Type 1} → statement M
+item-loads-spec = tie.close (tie.spec mul-get add-get get-requires cast-result returns)

@@ -1,0 +1,22 @@
+-- `layout::write_credit` meets its contract: one number of a run is the number at its place. Assumes nothing.
+use native.Mathlib.Omega.{arith}
+use borrow.Author.Needs.{needs}
+use Rattle.layout.specs.Layout.{atWriteCredits}
+use Rattle.layout.proofs.Places.{number-at}
+use Rattle.layout.proofs.write_credit.Statement.{statement}
+use Rattle.layout.proofs.write_credit.Tie as tie
+
+mul-get : tie.Need-mul-get
+mul-get c = search needs
+
+add-get : tie.Need-add-get
+add-get c = search needs
+
+get-requires : tie.Need-get-requires
+get-requires c κs = search needs
+
+returns : tie.Need-returns
+returns c = number-at 8 256 atWriteCredits (c .before .before .args .b .now) (c .before .before .args .i) _ (omega arith) (c .get .ensures .0)
+
+pub write-credit-spec : {M : Type 1} → statement M
+write-credit-spec = tie.close (tie.spec mul-get add-get get-requires returns)
