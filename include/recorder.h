@@ -17,9 +17,9 @@
  * Any bytes, any numbers and any length may be handed in; a call never traps and always returns. A pointer must be good
  * for the count of bytes that is handed in with it; with a count of 0 it is not used, and may be NULL.
  *
- * STACK. Measured on x86-64: at most 3,152 bytes for recorder_open, 102,976 for recorder_step, 45,472 for recorder_close
- * and 30,000 for recorder_report, with no recursion; what the C library's memcpy and memset use comes on top. A target
- * without a guard page must provide them.
+ * STACK. Measured on x86-64 (make bench prints it): at most 191 bytes for recorder_open, 343 for recorder_step, 199 for
+ * recorder_close and 487 for recorder_report, with no recursion, what the C library's memcpy and memset use included. The
+ * library works on the lent bytes in place and makes no copy of them.
  */
 #ifndef RECORDER_H
 #define RECORDER_H
