@@ -4,16 +4,18 @@ use mathlib.Core.Logic.{_≢_}
 use mathlib.Core.List.{List}
 use Prim.Native.Nat.{ℕ, _<_}
 use native.Mathlib.Omega.{arith}
+use borrow.Author.Tests.{eq-eqb, ne-eqb}
 use Rattle.landlord.specs.declared.Step.{Step}
 use Rattle.landlord.specs.Types.{stepKind, stepItem, stepMinutes}
 use Rattle.landlord.specs.Slot.{writeFirst}
 use Rattle.landlord.specs.Figures.{Standing}
-use Rattle.landlord.specs.Calls.{Call, take, callOf, refusalNow, after}
+use Rattle.landlord.specs.Calls.{Call, take, close, callOf, refusalNow, after}
 use Rattle.cache_state.specs.View.{view}
 use Rattle.cache_state.specs.Valid.{Valid}
 use Rattle.layout.specs.Layout.{cacheOf}
 use Rattle.layout.specs.Stands.{Stands, ValidBytes}
 use Rattle.cache.specs.Contract.{lent, Called}
+use Rattle.cache.specs.Run.{callFrom}
 use Rattle.cache.proofs.Calls.{invalid-called, refused-answers}
 use Rattle.cache_value.specs.declared.Cache.{Cache}
 use Rattle.cache_value.specs.declared.Answered.{Answered}
@@ -57,6 +59,13 @@ module _ {b : List ℕ} (c : Cache) (s : Stands b (recordOf c)) where
             };
         invalid = λ bad. absurd (let y : _≡_ {A = ℕ} 17 0 = sym (h .invalid (λ ok. bad (valid-here ok)) .0) ∙ z in omega arith);
       }
+
+-- a call from four numbers
+pub call-takes : (b left : List ℕ) (which kind i m n : ℕ) → which ≡ 0 → Called lent b (take kind i m) n left → Called lent b (callFrom which kind i m) n left
+call-takes b left which kind i m n e h = rw (eq-eqb which 0 e) h
+
+pub call-closes : (b left : List ℕ) (which kind i m n : ℕ) → which ≢ 0 → Called lent b close n left → Called lent b (callFrom which kind i m) n left
+call-closes b left which kind i m n e h = rw (ne-eqb which 0 e) h
 
 -- a reply's number as an answer
 pub answered : (c d : Cache) (call : Call) (n : ℕ) (r : Answered) → Called byValue c call n d → r .answer ≡ answerTo n → r .cache ≡ d → CalledBy c call r

@@ -1,6 +1,6 @@
-pub mod Openings
-pub mod Stores
-pub mod Calls
+mod Openings
+mod Stores
+mod Calls
 pub mod Season
-pub mod Runs
+mod Runs
 pub mod Tells

@@ -8,7 +8,7 @@ use lib.Dec.{eqb, leb}
 use lib.ListN.{length, getD, set, replicate, getD-replicate}
 use lib.Seq.{getD-set-same, getD-set-other}
 use borrow.Author.Count.{below-more}
-use Rattle.landlord.specs.Fold.{tab, tabFrom, fold}
+use Rattle.landlord.specs.Fold.{tabFrom, fold}
 use Rattle.landlord.specs.Catalog.{Catalog, Item, CapacityOk, CatalogOk, ItemOk, itemAt, noItem}
 use Rattle.landlord.specs.Rule.{flush, writeBacks}
 use Rattle.landlord.specs.Figures.{opened, closes}

@@ -2,10 +2,10 @@
 // A method stores the struct in bytes, makes the call in place there, and reads it back; only this form pays for that.
 ghost use mathlib.Core.Path.{_≡_};
 ghost use Prim.Native.Nat.{_≤_};
-ghost use Rattle.landlord.specs.Calls.{take, close, callOf};
+ghost use Rattle.landlord.specs.Calls.{close, callOf};
 ghost use Rattle.validity.specs.Decided.{Decided};
-ghost use Rattle.cache.specs.Contract.{Called};
-ghost use Rattle.cache.specs.Run.{callsOf};
+ghost use Rattle.cache.specs.Contract.{lent, Called};
+ghost use Rattle.cache.specs.Run.{callFrom, callsOf};
 ghost use Rattle.cache.specs.Opening.{emptyWith};
 ghost use Rattle.cache_value.specs.Struct.{recordOf, byValue};
 ghost use Rattle.cache_value.specs.Opening.{FirstOf, BlocksOk, Opens};
@@ -186,34 +186,19 @@ fn opening(k: u32, n: usize, blocks: [u8; 256], load: [u16; 256], write: [u16; 2
 
 // ---- the calls
 
-// A step by its numbers. More items than a state can have places for are no valid cache, and have no place in the bytes.
-fn stepped(c: Cache, kind: u32, item: u32, minutes: u32) -> Reply
-    ensures { λ r. ⌜ Called byValue c (take kind item minutes) (r .number) (r .cache) ⌝ }
+// A call from four numbers, in place on any bytes: 0 and then a step's kind, item and minutes; or another number, and it is the closing.
+fn call_bytes(b: &mut [u8], which: u32, kind: u32, item: u32, minutes: u32) -> u32
+    ensures { λ r. ⌜ Called lent (now (b .entry)) (callFrom which kind item minutes) r (now (b .exit)) ⌝ }
 {
-    if c.n > 256 {
-        return Reply {
-            number: 17,
-            cache: c,
-        };
+    if which == 0 {
+        return cache::step(b, kind, item, minutes);
     }
-    let mut b = [0u8; layout::STATE_BYTES];
-    bytes::encode(c, &mut b);
-    let number = cache::step(&mut b, kind, item, minutes);
-    if number != 0 {
-        return Reply {
-            number: number,
-            cache: c,
-        };
-    }
-    Reply {
-        number: 0,
-        cache: bytes::decode(&b),
-    }
+    cache::close(b)
 }
 
-// The closing.
-fn closed(c: Cache) -> Reply
-    ensures { λ r. ⌜ Called byValue c close (r .number) (r .cache) ⌝ }
+// A call from four numbers, by value. A cache of more items than there are places is not valid, and has no room in the bytes.
+fn call(c: Cache, which: u32, kind: u32, item: u32, minutes: u32) -> Reply
+    ensures { λ r. ⌜ Called byValue c (callFrom which kind item minutes) (r .number) (r .cache) ⌝ }
 {
     if c.n > 256 {
         return Reply {
@@ -223,10 +208,10 @@ fn closed(c: Cache) -> Reply
     }
     let mut b = [0u8; layout::STATE_BYTES];
     bytes::encode(c, &mut b);
-    let number = cache::close(&mut b);
-    if number != 0 {
+    let refusal = call_bytes(&mut b, which, kind, item, minutes);
+    if refusal != 0 {
         return Reply {
-            number: number,
+            number: refusal,
             cache: c,
         };
     }
@@ -291,14 +276,14 @@ impl Cache {
     pub fn step(self, s: Step) -> Answered
         ensures { λ r. ⌜ CalledBy self (callOf s) r ⌝ }
     {
-        answer_with(stepped(self, s.kind(), s.item(), s.minutes()))
+        answer_with(call(self, 0, s.kind(), s.item(), s.minutes()))
     }
 
     // Closes the log: what is dirty is written back.
     pub fn close(self) -> Answered
         ensures { λ r. ⌜ CalledBy self close r ⌝ }
     {
-        answer_with(closed(self))
+        answer_with(call(self, 1, 0, 0, 0))
     }
 }
 
@@ -326,8 +311,9 @@ pub fn run(
     let mut b = [0u8; layout::STATE_BYTES];
     bytes::encode(c, &mut b);
     cache::run_calls(&mut b, calls, answers);
+    let end = bytes::decode(&b);
     Answered {
         answer: Answer::Taken,
-        cache: bytes::decode(&b),
+        cache: end,
     }
 }

@@ -3,8 +3,6 @@ use borrow.Author.Tests.{eq-eqb, ne-eqb}
 use Rattle.cache_value.specs.Contract.{answerTo}
 use Rattle.cache_value.proofs.answer_to.Statement.{statement}
 use Rattle.cache_value.proofs.answer_to.Tie as tie
-use Rattle.cache_value.proofs.answer_to.Reads as reads
-use Rattle.cache_value.proofs.answer_to.Lts as lts
 
 returns : tie.Need-returns
 unfolding answerTo

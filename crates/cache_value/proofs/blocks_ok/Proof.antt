@@ -1,15 +1,12 @@
 -- `cache_value::blocks_ok` meets its contract: the items passed are in range. Assumes nothing.
+use mathlib.Core.Path.{_≡_}
 use Prim.Native.Nat.{_≤_, _-_}
 use native.Mathlib.Omega.{arith}
-use borrow.Author.Needs.{needs}
-use mathlib.Core.Path.{_≡_}
-use Rattle.cache_value.specs.Opening.{BlocksOk}
 use Rattle.validity.proofs.Decides.{no, sure}
+use Rattle.cache_value.specs.Opening.{BlocksOk}
 use Rattle.cache_value.proofs.Openings.{no-blocks, more-blocks}
 use Rattle.cache_value.proofs.blocks_ok.Statement.{statement}
 use Rattle.cache_value.proofs.blocks_ok.Tie as tie
-use Rattle.cache_value.proofs.blocks_ok.Reads as reads
-use Rattle.cache_value.proofs.blocks_ok.Lts as lts
 
 abbrev Inv-loop : tie.InvT-loop
 Inv-loop n blocks i₀ i = (i ≤ n) × BlocksOk i blocks

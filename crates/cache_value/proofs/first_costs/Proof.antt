@@ -2,14 +2,12 @@
 use mathlib.Core.Path.{_≡_, _∙_}
 use Prim.Native.Nat.{ℕ, _≤_, _-_}
 use native.Mathlib.Omega.{arith}
-use borrow.Author.Needs.{needs}
 use lib.ListN.{length, replicate, length-set, length-replicate}
+use borrow.Author.Needs.{needs}
 use Rattle.cache_value.specs.Opening.{FirstOf}
 use Rattle.cache_value.proofs.Openings.{first-none, first-more}
 use Rattle.cache_value.proofs.first_costs.Statement.{statement}
 use Rattle.cache_value.proofs.first_costs.Tie as tie
-use Rattle.cache_value.proofs.first_costs.Reads as reads
-use Rattle.cache_value.proofs.first_costs.Lts as lts
 
 abbrev Inv-loop : tie.InvT-loop
 Inv-loop n xs out₀ i₀ out i = (i ≤ n) × (length out ≡ 256) × FirstOf i xs out

@@ -1,21 +1,15 @@
 -- `cache_value::opening` meets its contract: the tests decide, and the cache is empty. Assumes nothing.
-use Rattle.cache_value.proofs.Openings.{open-taken, open-refused}
+use mathlib.Core.Bool.{false≢true}
+use mathlib.Core.Path.{sym, _∙_}
+use Prim.Native.Nat.{ℕ, _≤_}
+use native.Mathlib.Omega.{arith}
 use mir.Syntax.{w16}
 use mir.Val.{Fits}
 use lib.ListN.{getD}
-use native.Mathlib.Omega.{arith}
-use Prim.Native.Nat.{ℕ, _≤_}
-use mathlib.Core.Bool.{false≢true}
-use mathlib.Core.Path.{sym, _∙_}
 use borrow.Author.Needs.{needs}
+use Rattle.cache_value.proofs.Openings.{open-taken, open-refused}
 use Rattle.cache_value.proofs.opening.Statement.{statement}
 use Rattle.cache_value.proofs.opening.Tie as tie
-use Rattle.cache_value.proofs.opening.Reads as reads
-use Rattle.cache_value.proofs.opening.Lts as lts
-use Rattle.cache_value.proofs.empty.Reads as empty-reads
-use Rattle.cache_value.proofs.first_bytes.Reads as first-bytes-reads
-use Rattle.cache_value.proofs.first_costs.Reads as first-costs-reads
-use Rattle.cache_value.proofs.opens.Reads as opens-reads
 
 opens-requires : tie.Need-opens-requires
 opens-requires c κs = search needs

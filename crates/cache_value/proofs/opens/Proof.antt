@@ -5,9 +5,6 @@ use Rattle.validity.proofs.Decides.{no}
 use Rattle.cache_value.proofs.Openings.{opens-so}
 use Rattle.cache_value.proofs.opens.Statement.{statement}
 use Rattle.cache_value.proofs.opens.Tie as tie
-use Rattle.cache_value.proofs.opens.Reads as reads
-use Rattle.cache_value.proofs.opens.Lts as lts
-use Rattle.cache_value.proofs.blocks_ok.Reads as blocks-ok-reads
 
 returns : tie.Need-returns
 returns c = no (λ o. omega (arith, o .low, c .if1 .taken))

@@ -1,19 +1,12 @@
 -- `cache_value::run` meets its contract: the season theorem of its arguments. Assumes nothing.
-use Rattle.cache_value.proofs.Runs.{run-refused, run-taken}
-use Rattle.cache_value.proofs.Calls.{valid-there}
-use Rattle.cache.specs.Run.{callsOf}
-use Rattle.layout.proofs.Places.{stands}
 use native.Mathlib.Omega.{arith}
 use borrow.Author.Needs.{needs}
+use Rattle.layout.proofs.Places.{stands}
+use Rattle.cache.specs.Run.{callsOf}
+use Rattle.cache_value.proofs.Runs.{run-refused, run-taken}
+use Rattle.cache_value.proofs.Calls.{valid-there}
 use Rattle.cache_value.proofs.run.Statement.{statement}
 use Rattle.cache_value.proofs.run.Tie as tie
-use Rattle.cache_value.proofs.run.Reads as reads
-use Rattle.cache_value.proofs.run.Lts as lts
-use Rattle.cache.proofs.run_calls.Reads as run-calls-reads
-use Rattle.cache_value.proofs.answer_with.Reads as answer-with-reads
-use Rattle.cache_value.proofs.bytes.decode.Reads as decode-reads
-use Rattle.cache_value.proofs.bytes.encode.Reads as encode-reads
-use Rattle.cache_value.proofs.opening.Reads as opening-reads
 
 opening-requires : tie.Need-opening-requires
 opening-requires c κs = search needs

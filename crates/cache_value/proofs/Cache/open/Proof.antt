@@ -1,12 +1,8 @@
 -- `cache_value::Cache::open` meets its contract: the opening, its number as an answer. Assumes nothing.
-use Rattle.cache_value.proofs.Openings.{opened-as}
 use borrow.Author.Needs.{needs}
+use Rattle.cache_value.proofs.Openings.{opened-as}
 use Rattle.cache_value.proofs.Cache.open.Statement.{statement}
 use Rattle.cache_value.proofs.Cache.open.Tie as tie
-use Rattle.cache_value.proofs.Cache.open.Reads as reads
-use Rattle.cache_value.proofs.Cache.open.Lts as lts
-use Rattle.cache_value.proofs.answer_with.Reads as answer-with-reads
-use Rattle.cache_value.proofs.opening.Reads as opening-reads
 
 opening-requires : tie.Need-opening-requires
 opening-requires c κs = search needs

@@ -1,32 +1,12 @@
 -- `cache_value::bytes::decode` meets its contract: each field is what its reader found at its place. Assumes nothing.
-use Rattle.layout.specs.Layout.{numbers, atLoadCredits, atWriteCredits, atTenths, atItemLoads, atItemWritebacks, atItemLoadCosts, atItemWriteCosts, atBlocks}
-use native.Mathlib.Omega.{arith}
-use Prim.Native.Nat.{ℕ}
 use mathlib.Core.List.{List}
 use mathlib.Core.Path.{_≡_}
+use Prim.Native.Nat.{ℕ}
+use native.Mathlib.Omega.{arith}
 use borrow.Author.Needs.{needs}
+use Rattle.layout.specs.Layout.{numbers, atLoadCredits, atWriteCredits, atTenths, atItemLoads, atItemWritebacks, atItemLoadCosts, atItemWriteCosts, atBlocks}
 use Rattle.cache_value.proofs.bytes.decode.Statement.{statement}
 use Rattle.cache_value.proofs.bytes.decode.Tie as tie
-use Rattle.cache_value.proofs.bytes.decode.Reads as reads
-use Rattle.cache_value.proofs.bytes.decode.Lts as lts
-use Rattle.fields.proofs.get_flags.Reads as get-flags-reads
-use Rattle.fields.proofs.get_run1.Reads as get-run1-reads
-use Rattle.fields.proofs.get_run2.Reads as get-run2-reads
-use Rattle.fields.proofs.get_run4.Reads as get-run4-reads
-use Rattle.fields.proofs.get_run8.Reads as get-run8-reads
-use Rattle.layout.proofs.capacity.Reads as capacity-reads
-use Rattle.layout.proofs.closed.Reads as closed-reads
-use Rattle.layout.proofs.count.Reads as count-reads
-use Rattle.layout.proofs.dirty.Reads as dirty-reads
-use Rattle.layout.proofs.dirty_evictions.Reads as dirty-evictions-reads
-use Rattle.layout.proofs.evictions.Reads as evictions-reads
-use Rattle.layout.proofs.flushes.Reads as flushes-reads
-use Rattle.layout.proofs.hits.Reads as hits-reads
-use Rattle.layout.proofs.load_cost.Reads as load-cost-reads
-use Rattle.layout.proofs.loads.Reads as loads-reads
-use Rattle.layout.proofs.steps.Reads as steps-reads
-use Rattle.layout.proofs.write_cost.Reads as write-cost-reads
-use Rattle.layout.proofs.writebacks.Reads as writebacks-reads
 
 capacity-requires : tie.Need-capacity-requires
 capacity-requires c κs = search needs

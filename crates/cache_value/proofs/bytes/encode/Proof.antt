@@ -1,23 +1,15 @@
 -- `cache_value::bytes::encode` meets its contract: the six groups are all the rows of the cache, which lie end to end over the whole of the bytes. Assumes nothing.
-use Rattle.cache_value.proofs.Stores.{store-all}
-use Rattle.cache_value.specs.Struct.{recordOf}
-use Rattle.layout.specs.Layout.{rows, Whole, Fits}
-use lib.ListN.{getD}
+use Prim.Native.Nat.{ℕ, _^_, _<_}
 use mir.Val as val
 use mir.Val.{bits}
 use mir.Syntax.{Width, w8, w16, w32, w64}
-use Prim.Native.Nat.{ℕ, _^_, _<_}
+use lib.ListN.{getD}
 use borrow.Author.Needs.{needs}
+use Rattle.layout.specs.Layout.{rows, Whole, Fits}
+use Rattle.cache_value.specs.Struct.{recordOf}
+use Rattle.cache_value.proofs.Stores.{store-all}
 use Rattle.cache_value.proofs.bytes.encode.Statement.{statement}
 use Rattle.cache_value.proofs.bytes.encode.Tie as tie
-use Rattle.cache_value.proofs.bytes.encode.Reads as reads
-use Rattle.cache_value.proofs.bytes.encode.Lts as lts
-use Rattle.cache_value.proofs.bytes.put_catalog.Reads as put-catalog-reads
-use Rattle.cache_value.proofs.bytes.put_costs.Reads as put-costs-reads
-use Rattle.cache_value.proofs.bytes.put_credits.Reads as put-credits-reads
-use Rattle.cache_value.proofs.bytes.put_head.Reads as put-head-reads
-use Rattle.cache_value.proofs.bytes.put_totals.Reads as put-totals-reads
-use Rattle.cache_value.proofs.bytes.put_uses.Reads as put-uses-reads
 
 put-head-requires : tie.Need-put-head-requires
 put-head-requires c κs = search needs

@@ -2,11 +2,6 @@
 use borrow.Author.Needs.{needs}
 use Rattle.cache_value.proofs.bytes.put_catalog.Statement.{statement}
 use Rattle.cache_value.proofs.bytes.put_catalog.Tie as tie
-use Rattle.cache_value.proofs.bytes.put_catalog.Reads as reads
-use Rattle.cache_value.proofs.bytes.put_catalog.Lts as lts
-use Rattle.fields.proofs.put_flags.Reads as put-flags-reads
-use Rattle.fields.proofs.put_run1.Reads as put-run1-reads
-use Rattle.fields.proofs.put_run2.Reads as put-run2-reads
 
 put-run2-requires : tie.Need-put-run2-requires
 put-run2-requires c κs = search needs

@@ -2,9 +2,6 @@
 use borrow.Author.Needs.{needs}
 use Rattle.cache_value.proofs.bytes.put_credits.Statement.{statement}
 use Rattle.cache_value.proofs.bytes.put_credits.Tie as tie
-use Rattle.cache_value.proofs.bytes.put_credits.Reads as reads
-use Rattle.cache_value.proofs.bytes.put_credits.Lts as lts
-use Rattle.fields.proofs.put_run8.Reads as put-run8-reads
 
 put-run8-requires : tie.Need-put-run8-requires
 put-run8-requires c κs = search needs

@@ -1,11 +1,8 @@
 -- `cache_value::bytes::put_head` meets its contract: the seven stores, each at its place, one of a yes or no as a number. Assumes nothing.
-use Rattle.layout.proofs.Stores.{as-flag}
 use borrow.Author.Needs.{needs}
+use Rattle.layout.proofs.Stores.{as-flag}
 use Rattle.cache_value.proofs.bytes.put_head.Statement.{statement}
 use Rattle.cache_value.proofs.bytes.put_head.Tie as tie
-use Rattle.cache_value.proofs.bytes.put_head.Reads as reads
-use Rattle.cache_value.proofs.bytes.put_head.Lts as lts
-use Rattle.fields.proofs.put.Reads as put-reads
 
 put-requires : tie.Need-put-requires
 put-requires c κs = search needs

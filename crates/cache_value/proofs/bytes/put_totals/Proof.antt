@@ -2,9 +2,6 @@
 use borrow.Author.Needs.{needs}
 use Rattle.cache_value.proofs.bytes.put_totals.Statement.{statement}
 use Rattle.cache_value.proofs.bytes.put_totals.Tie as tie
-use Rattle.cache_value.proofs.bytes.put_totals.Reads as reads
-use Rattle.cache_value.proofs.bytes.put_totals.Lts as lts
-use Rattle.fields.proofs.put.Reads as put-reads
 
 put-requires : tie.Need-put-requires
 put-requires c κs = search needs

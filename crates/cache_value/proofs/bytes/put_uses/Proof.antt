@@ -2,9 +2,6 @@
 use borrow.Author.Needs.{needs}
 use Rattle.cache_value.proofs.bytes.put_uses.Statement.{statement}
 use Rattle.cache_value.proofs.bytes.put_uses.Tie as tie
-use Rattle.cache_value.proofs.bytes.put_uses.Reads as reads
-use Rattle.cache_value.proofs.bytes.put_uses.Lts as lts
-use Rattle.fields.proofs.put_run4.Reads as put-run4-reads
 
 put-run4-requires : tie.Need-put-run4-requires
 put-run4-requires c κs = search needs
