@@ -17,8 +17,9 @@ static uint64_t number(const uint8_t *state, size_t at, size_t bytes) {
 static void show(const char *call, uint32_t answer, const uint8_t *state) {
     printf("%-6s answer %" PRIu32 "  hits %" PRIu64 " loads %" PRIu64 " loadcost %" PRIu64 " evictions %" PRIu64
            " writebacks %" PRIu64 " writecost %" PRIu64 "  held",
-           call, answer, number(state, 12, 4), number(state, 16, 4), number(state, 40, 8), number(state, 20, 4),
-           number(state, 28, 4), number(state, 48, 8));
+           call, answer, number(state, RECORDER_AT_HITS, 4), number(state, RECORDER_AT_LOADS, 4),
+           number(state, RECORDER_AT_LOAD_COST, 8), number(state, RECORDER_AT_EVICTIONS, 4),
+           number(state, RECORDER_AT_WRITEBACKS, 4), number(state, RECORDER_AT_WRITE_COST, 8));
     for (uint32_t i = 0; i < 3; i++)
         if (recorder_is_held(state, RECORDER_STATE_BYTES, i)) printf(" %" PRIu32 "%s", i, recorder_is_dirty(state, RECORDER_STATE_BYTES, i) ? "*" : "");
     putchar('\n');
