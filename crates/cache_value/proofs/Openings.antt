@@ -1,5 +1,6 @@
 -- Laws of an opening: its tests are the table's, the copied arrays, and the cache that it hands back. Assumes nothing.
 use mathlib.Core.Path.{_≡_, refl, sym, subst, _∙_}
+use mathlib.Core.Logic.{_≢_}
 use mathlib.Core.Bool.{Bool, true, false, cond, _&&_}
 use mathlib.Core.List.{List, []}
 use Prim.Native.Nat.{ℕ, _+_, _≤_, _<_}
@@ -14,7 +15,7 @@ use Rattle.landlord.specs.Rule.{flush, writeBacks}
 use Rattle.landlord.specs.Figures.{opened, closes}
 use Rattle.landlord.specs.Calls.{openingRefusal, allInRange}
 use Rattle.landlord.specs.Valid.{StandingOk}
-use Rattle.landlord.proofs.Folds.{tab-length, tab-at}
+use Rattle.landlord.proofs.Folds.{either, tab-length, tab-at}
 use Rattle.landlord.proofs.Calls.{opening-taken, opening-accepts}
 use Rattle.landlord.proofs.Valid.{ok-opened, ok-closes}
 use Rattle.validity.specs.Decided.{Decided}
@@ -27,7 +28,7 @@ use Rattle.cache_value.specs.declared.Cache.{Cache}
 use Rattle.cache_value.specs.declared.Answered.{Answered}
 use Rattle.cache_value.specs.Struct.{recordOf}
 use Rattle.cache_value.specs.Opening.{FirstOf, BlocksOk, Opens}
-use Rattle.cache_value.specs.Contract.{catalogFrom, refusedOpening, Opened, answerTo, OpenedBy}
+use Rattle.cache_value.specs.Contract.{catalogFrom, refusedOpening, Opened, OpenedBy, CallNumber, Numbered}
 
 -- ---- the tests
 
@@ -155,6 +156,20 @@ module _ (k n : ℕ) (blocks load write : List ℕ) where
       (empty-becomes 1 0 item true (replicate 256 0) (replicate 256 0) (replicate 256 0) (omega arith) (first-none blocks) (first-none load) (first-none write))
       (empty-place 1 0 (replicate 256 0) (replicate 256 0) (replicate 256 0) true) e
 
--- an opening's number as an answer
-pub opened-as : (k : ℕ) (cat : Catalog) (n : ℕ) (c : Cache) (r : Answered) → Opened k cat n c → r .answer ≡ answerTo n → r .cache ≡ c → OpenedBy k cat r
-opened-as k cat n c r o a e = record { number = n; opening = subst (Opened k cat n) (sym e) o; answer = a }
+-- ---- the answer
+
+-- an opening's number is 0 or 3
+pub opening-number : {k : ℕ} {cat : Catalog} {n : ℕ} {c : Cache} → Opened k cat n c → CallNumber n
+unfolding openingRefusal
+opening-number {k = k} {cat = cat} {n = n} o =
+    record {
+      last = λ p q r s t u.
+          absurd (either (λ (m : ℕ). n ≢ m) (leb 1 k && leb k 4096 && leb (length cat) 256 && allInRange cat) 0 3 (λ z. p) (λ z. q) (o .answer));
+    }
+
+pub opened-as : (k : ℕ) (cat : Catalog) (n : ℕ) (c : Cache) (r : Answered) → Opened k cat n c → Numbered n (r .answer) → r .cache ≡ c → OpenedBy k cat r
+opened-as k cat n c r o a e =
+    record {
+      opening = subst (λ (m : ℕ). Opened k cat m (r .cache)) (sym (a .number)) (subst (Opened k cat n) (sym e) o);
+      line = a .line;
+    }

@@ -22,7 +22,7 @@ use Rattle.cache_value.specs.declared.Cache.{Cache}
 use Rattle.cache_value.specs.declared.Answered.{Answered}
 use Rattle.cache_value.specs.declared.Answer.the-variants.{Taken}
 use Rattle.cache_value.specs.Struct.{recordOf, byValue}
-use Rattle.cache_value.specs.Contract.{refusedOpening, answerTo, Opened}
+use Rattle.cache_value.specs.Contract.{refusedOpening, Opened, Numbered}
 use Rattle.cache_value.specs.Chain.{SeasonByValue, Ran}
 use Rattle.cache_value.proofs.Calls.{valid-there, same-view}
 
@@ -30,17 +30,16 @@ pub run-refused :
     (k : ℕ) (cat : Catalog) (calls : List Call) (before : List ℕ) (n : ℕ) (c : Cache) (r : Answered) →
     Opened k cat n c →
     n ≢ 0 →
-    r .answer ≡ answerTo n →
+    Numbered n (r .answer) →
     r .cache ≡ c →
     Ran k cat calls before before r
 run-refused k cat calls before n c r o d a e =
     record {
-      number = n;
-      isNumber = o .answer;
-      answer = a;
+      answer = a .number ∙ o .answer;
+      line = a .line;
       refused = λ z. (refl, ap (λ (q : Cache). view (recordOf q)) e ∙ o .stands ∙ rw (ne-eqb n 0 d));
       numbers = [];
-      season = λ z. absurd (d z);
+      season = λ z. absurd (d (sym (a .number) ∙ z));
     }
 
 -- the bytes of an opened cache begin a season in place
@@ -75,9 +74,8 @@ pub run-taken :
     Ran k cat calls before after (record { answer = Taken; cache = d })
 run-taken k cat calls before n c d {b = b} {left = left} o z s ran e =
     record {
-      number = 0;
-      isNumber = sym z ∙ o .answer;
-      answer = unfold answerTo in refl;
+      answer = sym z ∙ o .answer;
+      line = refl;
       refused = λ w. absurd (w refl);
       numbers = ran .numbers;
       season = λ w. (season-carried k cat calls (ran .numbers) left d e (season-theorem lent (bytes-begin k cat n c b o z s) (ran .follows)), ran .noted);

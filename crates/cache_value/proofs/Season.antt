@@ -1,16 +1,18 @@
 -- The season theorem by value, read off the one for every kind of state. Assumes nothing.
-use mathlib.Core.Path.{sym}
-use mathlib.Core.List.{List, _∷_}
-use Prim.Native.Nat.{ℕ}
+use mathlib.Core.Path.{_≡_, refl, sym, subst, _∙_}
+use mathlib.Core.List.{List, [], _∷_, map}
+use Prim.Native.Nat.{ℕ, zero, suc}
+use lib.ListN.{getD, length-map}
 use Rattle.landlord.specs.Catalog.{Catalog}
 use Rattle.landlord.specs.Calls.{Call}
-use Rattle.cache.specs.Chain.{Follows, then, Begins, Season}
+use Rattle.cache.specs.Chain.{Follows, none, then, Begins, Season}
 use Rattle.cache.proofs.Season.{season-theorem}
 use Rattle.cache_value.specs.declared.Cache.{Cache}
-use Rattle.cache_value.specs.declared.Answered.{Answered}
+use Rattle.cache_value.specs.declared.Answer.{Answer}
+use Rattle.cache_value.specs.declared.Answer.the-variants.{Taken}
 use Rattle.cache_value.specs.Struct.{byValue}
-use Rattle.cache_value.specs.Contract.{Opened, CalledBy}
-use Rattle.cache_value.specs.Chain.{Chain, SeasonByValue}
+use Rattle.cache_value.specs.Contract.{Opened, answerNumber, answerLine}
+use Rattle.cache_value.specs.Chain.{Chain, SeasonByValue, FollowsBy, noCall, thenCall, ChainBy, SeasonByMethods}
 
 -- an opening that was not refused
 value-begins : (k : ℕ) (cat : Catalog) (first : Cache) → Opened k cat 0 first → Begins byValue k cat first
@@ -22,9 +24,38 @@ season-by-value k cat calls numbers d chain =
     let s : Season byValue k cat calls numbers d = season-theorem byValue (value-begins k cat (chain .first) (chain .opening)) (chain .follows) in
     record { season = s; wear = s .wear }
 
--- a call as a method is one call of such a list
-pub method-follows :
-    (c d : Cache) (call : Call) (calls : List Call) (numbers : List ℕ) (r : Answered) (m : CalledBy c call r) →
-    Follows byValue (r .cache) calls numbers d →
-    Follows byValue c (call ∷ calls) (m .number ∷ numbers) d
-method-follows c d call calls numbers r m f = then (m .called) f
+-- ---- by methods
+
+-- a list of methods is a list of calls, with the numbers of the answers
+pub method-follows : {c d : Cache} {calls : List Call} {answers : List Answer} → FollowsBy c calls answers d → Follows byValue c calls (map answerNumber answers) d
+method-follows noCall = none
+method-follows (thenCall m f) = then (m .called) (method-follows f)
+
+number-at : (answers : List Answer) (i : ℕ) → answerNumber (getD answers i Taken) ≡ getD (map answerNumber answers) i 0
+number-at [] i = refl
+number-at (a ∷ answers) zero = refl
+number-at (a ∷ answers) (suc i) = number-at answers i
+
+no-line : {c d : Cache} {calls : List Call} {answers : List Answer} → FollowsBy c calls answers d → (i : ℕ) → answerLine (getD answers i Taken) ≡ 0
+no-line noCall i = refl
+no-line (thenCall m f) zero = m .line
+no-line (thenCall m f) (suc i) = no-line f i
+
+-- Demand 3 by value, for the methods and their answers.
+pub season-by-methods : (k : ℕ) (cat : Catalog) (calls : List Call) (answers : List Answer) (d : Cache) → ChainBy k cat calls answers d → SeasonByMethods k cat calls answers d
+season-by-methods k cat calls answers d chain =
+    record {
+      count = sym (length-map answers answerNumber) ∙ s .season .answers .count;
+      each = λ i l. number-at answers i ∙ s .season .answers .each i l;
+      line = λ i l. no-line (chain .follows) i;
+      byNumber = s;
+    }
+  where
+    s : SeasonByValue k cat calls (map answerNumber answers) d
+    s =
+        season-by-value k cat calls (map answerNumber answers) d
+        (record {
+          first = chain .reply .cache;
+          opening = subst (λ (n : ℕ). Opened k cat n (chain .reply .cache)) (chain .taken) (chain .opening .opening);
+          follows = method-follows (chain .follows);
+        })

@@ -1,11 +1,12 @@
 -- What the methods promise. Assumes nothing.
 use mathlib.Core.Path.{_≡_}
+use mathlib.Core.Logic.{_≢_}
 use mathlib.Core.Bool.{true, cond}
 use mathlib.Core.List.{List, []}
 use Prim.Native.Nat.{ℕ, _<_}
 use lib.Dec.{eqb}
 use lib.ListN.{getD}
-use Rattle.landlord.specs.declared.Refusal.the-variants.{OutOfRange, UnknownItem, ItemTooLarge, LogFull, Closed, InvalidState}
+use Rattle.landlord.specs.Types.{refusalNumber, refusalLine}
 use Rattle.landlord.specs.Fold.{tab}
 use Rattle.landlord.specs.Catalog.{Catalog}
 use Rattle.landlord.specs.Rule.{emptied}
@@ -33,25 +34,35 @@ pub record Opened (k : ℕ) (cat : Catalog) (number : ℕ) (c : Cache) : Type 0 
   pub stands : byValue .view c ≡ cond (eqb number 0) (opened k cat) refusedOpening
   pub empty : (i : ℕ) → i < 256 → EmptyPlace (recordOf c) i
 
--- An answer by value: taken, or the refusal with no line. Of a call's numbers 17, 9, 8, 3, 6 and 7 it is the paper's refusal.
-unfoldable pub answerTo : ℕ → Answer
-answerTo n =
-    cond (eqb n 0) Taken
-    (cond (eqb n 3) (Refused (OutOfRange 0))
-    (cond (eqb n 6) (Refused (UnknownItem 0))
-    (cond (eqb n 7) (Refused (ItemTooLarge 0))
-    (cond (eqb n 8) (Refused (LogFull 0))
-    (cond (eqb n 9) (Refused (Closed 0))
-    (Refused (InvalidState 0)))))))
+-- ---- answers
 
--- a step or the closing as a method: the call's number as an answer, with the next cache
+-- paper 01's number for an answer: 0 if the call was taken
+abbrev pub answerNumber : Answer → ℕ
+answerNumber Taken = 0
+answerNumber (Refused r) = refusalNumber r
+
+-- the line that an answer names
+abbrev pub answerLine : Answer → ℕ
+answerLine Taken = 0
+answerLine (Refused r) = refusalLine r
+
+-- a step or the closing as a method: the answer with the call's number, which names no line, and the next cache
 pub record CalledBy (c : Cache) (call : Call) (r : Answered) : Type 0 where
-  pub number : ℕ
-  pub called : Called byValue c call number (r .cache)
-  pub answer : r .answer ≡ answerTo number
+  pub called : Called byValue c call (answerNumber (r .answer)) (r .cache)
+  pub line : answerLine (r .answer) ≡ 0
 
 -- the opening
 pub record OpenedBy (k : ℕ) (cat : Catalog) (r : Answered) : Type 0 where
-  pub number : ℕ
-  pub opening : Opened k cat number (r .cache)
-  pub answer : r .answer ≡ answerTo number
+  pub opening : Opened k cat (answerNumber (r .answer)) (r .cache)
+  pub line : answerLine (r .answer) ≡ 0
+
+-- ---- from a number to its answer
+
+-- a number that a call or an opening can have: 0, 3, 6, 7, 8, 9, or else 17
+pub record CallNumber (n : ℕ) : Type 0 where
+  pub last : n ≢ 0 → n ≢ 3 → n ≢ 6 → n ≢ 7 → n ≢ 8 → n ≢ 9 → n ≡ 17
+
+-- the answer with a number, and no line; there is only one (proofs/Tells.antt)
+pub record Numbered (n : ℕ) (a : Answer) : Type 0 where
+  pub number : answerNumber a ≡ n
+  pub line : answerLine a ≡ 0

@@ -9,7 +9,7 @@ ghost use Rattle.cache.specs.Run.{callFrom, callsOf};
 ghost use Rattle.cache.specs.Opening.{emptyWith};
 ghost use Rattle.cache_value.specs.Struct.{recordOf, byValue};
 ghost use Rattle.cache_value.specs.Opening.{FirstOf, BlocksOk, Opens};
-ghost use Rattle.cache_value.specs.Contract.{catalogFrom, answerTo, Opened, CalledBy, OpenedBy};
+ghost use Rattle.cache_value.specs.Contract.{catalogFrom, Opened, CalledBy, OpenedBy, CallNumber, Numbered};
 ghost use Rattle.cache_value.specs.Chain.{Ran};
 use landlord::Refusal;
 use landlord::Step;
@@ -221,9 +221,10 @@ fn call(c: Cache, which: u32, kind: u32, item: u32, minutes: u32) -> Reply
     }
 }
 
-// The answer that a number stands for.
+// The answer with a call's number.
 fn answer_to(number: u32) -> Answer
-    ensures { λ r. ⌜ r ≡ answerTo number ⌝ }
+    requires { ⌜ CallNumber number ⌝ }
+    ensures { λ r. ⌜ Numbered number r ⌝ }
 {
     if number == 0 {
         return Answer::Taken;
@@ -248,7 +249,8 @@ fn answer_to(number: u32) -> Answer
 
 // A reply with its number as an answer.
 fn answer_with(r: Reply) -> Answered
-    ensures { λ a. ⌜ (a .answer ≡ answerTo (r .number)) × (a .cache ≡ r .cache) ⌝ }
+    requires { ⌜ CallNumber (r .number) ⌝ }
+    ensures { λ a. ⌜ Numbered (r .number) (a .answer) × (a .cache ≡ r .cache) ⌝ }
 {
     let next = r.cache;
     let number = r.number;

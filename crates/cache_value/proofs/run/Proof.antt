@@ -3,6 +3,7 @@ use native.Mathlib.Omega.{arith}
 use borrow.Author.Needs.{needs}
 use Rattle.layout.proofs.Places.{stands}
 use Rattle.cache.specs.Run.{callsOf}
+use Rattle.cache_value.proofs.Openings.{opening-number}
 use Rattle.cache_value.proofs.Runs.{run-refused, run-taken}
 use Rattle.cache_value.proofs.Calls.{valid-there}
 use Rattle.cache_value.proofs.run.Statement.{statement}
@@ -12,7 +13,7 @@ opening-requires : tie.Need-opening-requires
 opening-requires c κs = search needs
 
 answer-with-requires : tie.Need-answer-with-requires
-answer-with-requires c κs = search needs
+answer-with-requires c κs = opening-number (c .before .before .opening .ensures)
 
 returns : tie.Need-returns
 returns c =

@@ -1,6 +1,6 @@
 -- `cache_value::Cache::open` meets its contract: the opening, its number as an answer. Assumes nothing.
 use borrow.Author.Needs.{needs}
-use Rattle.cache_value.proofs.Openings.{opened-as}
+use Rattle.cache_value.proofs.Openings.{opening-number, opened-as}
 use Rattle.cache_value.proofs.Cache.open.Statement.{statement}
 use Rattle.cache_value.proofs.Cache.open.Tie as tie
 
@@ -8,7 +8,7 @@ opening-requires : tie.Need-opening-requires
 opening-requires c κs = search needs
 
 answer-with-requires : tie.Need-answer-with-requires
-answer-with-requires c κs = search needs
+answer-with-requires c κs = opening-number (c .opening .ensures)
 
 returns : tie.Need-returns
 returns c = opened-as _ _ (c .before .opening .result .number) (c .before .opening .result .cache) _ (c .before .opening .ensures) (c .answer-with .ensures .0) (c .answer-with .ensures .1)

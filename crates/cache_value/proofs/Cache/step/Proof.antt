@@ -1,7 +1,7 @@
 -- `cache_value::Cache::step` meets its contract: a step by its numbers, the reply's number as an answer. Assumes nothing.
 use borrow.Author.Needs.{needs}
 use Rattle.landlord.specs.Calls.{callOf}
-use Rattle.cache_value.proofs.Calls.{answered, called-as}
+use Rattle.cache_value.proofs.Calls.{answered, call-number, called-as}
 use Rattle.cache_value.proofs.Cache.step.Statement.{statement}
 use Rattle.cache_value.proofs.Cache.step.Tie as tie
 
@@ -18,7 +18,7 @@ call-requires : tie.Need-call-requires
 call-requires c κs = search needs
 
 answer-with-requires : tie.Need-answer-with-requires
-answer-with-requires c κs = search needs
+answer-with-requires c κs = call-number (c .call .ensures)
 
 returns : tie.Need-returns
 returns c =
