@@ -9,18 +9,20 @@ use borrow.Author.Tests.{ne-eqb}
 use Rattle.landlord.specs.Slot.{writeFirst}
 use Rattle.landlord.specs.Rule.{flush}
 use Rattle.landlord.specs.Figures.{Standing, moved, took, closes}
-use Rattle.landlord.specs.Calls.{Call, take, close, stepOf, refusalAt, refusalNow, accepted, after}
+use Rattle.landlord.specs.Calls.{Call, stepCall, close, stepOf, refusalAt, refusalNow, accepted, after}
 use Rattle.landlord.specs.Valid.{StandingOk}
 use Rattle.landlord.proofs.Slots.{write-first-ok}
 use Rattle.landlord.proofs.Valid.{ok-after}
 use Rattle.cache_state.specs.Cache.{Cache}
-use Rattle.cache_state.specs.View.{catalogOf, slotsOf, usesOf, stateOf, view}
+use Rattle.cache_state.specs.View.{catalogOf, slotsOf, usesOf, stateOf, countsOf, view}
 use Rattle.cache_state.specs.Valid.{Normal}
-use Rattle.cache_state.specs.Becomes.{Becomes}
-use Rattle.cache_state.specs.With.{withClosed}
+use Rattle.cache_state.specs.InnerBecomes.{Becomes}
+use Rattle.cache_state.specs.InnerWith.{withClosed}
+use Rattle.cache_state.proofs.Normals.{figures-normal}
 use Rattle.layout.specs.Layout.{cacheOf}
-use Rattle.layout.specs.Stands.{Stands, ValidBytes, BecomesAt}
-use Rattle.layout.proofs.Places.{readable}
+use Rattle.layout.specs.Inner.{Stands, BecomesAt}
+use Rattle.layout.specs.Valid.{ValidBytes}
+use Rattle.layout.proofs.Places.{stands-become, becomes-valid}
 use Rattle.cache.specs.Contract.{Kind, lent, Answers, Called}
 
 -- ---- a state of any kind
@@ -48,19 +50,6 @@ refused-answers kind c call n ok e d = record { answer = e; valid = ok; stands =
 
 -- ---- lent bytes
 
--- bytes of a cache that stands where the rule stands
-pub stands-become : {b : List ℕ} {c : Cache} {v : Standing} → Stands b c → Becomes v c → BecomesAt v b
-stands-become {v = v} s h = record { reads = readable s; cache = subst (Becomes v) (sym (s .cache)) h }
-
--- where the rule stands in order they are valid
-pub becomes-valid : {v : Standing} {b : List ℕ} → StandingOk v → BecomesAt v b → ValidBytes b
-becomes-valid ok h =
-    record {
-      size = h .reads .size;
-      allowed = h .reads .allowed;
-      cache = record { fields = h .cache .fields; rule = subst StandingOk (sym (h .cache .stands)) ok };
-    }
-
 -- a call that is not refused moves the rule on
 taken-answers :
     (b left : List ℕ) (call : Call) →
@@ -83,38 +72,17 @@ taken-answers b left call ok e h =
 pub step-answers :
     (b left : List ℕ) (kind i m : ℕ) →
     ValidBytes b →
-    0 ≡ refusalNow (view (cacheOf b)) (take kind i m) →
+    0 ≡ refusalNow (view (cacheOf b)) (stepCall kind i m) →
     BecomesAt (took writeFirst (view (cacheOf b)) (stepOf kind i m)) left →
-    Answers lent b (take kind i m) 0 left
-step-answers b left kind i m ok e h = taken-answers b left (take kind i m) ok e h
+    Answers lent b (stepCall kind i m) 0 left
+step-answers b left kind i m ok e h = taken-answers b left (stepCall kind i m) ok e h
 
 -- the closing: closed already, or open
 pub closed-answers : (b : List ℕ) → ValidBytes b → cacheOf b .closed ≡ true → Answers lent b close 9 b
 closed-answers b ok e = refused-answers lent b close 9 ok (unfold refusalAt in rw e) (λ z. let y : _≡_ {A = ℕ} 9 0 = z in omega arith)
 
 closed-normal : (q : Cache) → Normal q → Normal (withClosed q true)
-closed-normal q n =
-    record {
-      few = n .few;
-      past = λ i a b.
-          let x = n .past i a b in
-          record {
-            blocks = x .blocks;
-            load = x .load;
-            write = x .write;
-            held = x .held;
-            loadCredit = x .loadCredit;
-            writeCredit = x .writeCredit;
-            dirty = x .dirty;
-            tenths = x .tenths;
-            loads = x .loads;
-            writebacks = x .writebacks;
-          };
-      absent = λ i a e.
-          let x = n .absent i a e in
-          record { dirty = x .dirty; loadCredit = x .loadCredit; writeCredit = x .writeCredit };
-      clean = n .clean;
-    }
+closed-normal q n = figures-normal q (q .itemwritebacks) (countsOf q) true n (λ i l m. n .past i l m .place .writebacks)
 
 -- the closing flushes, counts no step, and closes
 closed-becomes : (c q : Cache) → Becomes (moved (view c) (flush (stateOf c)) (c .closed)) q → Becomes (closes (view c)) (withClosed q true)

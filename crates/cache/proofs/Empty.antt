@@ -6,7 +6,7 @@ use Prim.Native.Nat.{ℕ, _/_, _%_, _^_, _≤_, _<_}
 use native.Mathlib.Nat.{zero-div}
 use native.Mathlib.Omega.{arith}
 use lib.Dec.{eqb}
-use lib.ListN.{length, getD, replicate, getD-replicate}
+use lib.ListN.{length, replicate, getD-replicate}
 use Rattle.landlord.specs.Fold.{tab}
 use Rattle.landlord.specs.Catalog.{Catalog, Item}
 use Rattle.landlord.specs.Slot.{absent}
@@ -16,10 +16,9 @@ use Rattle.landlord.proofs.Folds.{tab-length, tab-eq}
 use Rattle.marks.specs.Marks.{bit, marked}
 use Rattle.cache_state.specs.Cache.{Cache}
 use Rattle.cache_state.specs.View.{slotOf, usageOf, catalogOf, slotsOf, usesOf}
-use Rattle.cache_state.specs.Valid.{Blank, Emptied}
-use Rattle.cache_state.specs.Becomes.{Becomes}
-use Rattle.cache.specs.Contract.{EmptyPlace}
-use Rattle.cache.specs.Opening.{emptyWith, Column}
+use Rattle.cache_state.specs.Valid.{EmptyPlace, Blank}
+use Rattle.cache_state.specs.InnerBecomes.{Becomes}
+use Rattle.cache.specs.Inner.{emptyWith, Column}
 
 -- no mark is set in words that are 0
 unmarked : (i : ℕ) → i < 256 → marked (replicate 4 0) i ≡ false
@@ -31,9 +30,7 @@ pub empty-place : (k n : ℕ) (blocks load write : List ℕ) (isClosed : Bool) (
 empty-place k n blocks load write isClosed i l =
     record {
       held = getD-replicate 256 i false false l;
-      loadCredit = getD-replicate 256 i 0 0 l;
-      writeCredit = getD-replicate 256 i 0 0 l;
-      dirty = unmarked i l;
+      slot = record { dirty = unmarked i l; loadCredit = getD-replicate 256 i 0 0 l; writeCredit = getD-replicate 256 i 0 0 l };
       tenths = getD-replicate 256 i 0 0 l;
       loads = getD-replicate 256 i 0 0 l;
       writebacks = getD-replicate 256 i 0 0 l;
@@ -68,24 +65,8 @@ module _ (k n : ℕ) (item : ℕ → Item) (isClosed : Bool) (blocks load write 
       let p = place i (omega (arith, few)) in
       record { tenths = p .tenths z; loads = p .loads z; writebacks = p .writebacks z })
 
-  gone : (i : ℕ) → i < 256 → Emptied new i
-  gone i m = let p = place i m in record { dirty = p .dirty; loadCredit = p .loadCredit; writeCredit = p .writeCredit }
-
   past : (i : ℕ) → n ≤ i → i < 256 → Blank new i
-  past i m u =
-      let p = place i u in
-      record {
-        blocks = b .rest i m u;
-        load = l .rest i m u;
-        write = w .rest i m u;
-        held = p .held;
-        loadCredit = p .loadCredit;
-        writeCredit = p .writeCredit;
-        dirty = p .dirty;
-        tenths = p .tenths;
-        loads = p .loads;
-        writebacks = p .writebacks;
-      }
+  past i m u = record { place = place i u; blocks = b .rest i m u; load = l .rest i m u; write = w .rest i m u }
 
   pub empty-becomes : Becomes (started k (tab n item) isClosed) (emptyWith k n blocks load write isClosed)
   unfolding slotsOf usesOf
@@ -97,5 +78,5 @@ module _ (k n : ℕ) (item : ℕ → Item) (isClosed : Bool) (blocks load write 
           figures = record { totals = totalsOf 0 0 0 0 0 0 0 0 0; uses = (uses ∙ ap (λ (m : ℕ). tab m (λ i. noUse)) same-length) z };
           closed = isClosed;
         };
-        fields = record { few = few; past = past; absent = λ i m e. gone i (omega (arith, few)); clean = λ i m e. gone i (omega (arith, few)) .writeCredit };
+        fields = record { few = few; past = past; absent = λ i m e. place i (omega (arith, few)) .slot; clean = λ i m e. place i (omega (arith, few)) .slot .writeCredit };
       }

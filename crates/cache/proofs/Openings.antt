@@ -9,31 +9,33 @@ use lib.Dec.{eqb, leb}
 use lib.ListN.{length, set, replicate, getD-replicate, length-replicate}
 use borrow.Author.Count.{below-more}
 use borrow.Author.Tests.{eq-eqb, ne-eqb, le-leb, lt-leb, eqb-true, leb-true}
-use Rattle.landlord.specs.Catalog.{Catalog, CapacityOk, CatalogOk, ItemOk, itemAt}
+use Rattle.landlord.specs.Catalog.{CatalogOk, itemAt}
 use Rattle.landlord.specs.Figures.{opened}
-use Rattle.landlord.specs.Calls.{openingRefusal, allInRange}
-use Rattle.landlord.proofs.Calls.{opening-taken, opening-accepts}
+use Rattle.landlord.specs.Calls.{openingRefusal}
+use Rattle.landlord.specs.Inner.{ItemFacts, CapacityFacts}
 use Rattle.landlord.proofs.Valid.{ok-opened}
-use Rattle.fields.specs.LittleEndian.{Below}
-use Rattle.catalog_bytes.specs.Catalogs.{itemIn, catalogIn, HasItem}
+use Rattle.landlord.proofs.Ranges.{catalog-facts, catalog-ok, capacity-facts, capacity-ok, opening-taken, opening-accepts, range-refused}
+use Rattle.fields.specs.Inner.{Below}
+use Rattle.catalog_bytes.specs.Catalogs.{itemIn, catalogIn}
+use Rattle.catalog_bytes.specs.Inner.{HasItem}
 use Rattle.catalog_bytes.proofs.Laws.{length-catalogIn, item-at, load-lt, write-lt}
 use Rattle.cache_state.specs.Cache.{Cache}
-use Rattle.cache_state.specs.Becomes.{Becomes}
-use Rattle.cache_state.specs.With.{withCapacity, withCount, withCatalog, withBlocks, withItemLoadCost, withItemWriteCost}
+use Rattle.cache_state.specs.Valid.{EmptyPlace}
+use Rattle.cache_state.specs.InnerBecomes.{Becomes}
+use Rattle.cache_state.specs.InnerWith.{withCapacity, withCount, withCatalog, withBlocks, withItemLoadCost, withItemWriteCost}
 use Rattle.layout.specs.Layout.{stateBytes, cacheOf}
-use Rattle.layout.specs.Stands.{Stands, cleared}
-use Rattle.layout.proofs.Places.{stands-as}
-use Rattle.cache_room.specs.Stores.{storeTo}
+use Rattle.layout.specs.Inner.{Stands, cleared}
+use Rattle.layout.proofs.Places.{stands-as, stands-become, becomes-valid}
+use Rattle.cache_room.specs.InnerStores.{storeTo}
 use Rattle.cache_room.proofs.Laws.{store-more, store-past, store-at}
-use Rattle.cache.specs.Contract.{EmptyPlace, openingNumber, OpenedLent}
-use Rattle.cache.specs.Opening.{BlocksIn, Whole, enteredOf, Column}
-use Rattle.cache.proofs.Calls.{stands-become, becomes-valid}
+use Rattle.cache.specs.Contract.{openingNumber, OpenedLent}
+use Rattle.cache.specs.Inner.{BlocksIn, WholeCatalog, enteredOf, Column}
 use Rattle.cache.proofs.Empty.{empty-place, empty-becomes}
 
 -- ---- the tests
 
 -- item i of n is there
-pub has-item : {n i : ℕ} {xs : List ℕ} → Whole n xs → i < n → HasItem xs i
+pub has-item : {n i : ℕ} {xs : List ℕ} → WholeCatalog n xs → i < n → HasItem xs i
 has-item w l = record { place = omega (arith, w .few); inside = omega (arith, w .count) }
 
 pub no-blocks : (xs : List ℕ) → BlocksIn 0 xs
@@ -42,15 +44,6 @@ no-blocks xs = record { some = λ i l. absurd (let z : i < 0 = l in omega arith)
 pub more-blocks : (xs : List ℕ) (i : ℕ) → BlocksIn i xs → 1 ≤ itemIn xs i .blocks → itemIn xs i .blocks ≤ 16 → BlocksIn (i + 1) xs
 more-blocks xs i ok low high =
     record { some = below-more (λ j. 1 ≤ itemIn xs j .blocks) i (ok .some) low; small = below-more (λ j. itemIn xs j .blocks ≤ 16) i (ok .small) high }
-
--- an opening that asks for something out of range is refused
-pub refuses : (k : ℕ) (cat : Catalog) → (CapacityOk k × CatalogOk cat → ⊥) → 3 ≡ openingRefusal k cat
-unfolding openingRefusal
-refuses k cat none = go (leb 1 k && leb k 4096 && leb (length cat) 256 && allInRange cat) refl
-  where
-    go : (t : Bool) → leb 1 k && leb k 4096 && leb (length cat) 256 && allInRange cat ≡ t → _≡_ {A = ℕ} 3 (cond t 0 3)
-    go true e = absurd (none (opening-taken k cat (unfold openingRefusal in rw e)))
-    go false e = refl
 
 -- lengths that are right
 pub record Lengths (size : ℕ) (xs : List ℕ) : Type 0 where
@@ -75,26 +68,26 @@ module _ (size k : ℕ) (xs : List ℕ) where
   unfolding openingNumber
   asks s = rw (eq-eqb size stateBytes (s .state), eq-eqb (length xs % 5) 0 (s .whole), le-leb (length xs) 1280 (s .few))
 
-  pub no-capacity : Lengths size xs → (CapacityOk k → ⊥) → 3 ≡ openingNumber size k xs
-  no-capacity s bad = refuses k (catalogIn xs) (λ f. bad (f .0)) ∙ sym (asks s)
+  pub no-capacity : Lengths size xs → (CapacityFacts k → ⊥) → 3 ≡ openingNumber size k xs
+  no-capacity s bad = range-refused k (catalogIn xs) (λ f. bad (capacity-facts k (f .0))) ∙ sym (asks s)
 
   pub blocks-refused : Lengths size xs → (BlocksIn (length xs / 5) xs → ⊥) → 3 ≡ openingNumber size k xs
-  blocks-refused s bad = refuses k (catalogIn xs) (λ f. bad (read (f .1))) ∙ sym (asks s)
+  blocks-refused s bad = range-refused k (catalogIn xs) (λ f. bad (read (f .1))) ∙ sym (asks s)
     where
-      at : (i : ℕ) → i < length xs / 5 → CatalogOk (catalogIn xs) → ItemOk (itemIn xs i)
-      at i l ok = subst ItemOk (item-at xs i l) (ok .each i (omega (arith, length-catalogIn xs)))
+      at : (i : ℕ) → i < length xs / 5 → CatalogOk (catalogIn xs) → ItemFacts (itemIn xs i)
+      at i l ok = subst ItemFacts (item-at xs i l) (catalog-facts (catalogIn xs) ok .each i (omega (arith, length-catalogIn xs)))
 
       read : CatalogOk (catalogIn xs) → BlocksIn (length xs / 5) xs
       read ok = record { some = λ i l. at i l ok .some; small = λ i l. at i l ok .small }
 
   -- costs of two bytes are in range
-  pub blocks-taken : Lengths size xs → CapacityOk k → Below 256 xs → BlocksIn (length xs / 5) xs → 0 ≡ openingNumber size k xs
-  blocks-taken s room bytes ok = sym (asks s ∙ opening-accepts k (catalogIn xs) room (record { few = omega (arith, length-catalogIn xs, s .few); each = item }))
+  pub blocks-taken : Lengths size xs → CapacityFacts k → Below 256 xs → BlocksIn (length xs / 5) xs → 0 ≡ openingNumber size k xs
+  blocks-taken s room bytes ok = sym (asks s ∙ opening-accepts k (catalogIn xs) (capacity-ok k room) (catalog-ok (catalogIn xs) (record { few = omega (arith, length-catalogIn xs, s .few); each = item })))
     where
-      item : (i : ℕ) → i < length (catalogIn xs) → ItemOk (itemAt (catalogIn xs) i)
+      item : (i : ℕ) → i < length (catalogIn xs) → ItemFacts (itemAt (catalogIn xs) i)
       item i l =
           let m : i < length xs / 5 = omega (arith, length-catalogIn xs) in
-          subst ItemOk (sym (item-at xs i m))
+          subst ItemFacts (sym (item-at xs i m))
           (record { some = ok .some i m; small = ok .small i m; load = omega (arith, load-lt xs i bytes); write = omega (arith, write-lt xs i bytes) })
 
 -- an opening that was not refused has passed them all

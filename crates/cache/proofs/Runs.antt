@@ -8,7 +8,7 @@ use native.Mathlib.Numerals.{add-one}
 use lib.ListN.{length, getD, drop, set, length-append, drop-of-length-le}
 use lib.Seq.{sets, drop-cons, append-snoc}
 use borrow.Author.Tests.{eq-eqb, ne-eqb}
-use Rattle.landlord.specs.Calls.{Call, take, close}
+use Rattle.landlord.specs.Calls.{Call, stepCall, close}
 use Rattle.landlord.proofs.Folds.{tab-length, tab-at}
 use Rattle.cache.specs.Contract.{Kind, lent, Answers, OpenedLent}
 use Rattle.cache.specs.Chain.{Follows, none, then}
@@ -17,7 +17,7 @@ use Rattle.cache.proofs.Season.{season-lent}
 use Rattle.cache.proofs.Calls.{answers-called}
 
 -- a call from four numbers
-pub call-takes : (b left : List ℕ) (which kind i m n : ℕ) → which ≡ 0 → Answers lent b (take kind i m) n left → Answers lent b (callFrom which kind i m) n left
+pub call-takes : (b left : List ℕ) (which kind i m n : ℕ) → which ≡ 0 → Answers lent b (stepCall kind i m) n left → Answers lent b (callFrom which kind i m) n left
 call-takes b left which kind i m n e h = rw (eq-eqb which 0 e) h
 
 pub call-closes : (b left : List ℕ) (which kind i m n : ℕ) → (which ≡ 0 → ⊥) → Answers lent b close n left → Answers lent b (callFrom which kind i m) n left
@@ -46,14 +46,14 @@ sets-more l (w ∷ vs) at v = sets-more (set l at w) vs (suc at) v ∙ ap (λ (n
 
 -- after i calls: the state is valid, what is left to do from here leads to the answers from the start, and those so far are
 -- noted
-pub record Going {C : Type 0} (kind : Kind C) (c : C) (calls : List Call) (before : List ℕ) (i : ℕ) (q : C) (out : List ℕ) : Type 0 where
+pub record CallsGoing {C : Type 0} (kind : Kind C) (c : C) (calls : List Call) (before : List ℕ) (i : ℕ) (q : C) (out : List ℕ) : Type 0 where
   pub valid : kind .Valid q
   pub numbers : List ℕ
   pub count : length numbers ≡ i
   pub goes : (rest : List ℕ) (d : C) → Follows kind q (drop i calls) rest d → Follows kind c calls (numbers ++ rest) d
   pub noted : out ≡ sets before 0 numbers
 
-pub going-starts : {C : Type 0} (kind : Kind C) (c : C) (calls : List Call) (before : List ℕ) → kind .Valid c → Going kind c calls before 0 c before
+pub going-starts : {C : Type 0} (kind : Kind C) (c : C) (calls : List Call) (before : List ℕ) → kind .Valid c → CallsGoing kind c calls before 0 c before
 going-starts kind c calls before ok = record { valid = ok; numbers = []; count = refl; goes = λ rest d f. f; noted = refl }
 
 pub going-on :
@@ -62,8 +62,8 @@ pub going-on :
     getD calls i close ≡ call →
     Answers kind q call number r →
     after ≡ set out i number →
-    Going kind c calls before i q out →
-    Going kind c calls before (i + 1) r after
+    CallsGoing kind c calls before i q out →
+    CallsGoing kind c calls before (i + 1) r after
 going-on {C = C} kind c q r calls before out after i call number l e h noted g =
     record {
       valid = h .valid;
@@ -79,7 +79,7 @@ going-on {C = C} kind c q r calls before out after i call number l e h noted g =
     steps : (rest : List ℕ) (d : C) → Follows kind r (drop (i + 1) calls) rest d → Follows kind q (drop i calls) (number ∷ rest) d
     steps rest d f = subst (λ (z : List Call). Follows kind q z (number ∷ rest) d) (sym left) (then (answers-called kind q r call number (g .valid) h) f)
 
-pub going-ends : {C : Type 0} (kind : Kind C) (c q : C) (calls : List Call) (before out : List ℕ) (i : ℕ) → length calls ≤ i → Going kind c calls before i q out → RanCalls kind c calls before out q
+pub going-ends : {C : Type 0} (kind : Kind C) (c q : C) (calls : List Call) (before out : List ℕ) (i : ℕ) → length calls ≤ i → CallsGoing kind c calls before i q out → RanCalls kind c calls before out q
 going-ends kind c q calls before out i l g =
     record {
       numbers = g .numbers ++ [];

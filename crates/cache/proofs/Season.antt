@@ -3,21 +3,22 @@
 use mathlib.Core.Path.{_≡_, refl, sym, ap, subst, _∙_}
 use mathlib.Core.Bool.{Bool, true, cond}
 use mathlib.Core.List.{List, [], _∷_}
-use Prim.Native.Nat.{ℕ, zero, suc, _+_, _*_, _-_, _≤_, _<_}
+use Prim.Native.Nat.{ℕ, zero, suc, _<_}
 use native.Mathlib.Omega.{arith}
-use lib.ListN.{length, getD, take}
+use lib.ListN.{length, getD, take, drop}
 use Rattle.landlord.specs.Fold.{fold}
 use Rattle.landlord.specs.Catalog.{Catalog, CatalogOk}
 use Rattle.landlord.specs.Slot.{writeFirst}
 use Rattle.landlord.specs.Figures.{Standing, totalCost, ran, season}
 use Rattle.landlord.specs.Calls.{Call, close, Log, noLog, refusalNow, refusalIn, refusal, joins, logOf, ruleOver, after}
-use Rattle.landlord.specs.Claims.{Allowed}
+use Rattle.landlord.specs.Claims.{AllowedLog, WithinBound}
 use Rattle.landlord.proofs.Slots.{write-first-ok}
-use Rattle.landlord.proofs.Calls.{log-allowed, joins-either, logged-allowed, same-refusal, one-call, opening-taken, closing-ends}
-use Rattle.landlord.proofs.Wear.{wear-bound}
+use Rattle.landlord.proofs.Calls.{log-allowed, joins-either, logged-allowed, same-refusal, one-call, closing-ends}
+use Rattle.landlord.proofs.Competitive.{competitive-bound}
+use Rattle.landlord.proofs.Ranges.{opening-taken}
 use Rattle.catalog_bytes.specs.Catalogs.{catalogIn}
 use Rattle.cache.specs.Contract.{Kind, lent, OpenedLent}
-use Rattle.cache.specs.Chain.{Follows, none, then, Begins, Answered, Closing, Bounded, Season, ChainLent, SeasonLent}
+use Rattle.cache.specs.Chain.{Follows, none, then, BeginsAt, TableAnswers, Closing, Bounded, Season, Prefix, ChainLent, SeasonLent}
 use Rattle.cache.proofs.Openings.{right}
 
 module _ {C : Type 0} (kind : Kind C) (k : ℕ) (cat : Catalog) (good : CatalogOk cat) where
@@ -30,7 +31,7 @@ module _ {C : Type 0} (kind : Kind C) (k : ℕ) (cat : Catalog) (good : CatalogO
 
   leads :
       (l : Log) {c d : C} {calls : List Call} {numbers : List ℕ} →
-      Allowed k cat (l .steps) →
+      AllowedLog k cat (l .steps) →
       kind .Valid c →
       kind .view c ≡ ruleOver writeFirst k cat l →
       Follows kind c calls numbers d →
@@ -40,7 +41,7 @@ module _ {C : Type 0} (kind : Kind C) (k : ℕ) (cat : Catalog) (good : CatalogO
   leads l {c = c} a ok at (then {call = call} {calls = calls} {answer = answer} {numbers = numbers} h f) =
       let m : Log = joins k cat l call in
       let next = h .fine ok .stands ∙ ap (λ (v : Standing). after writeFirst v call) at ∙ one-call writeFirst k cat write-first-ok good l call a in
-      let open' : Allowed k cat (m .steps) = joins-either k cat l call (λ z. Allowed k cat (z .steps)) (λ e. logged-allowed k cat l call a e) a in
+      let open' : AllowedLog k cat (m .steps) = joins-either k cat l call (λ z. AllowedLog k cat (z .steps)) (λ e. logged-allowed k cat l call a e) a in
       let rest = leads m open' (h .fine ok .valid) next f in
       record {
         valid = rest .valid;
@@ -61,7 +62,7 @@ bounded :
     (k : ℕ) (cat : Catalog) (calls : List Call) (numbers : List ℕ) (v : Standing) →
     CatalogOk cat →
     v ≡ ruleOver writeFirst k cat (logOf k cat calls) →
-    Answered k cat calls numbers →
+    TableAnswers k cat calls numbers →
     Closing calls numbers →
     Bounded k cat calls (totalCost (v .figures))
 unfolding ruleOver
@@ -76,32 +77,61 @@ bounded k cat calls numbers v good at answers closing =
     in
     record {
       exact = exact;
-      bound = λ h low high plan c e.
-          subst (λ (n : ℕ). n * (k - h + 1) ≤ k * c) (sym exact) (wear-bound writeFirst write-first-ok k cat good (l .steps) (log-allowed k cat calls) h low high plan c e);
+      bound = subst (WithinBound k cat (l .steps)) (sym exact) (competitive-bound writeFirst write-first-ok k cat good (l .steps) (log-allowed k cat calls));
     }
 
 -- Demand 3.
 pub season-theorem :
     {C : Type 0} (kind : Kind C) {k : ℕ} {cat : Catalog} {first d : C} {calls : List Call} {numbers : List ℕ} →
-    Begins kind k cat first →
+    BeginsAt kind k cat first →
     Follows kind first calls numbers d →
     Season kind k cat calls numbers d
 unfolding fold ruleOver
 season-theorem kind {k = k} {cat = cat} {d = d} {calls = calls} {numbers = numbers} begins follows =
     let good : CatalogOk cat = opening-taken k cat (begins .accepted) .1 in
     let so = leads kind k cat good noLog (log-allowed k cat []) (begins .valid) (begins .stands) follows in
-    let answers : Answered k cat calls numbers = record { count = so .count; each = so .each } in
+    let answers : TableAnswers k cat calls numbers = record { count = so .count; each = so .each } in
     record {
       answers = answers;
       valid = so .valid;
       stands = so .stands;
-      wear = λ closing. bounded k cat calls numbers (kind .view d) good (so .stands) answers closing;
+      cost = λ closing. bounded k cat calls numbers (kind .view d) good (so .stands) answers closing;
     }
+
+-- ---- after each call
+
+-- a list of calls as its first i and the rest
+record Parted {C : Type 0} (kind : Kind C) (c : C) (calls : List Call) (numbers : List ℕ) (d : C) (i : ℕ) : Type 0 where
+  state : C
+  reached : Follows kind c (take i calls) (take i numbers) state
+  rest : Follows kind state (drop i calls) (drop i numbers) d
+
+parted :
+    {C : Type 0} (kind : Kind C) {c d : C} {calls : List Call} {numbers : List ℕ} (i : ℕ) →
+    Follows kind c calls numbers d →
+    Parted kind c calls numbers d i
+parted kind {c = c} zero f = record { state = c; reached = none; rest = f }
+parted kind {c = c} (suc i) none = record { state = c; reached = none; rest = none }
+parted kind (suc i) (then h f) =
+    let p = parted kind i f in
+    record { state = p .state; reached = then h (p .reached); rest = p .rest }
+
+-- no call hands back an invalid state: the theorem of the first i calls, for every i
+pub season-prefix :
+    {C : Type 0} (kind : Kind C) (k : ℕ) (cat : Catalog) (first : C) (calls : List Call) (numbers : List ℕ) (d : C) →
+    BeginsAt kind k cat first →
+    Follows kind first calls numbers d →
+    (i : ℕ) →
+    Prefix kind k cat first calls numbers d i
+season-prefix kind k cat first calls numbers d begins follows i =
+    let p : Parted kind first calls numbers d i = parted kind i follows in
+    let s : Season kind k cat (take i calls) (take i numbers) (p .state) = season-theorem kind begins (p .reached) in
+    record { state = p .state; reached = p .reached; rest = p .rest; valid = s .valid; stands = s .stands }
 
 -- ---- in lent bytes
 
 -- an opening that was not refused
-pub lent-begins : (b xs first : List ℕ) (k : ℕ) → OpenedLent b k xs 0 first → Begins lent k (catalogIn xs) first
+pub lent-begins : (b xs first : List ℕ) (k : ℕ) → OpenedLent b k xs 0 first → BeginsAt lent k (catalogIn xs) first
 lent-begins b xs first k o =
     record {
       accepted = right (o .answer) refl .accepted;
@@ -112,4 +142,11 @@ lent-begins b xs first k o =
 pub season-lent : (k : ℕ) (xs : List ℕ) (calls : List Call) (numbers d : List ℕ) → ChainLent k xs calls numbers d → SeasonLent k (catalogIn xs) calls numbers d
 season-lent k xs calls numbers d chain =
     let s : Season lent k (catalogIn xs) calls numbers d = season-theorem lent (lent-begins (chain .before) xs (chain .first) k (chain .opening)) (chain .follows) in
-    record { season = s; wear = s .wear }
+    record { season = s; cost = s .cost }
+
+-- no call leaves invalid bytes
+pub prefix-lent :
+    (k : ℕ) (xs : List ℕ) (calls : List Call) (numbers d : List ℕ) (chain : ChainLent k xs calls numbers d) (i : ℕ) →
+    Prefix lent k (catalogIn xs) (chain .first) calls numbers d i
+prefix-lent k xs calls numbers d chain i =
+    season-prefix lent k (catalogIn xs) (chain .first) calls numbers d (lent-begins (chain .before) xs (chain .first) k (chain .opening)) (chain .follows) i

@@ -17,17 +17,17 @@ use Rattle.landlord.specs.Figures.{Standing, moved, took}
 use Rattle.landlord.specs.Calls.{stepOf, inRange, refusalAt}
 use Rattle.landlord.proofs.Slots.{write-first-ok}
 use Rattle.landlord.proofs.Keeps.{make-room}
-use Rattle.landlord.proofs.Valid.{Ready, room-ready, moved-joined}
+use Rattle.landlord.proofs.Valid.{CanServe, room-ready, moved-joined}
 use Rattle.cache_state.specs.Cache.{Cache}
 use Rattle.cache_state.specs.View.{catalogOf, stateOf, view}
 use Rattle.cache_state.specs.Valid.{Valid}
 use Rattle.cache_state.proofs.Views.{size-is, blocks-is}
 use Rattle.layout.specs.Layout.{cacheOf}
-use Rattle.layout.specs.Stands.{BecomesAt}
-use Rattle.cache_room.specs.Room.{WantedAt}
-use Rattle.cache_serve.specs.Ready.{SteppableAt, ServableAt}
-use Rattle.cache.specs.Contract.{Passed}
-use Rattle.cache.proofs.Calls.{becomes-valid}
+use Rattle.layout.specs.Inner.{BecomesAt}
+use Rattle.layout.proofs.Places.{becomes-valid}
+use Rattle.cache_room.specs.Inner.{WantedAt}
+use Rattle.cache_serve.specs.InnerReady.{SteppableAt, ServableAt}
+use Rattle.cache.specs.Inner.{TablePasses}
 use Rattle.cache.proofs.Table.{Ranged, answer, asked}
 
 -- the tests that an answer of 0 has passed
@@ -74,8 +74,8 @@ module _ (c : Cache) (kind i m : ℕ) (free : answer c kind i m ≡ 0) where
       go true false d e f = absurd (false≢true f)
       go false b d e f = absurd (false≢true f)
 
-  free-landing : kind ≡ 76 → moved (view c) (step writeFirst (c .k) Flush (stateOf c)) (c .closed) ≡ took writeFirst (view c) (stepOf kind i m)
-  free-landing e = unfold took stepOf in rw e
+  free-flush : kind ≡ 76 → moved (view c) (step writeFirst (c .k) Flush (stateOf c)) (c .closed) ≡ took writeFirst (view c) (stepOf kind i m)
+  free-flush e = unfold took stepOf in rw e
 
   -- the room that was made: the item can be served there
   module _ (n : kind ≢ 76) (ok : Valid c) where
@@ -85,7 +85,7 @@ module _ (c : Cache) (kind i m : ℕ) (free : answer c kind i m ≡ 0) where
     small : blocksAt (stateOf c) i ≤ c .k
     small = subst (λ (z : ℕ). z ≤ c .k) (sym (blocks-is c i (free-item n .0))) (free-item n .1)
 
-    free-ready : Ready (moved (view c) (makeRoom writeFirst (c .k) i (stateOf c)) (c .closed)) i
+    free-ready : CanServe (moved (view c) (makeRoom writeFirst (c .k) i (stateOf c)) (c .closed)) i
     free-ready =
         room-ready writeFirst (view c) i write-first-ok (record { standing = ok .rule; few = free-ranged .few; isOpen = free-ranged .isOpen }) below small
 
@@ -113,19 +113,19 @@ module _ (c : Cache) (kind i m : ℕ) (free : answer c kind i m ≡ 0) where
           told = unfold took stepOf step in rw (ne-eqb kind 82 e, isWrite)
 
 -- the same of the bytes of a state
-module _ (b : List ℕ) (kind i m : ℕ) (p : Passed b kind i m) where
+module _ (b : List ℕ) (kind i m : ℕ) (p : TablePasses b kind i m) where
   so : {u v : Standing} {left : List ℕ} → u ≡ v → BecomesAt u left → BecomesAt v left
   so {left = left} e h = subst (λ (z : Standing). BecomesAt z left) e h
 
   pub passed-steps : SteppableAt b
   passed-steps = record { valid = p .valid; room = free-ranged (cacheOf b) kind i m (p .free) .few }
 
-  pub passed-landing :
+  pub passed-flush :
       (left : List ℕ) →
       kind ≡ 76 →
       BecomesAt (moved (view (cacheOf b)) (step writeFirst (cacheOf b .k) Flush (stateOf (cacheOf b))) (cacheOf b .closed)) left →
       BecomesAt (took writeFirst (view (cacheOf b)) (stepOf kind i m)) left
-  passed-landing left e h = so (free-landing (cacheOf b) kind i m (p .free) e) h
+  passed-flush left e h = so (free-flush (cacheOf b) kind i m (p .free) e) h
 
   pub passed-minutes : kind ≢ 76 → kind ≢ 82 → m ≤ 1440
   passed-minutes = free-minutes (cacheOf b) kind i m (p .free)
@@ -139,7 +139,7 @@ module _ (b : List ℕ) (kind i m : ℕ) (p : Passed b kind i m) where
     pub room-servable : ServableAt room i
     room-servable =
         let ready = free-ready (cacheOf b) kind i m (p .free) n (p .valid .cache) in
-        let r : Ready (view (cacheOf room)) i = subst (λ (z : Standing). Ready z i) (sym (made .cache .stands)) ready in
+        let r : CanServe (view (cacheOf room)) i = subst (λ (z : Standing). CanServe z i) (sym (made .cache .stands)) ready in
         record {
           valid = becomes-valid (ready .taking .standing) made;
           item = omega (arith, size-is (cacheOf room), r .below);

@@ -9,24 +9,12 @@ use lib.Dec.{leb, ltb, eqb}
 use borrow.Author.Tests.{eq-eqb, ne-eqb, le-leb, lt-leb, lt-ltb, le-ltb}
 use Rattle.landlord.specs.declared.Step.the-variants.{Read, Write, Flush}
 use Rattle.landlord.specs.Catalog.{Catalog, itemAt}
-use Rattle.landlord.specs.Calls.{take, stepOf, inRange, itemRefusal, refusalAt, refusalNow}
+use Rattle.landlord.specs.Calls.{stepCall, stepOf, inRange, itemRefusal, refusalAt, refusalNow}
 use Rattle.cache_state.specs.Cache.{Cache}
 use Rattle.cache_state.specs.View.{catalogOf, view}
 use Rattle.cache_state.proofs.Views.{size-is, blocks-is}
 
-pub range-read : (kind i m : ℕ) → kind ≡ 82 → leb i 255 ≡ inRange kind i m
-range-read kind i m e = rw (eq-eqb kind 82 e)
-
-pub range-write : (kind i m : ℕ) → kind ≢ 82 → kind ≡ 87 → i ≤ 255 → leb m 1440 ≡ inRange kind i m
-range-write kind i m n e l = rw (ne-eqb kind 82 n, eq-eqb kind 87 e, le-leb i 255 l)
-
-pub range-wide : (kind i m : ℕ) → kind ≢ 82 → kind ≡ 87 → 255 < i → false ≡ inRange kind i m
-range-wide kind i m n e l = rw (ne-eqb kind 82 n, eq-eqb kind 87 e, lt-leb i 255 l)
-
-pub range-flush : (kind i m : ℕ) → kind ≢ 82 → kind ≢ 87 → eqb kind 76 ≡ inRange kind i m
-range-flush kind i m n e = rw (ne-eqb kind 82 n, ne-eqb kind 87 e)
-
--- a step in range that is no landing asks for its item
+-- a step in range that is no flush asks for its item
 asks : (k : ℕ) (cat : Catalog) (kind i m : ℕ) → inRange kind i m ≡ true → kind ≢ 76 → itemRefusal k cat (stepOf kind i m) ≡ cond (ltb i (length cat)) (cond (leb (itemAt cat i .blocks) k) 0 7) 6
 unfolding stepOf
 asks k cat kind i m e n = go (eqb kind 82) (eqb kind 87) (eqb kind 76) (ne-eqb kind 76 n) e
@@ -42,7 +30,7 @@ asks k cat kind i m e n = go (eqb kind 82) (eqb kind 87) (eqb kind 76) (ne-eqb k
 
 module _ (c : Cache) (kind i m : ℕ) where
   abbrev pub answer : ℕ
-  answer = refusalNow (view c) (take kind i m)
+  answer = refusalNow (view c) (stepCall kind i m)
 
   pub table-closed : c .closed ≡ true → 9 ≡ answer
   unfolding refusalAt

@@ -3,12 +3,13 @@
 use mathlib.Core.Path.{_≡_, refl, sym, _∙_}
 use mathlib.Core.List.{List}
 use Prim.Native.Nat.{ℕ}
-use Rattle.fields.specs.LittleEndian.{Below}
+use Rattle.fields.specs.Inner.{Below}
 use Rattle.landlord.specs.Figures.{Standing}
 use Rattle.landlord.specs.Calls.{Call}
 use Rattle.cache_state.specs.View.{view}
 use Rattle.layout.specs.Layout.{cacheOf}
-use Rattle.layout.specs.Stands.{ValidBytes, BecomesAt}
+use Rattle.layout.specs.Inner.{BecomesAt}
+use Rattle.layout.specs.Valid.{ValidBytes}
 use Rattle.layout.proofs.Places.{valid-reads, becomes-one}
 use Rattle.cache.specs.Contract.{lent, Answers}
 

@@ -2,19 +2,19 @@
 -- the season theorem both cite it. Assumes nothing.
 use mathlib.Core.Path.{_≡_}
 use mathlib.Core.Logic.{_≢_}
-use mathlib.Core.Bool.{Bool, false, cond, _&&_}
+use mathlib.Core.Bool.{Bool, cond, _&&_}
 use mathlib.Core.List.{List}
 use Prim.Native.Nat.{ℕ, _%_, _<_}
 use lib.Dec.{eqb, leb}
-use lib.ListN.{length, getD}
+use lib.ListN.{length}
 use Rattle.landlord.specs.Slot.{writeFirst}
 use Rattle.landlord.specs.Figures.{Standing, opened}
-use Rattle.landlord.specs.Calls.{Call, take, openingRefusal, refusalNow, after}
+use Rattle.landlord.specs.Calls.{Call, openingRefusal, refusalNow, after}
 use Rattle.catalog_bytes.specs.Catalogs.{catalogIn}
-use Rattle.cache_state.specs.Cache.{Cache}
-use Rattle.cache_state.specs.View.{dirtyAt, view}
+use Rattle.cache_state.specs.View.{view}
+use Rattle.cache_state.specs.Valid.{EmptyPlace}
 use Rattle.layout.specs.Layout.{stateBytes, cacheOf}
-use Rattle.layout.specs.Stands.{ValidBytes}
+use Rattle.layout.specs.Valid.{ValidBytes}
 
 -- a kind of state: where the rule stands in one, and which are valid
 pub record Kind (C : Type 0) : Type 1 where
@@ -38,21 +38,6 @@ pub record Called {C : Type 0} (kind : Kind C) (c : C) (call : Call) (number : �
   pub fine : kind .Valid c → Answers kind c call number d
   pub invalid : (kind .Valid c → ⊥) → (number ≡ 17) × (d ≡ c)
 
--- a step on valid bytes that the table does not refuse
-pub record Passed (b : List ℕ) (kind item minutes : ℕ) : Type 0 where
-  pub valid : ValidBytes b
-  pub free : refusalNow (view (cacheOf b)) (take kind item minutes) ≡ 0
-
--- "It has 256 places, one for each sail number, empty at opening": place i
-pub record EmptyPlace (c : Cache) (i : ℕ) : Type 0 where
-  pub held : getD (c .held) i false ≡ false
-  pub loadCredit : getD (c .loadcredit) i 0 ≡ 0
-  pub writeCredit : getD (c .writecredit) i 0 ≡ 0
-  pub dirty : dirtyAt c i ≡ false
-  pub tenths : getD (c .tenths) i 0 ≡ 0
-  pub loads : getD (c .itemloads) i 0 ≡ 0
-  pub writebacks : getD (c .itemwritebacks) i 0 ≡ 0
-
 -- "a length that is no multiple of 5, or above 1,280, is 3"
 abbrev pub sized : List ℕ → Bool
 sized xs = eqb (length xs % 5) 0 && leb (length xs) 1280
@@ -66,5 +51,6 @@ pub record OpenedLent (b : List ℕ) (k : ℕ) (xs : List ℕ) (number : ℕ) (l
   pub answer : number ≡ openingNumber (length b) k xs
   pub valid : number ≡ 0 → ValidBytes left
   pub stands : number ≡ 0 → view (cacheOf left) ≡ opened k (catalogIn xs)
+  -- "It has 256 places, one for each sail number, empty at opening"
   pub empty : number ≡ 0 → (i : ℕ) → i < 256 → EmptyPlace (cacheOf left) i
   pub refused : number ≢ 0 → left ≡ b

@@ -1,4 +1,4 @@
 pub mod Contract
 pub mod Chain
 pub mod Run
-pub mod Opening
+pub mod Inner

@@ -8,14 +8,14 @@ use lib.ListN.{length, getD}
 use lib.Seq.{sets}
 use lib.Dec.{eqb}
 use Rattle.landlord.specs.Fold.{tab}
-use Rattle.landlord.specs.Calls.{Call, take, close}
+use Rattle.landlord.specs.Calls.{Call, stepCall, close}
 use Rattle.catalog_bytes.specs.Catalogs.{catalogIn}
 use Rattle.cache.specs.Contract.{Kind, openingNumber}
 use Rattle.cache.specs.Chain.{Follows, SeasonLent}
 
 -- a call from four numbers: 0 and then a step's kind, item and minutes; or another number, and it is the closing
 abbrev pub callFrom : ℕ → ℕ → ℕ → ℕ → Call
-callFrom which kind item minutes = cond (eqb which 0) (take kind item minutes) close
+callFrom which kind item minutes = cond (eqb which 0) (stepCall kind item minutes) close
 
 abbrev pub callAt : List ℕ → ℕ → Call
 callAt xs i = callFrom (getD xs (4 * i) 0) (getD xs (4 * i + 1) 0) (getD xs (4 * i + 2) 0) (getD xs (4 * i + 3) 0)

@@ -4,37 +4,22 @@ ghost use mathlib.Core.Path.{_≡_};
 ghost use lib.ListN.{set};
 ghost use Rattle.landlord.specs.Slot.{writeFirst};
 ghost use Rattle.landlord.specs.Figures.{took};
-ghost use Rattle.landlord.specs.Calls.{inRange, refusalNow, stepOf, take, close};
+ghost use Rattle.landlord.specs.Calls.{refusalNow, stepOf, stepCall, close};
 ghost use Rattle.validity.specs.Decided.{Decided};
 ghost use Rattle.cache_state.specs.View.{view};
 ghost use Rattle.layout.specs.Layout.{cacheOf};
-ghost use Rattle.layout.specs.Stands.{Stands, ValidBytes, BecomesAt};
-ghost use Rattle.cache.specs.Contract.{lent, Answers, Called, Passed, openingNumber, OpenedLent};
-ghost use Rattle.cache.specs.Opening.{BlocksIn, Whole, Enterable, enteredOf};
+ghost use Rattle.layout.specs.Inner.{Stands, BecomesAt};
+ghost use Rattle.layout.specs.Valid.{ValidBytes};
+ghost use Rattle.cache.specs.Contract.{lent, Answers, Called, openingNumber, OpenedLent};
+ghost use Rattle.cache.specs.Inner.{BlocksIn, WholeCatalog, Enterable, enteredOf, TablePasses};
 ghost use Rattle.cache.specs.Run.{callFrom, callsOf, RanCalls, RanLent};
 
 // ---- a step
 
-// Whether a step's kind is one of R, W and L, and the values that such a step has are in their ranges.
-pub fn in_range(kind: u32, item: u32, minutes: u32) -> bool
-    ensures { λ r. ⌜ r ≡ inRange kind item minutes ⌝ }
-{
-    if kind == 82 {
-        return item <= 255;
-    }
-    if kind == 87 {
-        if item <= 255 {
-            return minutes <= 1440;
-        }
-        return false;
-    }
-    kind == 76
-}
-
 // The number that the table of refusals gives a step on a valid state: 9, 8, 3, 6, 7 in this order, or 0.
 fn refused(b: &[u8], kind: u32, item: u32, minutes: u32) -> u32
     requires { ⌜ ValidBytes (now b) ⌝ }
-    ensures { λ r. ⌜ r ≡ refusalNow (view (cacheOf (now (b .entry)))) (take kind item minutes) ⌝ }
+    ensures { λ r. ⌜ r ≡ refusalNow (view (cacheOf (now (b .entry)))) (stepCall kind item minutes) ⌝ }
 {
     if layout::closed(b) {
         return 9;
@@ -42,7 +27,7 @@ fn refused(b: &[u8], kind: u32, item: u32, minutes: u32) -> u32
     if 1000000 <= layout::steps(b) {
         return 8;
     }
-    if !in_range(kind, item, minutes) {
+    if !landlord::in_range(kind, item, minutes) {
         return 3;
     }
     // A flush has no item.
@@ -61,7 +46,7 @@ fn refused(b: &[u8], kind: u32, item: u32, minutes: u32) -> u32
 
 // A step that the table does not refuse: room is made for its item, and it is served.
 fn serve(b: &mut [u8], kind: u32, item: u32, minutes: u32)
-    requires { ⌜ Passed (now b) kind item minutes ⌝ }
+    requires { ⌜ TablePasses (now b) kind item minutes ⌝ }
     ensures { λ _. ⌜ BecomesAt (took writeFirst (view (cacheOf (now (b .entry)))) (stepOf kind item minutes)) (now (b .exit)) ⌝ }
 {
     if kind == 76 {
@@ -80,7 +65,7 @@ fn serve(b: &mut [u8], kind: u32, item: u32, minutes: u32)
 // A step by its numbers, on a valid state: as the table says.
 fn step_valid(b: &mut [u8], kind: u32, item: u32, minutes: u32) -> u32
     requires { ⌜ ValidBytes (now b) ⌝ }
-    ensures { λ r. ⌜ Answers lent (now (b .entry)) (take kind item minutes) r (now (b .exit)) ⌝ }
+    ensures { λ r. ⌜ Answers lent (now (b .entry)) (stepCall kind item minutes) r (now (b .exit)) ⌝ }
 {
     let number = refused(b, kind, item, minutes);
     if number != 0 {
@@ -93,7 +78,7 @@ fn step_valid(b: &mut [u8], kind: u32, item: u32, minutes: u32) -> u32
 // A step by its numbers, on any bytes: 17 if they are no valid state, else as the table says. `kind` is the code of its letter,
 // 82 for R, 87 for W, 76 for L.
 pub fn step(b: &mut [u8], kind: u32, item: u32, minutes: u32) -> u32
-    ensures { λ r. ⌜ Called lent (now (b .entry)) (take kind item minutes) r (now (b .exit)) ⌝ }
+    ensures { λ r. ⌜ Called lent (now (b .entry)) (stepCall kind item minutes) r (now (b .exit)) ⌝ }
 {
     if !cache_check::valid(b) {
         return 17;
@@ -130,7 +115,7 @@ pub fn close(b: &mut [u8]) -> u32
 
 // Whether each of the first `n` items of a catalog has 1 to 16 blocks.
 fn blocks_ok(catalog: &[u8], n: usize) -> bool
-    requires { ⌜ Whole n (now catalog) ⌝ }
+    requires { ⌜ WholeCatalog n (now catalog) ⌝ }
     ensures { λ r. ⌜ Decided (BlocksIn n (now (catalog .entry))) r ⌝ }
 {
     let mut i = 0;

@@ -14,19 +14,19 @@ use borrow.Author.Tests.{eq-eqb, eqb-true, not-false}
 use Rattle.fields.specs.LittleEndian.{un, unrun}
 use Rattle.validity.specs.Decided.{Decided}
 use Rattle.layout.proofs.Places.{unrun-at, flag-at}
-use Rattle.cache_check.specs.Blanks.{Zeros, BlankRun, BlankFlags}
+use Rattle.cache_check.specs.Inner.{Zeros, BlankRun, BlankFlags}
 
 -- ---- the loop: `all` is 0 exactly if every byte passed is
 
 or-none : (a x : ℕ) → bitOr a x ≡ 0 → (a ≡ 0) × (x ≡ 0)
 or-none a x e = (omega (arith, or-add-and a x, and-le-l a x, and-le-r a x), omega (arith, or-add-and a x, and-le-l a x, and-le-r a x))
 
-pub record Passed (b : List ℕ) (from i all : ℕ) : Type 0 where
+pub record PassedOver (b : List ℕ) (from i all : ℕ) : Type 0 where
   pub after : from ≤ i
   pub yes : all ≡ 0 → Zeros b from i
   pub only : Zeros b from i → all ≡ 0
 
-pub passed-none : (b : List ℕ) (from : ℕ) → Passed b from from 0
+pub passed-none : (b : List ℕ) (from : ℕ) → PassedOver b from from 0
 passed-none b from =
     record {
       after = le-refl from;
@@ -34,7 +34,7 @@ passed-none b from =
       only = λ z. refl;
     }
 
-pub passed-more : (b : List ℕ) (from i all : ℕ) → Passed b from i all → Passed b from (i + 1) (bitOr all (getD b i 0))
+pub passed-more : (b : List ℕ) (from i all : ℕ) → PassedOver b from i all → PassedOver b from (i + 1) (bitOr all (getD b i 0))
 passed-more b from i all p =
     record {
       after = omega (arith, p .after);
@@ -50,7 +50,7 @@ passed-more b from i all p =
     more e f j l m (yes s) = ap (λ (x : ℕ). getD b x 0) s ∙ f
     more e f j l m (no s) = p .yes e .each j l (omega arith)
 
-pub passed-all : (b : List ℕ) (from to i all : ℕ) → i ≡ to → Passed b from i all → Decided (Zeros b from to) (eqb all 0)
+pub passed-all : (b : List ℕ) (from to i all : ℕ) → i ≡ to → PassedOver b from i all → Decided (Zeros b from to) (eqb all 0)
 passed-all b from to i all e p =
     record {
       yes = λ t. subst (Zeros b from) e (p .yes (eqb-true all 0 t));

@@ -8,14 +8,15 @@ use native.Mathlib.Omega.{arith}
 use lib.Dec.{leb}
 use lib.ListN.{drop}
 use borrow.Author.Tests.{leb-true, le-leb}
-use Rattle.marks.specs.Marks.{marked, marks, firstSet}
+use Rattle.marks.specs.Marks.{marked}
+use Rattle.marks.specs.Inner.{marks, firstSet}
 use Rattle.marks.proofs.Laws.{NextMark, next-is}
 use Rattle.cache_state.specs.Valid.{Blank}
-use Rattle.cache_state.specs.Parts.{PastOk}
+use Rattle.cache_state.specs.InnerParts.{PastOk}
 use Rattle.validity.specs.Decided.{Decided}
 use Rattle.validity.proofs.Decides.{clash}
 use Rattle.layout.specs.Layout.{cacheOf, atLoadCredits, atWriteCredits, atTenths, atItemLoads, atItemWritebacks, atItemLoadCosts, atItemWriteCosts, atBlocks, atHeld}
-use Rattle.cache_check.specs.Blanks.{BlankRun, BlankFlags}
+use Rattle.cache_check.specs.Inner.{BlankRun, BlankFlags}
 
 -- what the nine tests of runs find; the tenth is of the dirty marks
 pub record RunsBlank (b : List ℕ) (n : ℕ) : Type 0 where
@@ -33,15 +34,15 @@ module _ (b : List ℕ) (n : ℕ) (e : n ≡ cacheOf b .n) where
   pub runs-blank : PastOk (cacheOf b) → RunsBlank b n
   runs-blank p =
       record {
-        loadCredit = record { each = λ i l m. here i l m .loadCredit };
-        writeCredit = record { each = λ i l m. here i l m .writeCredit };
-        tenths = record { each = λ i l m. here i l m .tenths };
-        loads = record { each = λ i l m. here i l m .loads };
-        writebacks = record { each = λ i l m. here i l m .writebacks };
+        loadCredit = record { each = λ i l m. here i l m .place .slot .loadCredit };
+        writeCredit = record { each = λ i l m. here i l m .place .slot .writeCredit };
+        tenths = record { each = λ i l m. here i l m .place .tenths };
+        loads = record { each = λ i l m. here i l m .place .loads };
+        writebacks = record { each = λ i l m. here i l m .place .writebacks };
         load = record { each = λ i l m. here i l m .load };
         write = record { each = λ i l m. here i l m .write };
         blocks = record { each = λ i l m. here i l m .blocks };
-        held = record { each = λ i l m. here i l m .held };
+        held = record { each = λ i l m. here i l m .place .held };
       }
     where
       here : (i : ℕ) → n ≤ i → i < 256 → Blank (cacheOf b) i
@@ -55,16 +56,22 @@ module _ (b : List ℕ) (n : ℕ) (e : n ≡ cacheOf b .n) where
               each = λ i l m.
                   let k : n ≤ i = omega arith in
                   record {
+                    place =
+                        record {
+                          held = a .held .each i k m;
+                          slot =
+                              record {
+                                dirty = mark .before i k (omega (arith, leb-true 256 r t));
+                                loadCredit = a .loadCredit .each i k m;
+                                writeCredit = a .writeCredit .each i k m;
+                              };
+                          tenths = a .tenths .each i k m;
+                          loads = a .loads .each i k m;
+                          writebacks = a .writebacks .each i k m;
+                        };
                     blocks = a .blocks .each i k m;
                     load = a .load .each i k m;
                     write = a .write .each i k m;
-                    held = a .held .each i k m;
-                    loadCredit = a .loadCredit .each i k m;
-                    writeCredit = a .writeCredit .each i k m;
-                    dirty = mark .before i k (omega (arith, leb-true 256 r t));
-                    tenths = a .tenths .each i k m;
-                    loads = a .loads .each i k m;
-                    writebacks = a .writebacks .each i k m;
                   };
             };
         only = λ p. past (decLt r 256) p;
@@ -74,5 +81,5 @@ module _ (b : List ℕ) (n : ℕ) (e : n ≡ cacheOf b .n) where
       mark = next-is (cacheOf b .dirty) n r few is
 
       past : Dec (r < 256) → PastOk (cacheOf b) → leb 256 r ≡ true
-      past (yes l) p = clash (marked (cacheOf b .dirty) r) (mark .here l) (p .each r (omega (arith, mark .after)) l .dirty)
+      past (yes l) p = clash (marked (cacheOf b .dirty) r) (mark .here l) (p .each r (omega (arith, mark .after)) l .place .slot .dirty)
       past (no l) p = le-leb 256 r (omega arith)

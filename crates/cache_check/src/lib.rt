@@ -8,13 +8,13 @@ ghost use lib.ListN.{length, getD};
 ghost use Rattle.landlord.specs.Fold.{sumTo};
 ghost use Rattle.landlord.specs.Rule.{used, heldCount};
 ghost use Rattle.validity.specs.Decided.{Decided};
-ghost use Rattle.validity.specs.Tests.{CountsOk};
+ghost use Rattle.validity.specs.Inner.{CountsOk};
 ghost use Rattle.cache_state.specs.View.{stateOf, countsOf};
 ghost use Rattle.cache_state.specs.Valid.{Valid};
-ghost use Rattle.cache_state.specs.Parts.{PastOk, EntriesOk, SumsOf};
+ghost use Rattle.cache_state.specs.InnerParts.{PastOk, EntriesOk, SumsOf};
 ghost use Rattle.layout.specs.Layout.{stateBytes, cacheOf};
-ghost use Rattle.layout.specs.Stands.{ValidBytes};
-ghost use Rattle.cache_check.specs.Blanks.{Zeros, BlankRun, BlankFlags, RunAt, Counted};
+ghost use Rattle.layout.specs.Valid.{ValidBytes};
+ghost use Rattle.cache_check.specs.Inner.{Zeros, BlankRun, BlankFlags, RunAt, CountedItems};
 
 // Whether every byte from one place to another is 0. One test at the end, so that the loop goes by vectors.
 fn zeros(b: &[u8], from: usize, to: usize) -> bool
@@ -48,7 +48,7 @@ fn flags_blank(b: &[u8], at: usize, n: usize) -> bool
 
 // Whether every place past the catalog is blank.
 fn past_ok(b: &[u8], n: usize) -> bool
-    requires { ⌜ Counted (now b) n ⌝ }
+    requires { ⌜ CountedItems (now b) n ⌝ }
     ensures { λ r. ⌜ Decided (PastOk (cacheOf (now (b .entry)))) r ⌝ }
 {
     if !run_blank(b, layout::AT_LOAD_CREDITS, 8, n) {
@@ -83,7 +83,7 @@ fn past_ok(b: &[u8], n: usize) -> bool
 
 // Whether every item of the catalog is as it should be.
 fn entries_ok(b: &[u8], n: usize) -> bool
-    requires { ⌜ Counted (now b) n ⌝ }
+    requires { ⌜ CountedItems (now b) n ⌝ }
     ensures { λ r. ⌜ Decided (EntriesOk (cacheOf (now (b .entry)))) r ⌝ }
 {
     let closed = layout::closed(b);
@@ -121,7 +121,7 @@ fn share(held: bool, amount: u8) -> u32
 
 // The blocks held, of `n` items.
 pub fn used(b: &[u8], n: usize) -> u32
-    requires { ⌜ Counted (now b) n ⌝ }
+    requires { ⌜ CountedItems (now b) n ⌝ }
     ensures { λ r. ⌜ r ≡ used (stateOf (cacheOf (now (b .entry)))) ⌝ }
 {
     let mut sum: u32 = 0;
@@ -135,7 +135,7 @@ pub fn used(b: &[u8], n: usize) -> u32
 
 // How many of `n` items are held.
 fn held_count(b: &[u8], n: usize) -> u32
-    requires { ⌜ Counted (now b) n ⌝ }
+    requires { ⌜ CountedItems (now b) n ⌝ }
     ensures { λ r. ⌜ r ≡ heldCount (stateOf (cacheOf (now (b .entry)))) ⌝ }
 {
     let mut sum: u32 = 0;
@@ -156,7 +156,7 @@ fn wide(x: u32) -> u64
 
 // The sum of the loads counted for the first `n` items.
 fn loads_counted(b: &[u8], n: usize) -> u64
-    requires { ⌜ Counted (now b) n ⌝ }
+    requires { ⌜ CountedItems (now b) n ⌝ }
     ensures { λ r. ⌜ r ≡ sumTo n (λ i. getD (cacheOf (now (b .entry)) .itemloads) i 0) ⌝ }
 {
     let mut sum: u64 = 0;
@@ -170,7 +170,7 @@ fn loads_counted(b: &[u8], n: usize) -> u64
 
 // The sum of the writebacks counted for the first `n` items.
 fn writebacks_counted(b: &[u8], n: usize) -> u64
-    requires { ⌜ Counted (now b) n ⌝ }
+    requires { ⌜ CountedItems (now b) n ⌝ }
     ensures { λ r. ⌜ r ≡ sumTo n (λ i. getD (cacheOf (now (b .entry)) .itemwritebacks) i 0) ⌝ }
 {
     let mut sum: u64 = 0;
@@ -184,7 +184,7 @@ fn writebacks_counted(b: &[u8], n: usize) -> u64
 
 // Whether the sums over the items are what the capacity and the totals say.
 fn sums_ok(b: &[u8], n: usize) -> bool
-    requires { ⌜ Counted (now b) n ⌝ }
+    requires { ⌜ CountedItems (now b) n ⌝ }
     ensures { λ r. ⌜ Decided (SumsOf (cacheOf (now (b .entry)))) r ⌝ }
 {
     validity::balanced(

@@ -9,19 +9,19 @@ use lib.ListN.{getD, set}
 use Rattle.landlord.specs.Slot.{writeFirst}
 use Rattle.landlord.specs.Rule.{victim, evict}
 use Rattle.landlord.specs.Figures.{moved}
-use Rattle.marks.specs.Marks.{marks}
+use Rattle.marks.specs.Inner.{marks}
 use Rattle.cache_state.specs.Cache.{Cache}
 use Rattle.cache_state.specs.View.{dirtyAt, stateOf, view}
 use Rattle.cache_state.specs.Valid.{Normal}
-use Rattle.cache_state.specs.With.{withHeld, withLoadCredit, withWriteCredit, withDirty, withEvictions, withDirtyEvictions, withWritebacks, withWriteCost, withItemWritebacks}
+use Rattle.cache_state.specs.InnerWith.{withHeld, withLoadCredit, withWriteCredit, withDirty, withEvictions, withDirtyEvictions, withWritebacks, withWriteCost, withItemWritebacks}
 use Rattle.layout.specs.Layout.{cacheOf}
-use Rattle.layout.specs.Stands.{Stands, Readable, ValidAt, BecomesAt}
+use Rattle.layout.specs.Inner.{Stands, Readable, ValidAt, BecomesAt}
 use Rattle.layout.proofs.Rounds.{whole}
 use Rattle.layout.proofs.Places.{readable, stands-as, valid-reads}
-use Rattle.cache_room.specs.Room.{mostCredit, Ranked, withCounts, loadLeft, writeLeft, chargedOf, droppedOf, countedOf, ChargeableAt, DroppedAt, CountableAt, CrowdedAt}
+use Rattle.cache_room.specs.Inner.{mostCredit, Ranked, withCounts, loadLeft, writeLeft, chargedOf, droppedOf, countedOf, ChargeableAt, DroppedAt, CountableAt, CrowdedAt}
 use Rattle.cache_room.proofs.Laws.{store-past}
 use Rattle.cache_room.proofs.Views.{rankOf, ranked, rank-bound, Choosing, Turn}
-use Rattle.cache_room.proofs.Stores.{Sizes, charge-starts, charge-more, charge-skip}
+use Rattle.cache_room.proofs.Stores.{EvictionSizes, charge-starts, charge-more, charge-skip}
 use Rattle.cache_room.proofs.Evicts.{Leaving, victim-known, countable, evict-becomes}
 
 -- ---- the search: an item that is held, with its rank from what is read
@@ -198,7 +198,7 @@ module _ (b : List ℕ) (n : ℕ) {v : ℕ} (p : CrowdedAt b n) (is : v ≡ vict
               (s3 .cache);
         }
       where
-        sizes : Sizes (cacheOf b)
+        sizes : EvictionSizes (cacheOf b)
         sizes =
             record {
               held = whole b .held;

@@ -13,19 +13,19 @@ use Rattle.landlord.specs.Figures.{Use, tally, moved}
 use Rattle.landlord.proofs.Folds.{tab-eq}
 use Rattle.landlord.proofs.Keeps.{victim-least}
 use Rattle.landlord.proofs.Valid.{line-writebacks}
-use Rattle.marks.specs.Marks.{marks}
+use Rattle.marks.specs.Inner.{marks}
 use Rattle.cache_state.specs.Cache.{Cache}
 use Rattle.cache_state.specs.View.{dirtyAt, slotOf, catalogOf, slotsOf, usesOf, stateOf, figuresOf, view}
 use Rattle.cache_state.specs.Valid.{Normal, Valid}
-use Rattle.cache_state.specs.Becomes.{Becomes}
+use Rattle.cache_state.specs.InnerBecomes.{Becomes}
 use Rattle.cache_state.proofs.Views.{size-is, slot-is, blocks-is, use-is}
-use Rattle.cache_room.specs.Room.{chargedOf, droppedOf, Dropped, countedOf, Countable}
+use Rattle.cache_room.specs.Inner.{chargedOf, droppedOf, Dropped, countedOf, Countable}
 use Rattle.cache_room.proofs.Views.{rankOf, dirty-is, rank-is}
-use Rattle.cache_room.proofs.Stores.{Sizes, charged-slot, charged-sizes, charged-normal, dropped-slot, dropped-sizes, dropped-normal, counted-normal, counted-view}
+use Rattle.cache_room.proofs.Stores.{EvictionSizes, charged-slot, charged-sizes, charged-normal, dropped-slot, dropped-sizes, dropped-normal, counted-normal, counted-view}
 
 -- The three together: item v, which has rank m, is evicted; d says whether it was dirty, and ws are the marks without it.
 module _
-    (c : Cache) (v m : ℕ) (ws : List ℕ) (d : Bool) (sizes : Sizes c) (ok : Normal c) (l : v < c .n) (is : m ≡ rank (stateOf c) v)
+    (c : Cache) (v m : ℕ) (ws : List ℕ) (d : Bool) (sizes : EvictionSizes c) (ok : Normal c) (l : v < c .n) (is : m ≡ rank (stateOf c) v)
     (un : marks ws ≡ set (marks (c .dirty)) v false) (was : d ≡ dirtyAt c v) where
   abbrev left : Cache
   left = droppedOf (chargedOf c m (c .n)) v ws
@@ -54,7 +54,7 @@ module _
   left-normal : Normal left
   left-normal = dropped-normal (chargedOf c m (c .n)) v ws (charged-sizes c m sizes ok) (charged-normal c m sizes ok) l un
 
-  left-sizes : Sizes left
+  left-sizes : EvictionSizes left
   left-sizes = dropped-sizes (chargedOf c m (c .n)) v ws (charged-sizes c m sizes ok) (charged-normal c m sizes ok) l un
 
   view-after :
@@ -107,7 +107,7 @@ countable c {v} ch e ok l so =
 -- the whole eviction
 pub evict-becomes :
     (c : Cache) {v m : ℕ} (ch e : Cache) {d : Bool} (r : Cache) →
-    Sizes c →
+    EvictionSizes c →
     Normal c →
     1 ≤ used (stateOf c) →
     v ≡ victim (stateOf c) →

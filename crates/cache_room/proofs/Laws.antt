@@ -10,7 +10,7 @@ use native.Mathlib.Omega.{arith}
 use lib.ListN.{length, getD, set, length-set}
 use lib.Seq.{getD-set-same, getD-set-other, set-getD}
 use Rattle.landlord.specs.Fold.{bestTo}
-use Rattle.cache_room.specs.Stores.{storeTo}
+use Rattle.cache_room.specs.InnerStores.{storeTo}
 
 pub best-start : (beats : ℕ → ℕ → Bool) (none : ℕ) → bestTo beats none 0 ≡ none
 unfolding bestTo

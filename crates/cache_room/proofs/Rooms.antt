@@ -17,7 +17,7 @@ use Rattle.landlord.proofs.Valid.{ok-evict, moved-joined}
 use Rattle.cache_state.specs.Cache.{Cache}
 use Rattle.cache_state.specs.View.{stateOf, view}
 use Rattle.cache_state.specs.Valid.{Normal, Valid}
-use Rattle.cache_state.specs.Becomes.{Becomes}
+use Rattle.cache_state.specs.InnerBecomes.{Becomes}
 use Rattle.cache_state.proofs.Views.{size-is, blocks-is, held-is}
 
 -- the rule's loop, from where it stands: nothing more to do, or an eviction and the loop again
@@ -60,24 +60,24 @@ for-more k blocks v fits l =
     (evict-catalog writeFirst (victim x) x))
 
 -- The loop, on its way from q₀ to room for `blocks` in k; u are the blocks held.
-pub record Going (k blocks : ℕ) (q₀ q : Cache) (u : ℕ) : Type 0 where
+pub record RoomGoing (k blocks : ℕ) (q₀ q : Cache) (u : ℕ) : Type 0 where
   pub valid : Valid q
   pub count : q .n ≡ q₀ .n
   pub taken : u ≡ used (stateOf q)
   pub goal : roomFor k blocks (view q) ≡ roomFor k blocks (view q₀)
 
-pub going-starts : {k blocks : ℕ} (q : Cache) {u : ℕ} → Valid q → u ≡ used (stateOf q) → Going k blocks q q u
+pub going-starts : {k blocks : ℕ} (q : Cache) {u : ℕ} → Valid q → u ≡ used (stateOf q) → RoomGoing k blocks q q u
 going-starts q ok e = record { valid = ok; count = refl; taken = e; goal = refl }
 
 -- One eviction more, that frees f blocks: they were held, the loop goes on without them, and one item fewer is held.
 pub record Gone (k blocks : ℕ) (q₀ q r : Cache) (u f : ℕ) : Type 0 where
   pub within : f ≤ u
-  pub going : Going k blocks q₀ r (u - f)
+  pub going : RoomGoing k blocks q₀ r (u - f)
   pub less : heldCount (stateOf r) < heldCount (stateOf q)
 
 pub going-on :
     {k blocks : ℕ} (q₀ q r : Cache) {u f : ℕ} →
-    Going k blocks q₀ q u →
+    RoomGoing k blocks q₀ q u →
     blocks ≤ k →
     k < u + blocks →
     f ≡ getD (q .blocks) (victim (stateOf q)) 0 →
@@ -150,7 +150,7 @@ pub room-miss :
     blocks ≡ getD (c .blocks) i 0 →
     i < c .n →
     getD (c .held) i false ≡ false →
-    Going k blocks c q u →
+    RoomGoing k blocks c q u →
     u + blocks ≤ k →
     Becomes (moved (view c) (makeRoom writeFirst (c .k) i (stateOf c)) (c .closed)) q
 unfolding makeRoom

@@ -17,17 +17,19 @@ use Rattle.landlord.specs.Slot.{absent, clean, dirty, writeFirst, lose}
 use Rattle.landlord.specs.Rule.{size, evicted}
 use Rattle.landlord.specs.Figures.{totalsOf, plusTotals, adds, Use, useOf, plusUse, noUse, usage, useAt, tally}
 use Rattle.landlord.proofs.Folds.{tab-eq}
-use Rattle.marks.specs.Marks.{marked, marks}
+use Rattle.marks.specs.Marks.{marked}
+use Rattle.marks.specs.Inner.{marks}
 use Rattle.marks.proofs.Laws.{marked-set-same, marked-set-other}
 use Rattle.cache_state.specs.Cache.{Cache}
 use Rattle.cache_state.specs.View.{dirtyAt, slotFrom, slotOf, usageOf, catalogOf, slotsOf, usesOf, stateOf, countsOf, figuresOf, view}
-use Rattle.cache_state.specs.Valid.{Blank, Emptied, Normal}
+use Rattle.cache_state.specs.Valid.{Blank, Emptied, EmptyPlace, Normal}
 use Rattle.cache_state.proofs.Views.{size-is, item-is, use-is}
-use Rattle.cache_room.specs.Room.{withCounts, loadLeft, writeLeft, chargedOf, droppedOf, countedOf, mostCredit, withSlots}
+use Rattle.cache_state.proofs.Normals.{figures-normal}
+use Rattle.cache_room.specs.Inner.{loadLeft, writeLeft, chargedOf, droppedOf, countedOf, mostCredit, withSlots}
 use Rattle.cache_room.proofs.Laws.{store-length, store-at, store-past, store-start, store-more, store-skip}
 
 -- the arrays that an eviction changes have their 256 places
-pub record Sizes (c : Cache) : Type 0 where
+pub record EvictionSizes (c : Cache) : Type 0 where
   pub held : length (c .held) ≡ 256
   pub load : length (c .loadcredit) ≡ 256
   pub write : length (c .writecredit) ≡ 256
@@ -48,16 +50,10 @@ slots-normal c h a b d ok past unheld unmarked =
           λ i l s. let x : Blank c i = ok .past i l s in
           let y : (getD h i false ≡ false) × Emptied (withSlots c h a b d) i = past i l s in
           record {
+            place = record { held = y .0; slot = y .1; tenths = x .place .tenths; loads = x .place .loads; writebacks = x .place .writebacks };
             blocks = x .blocks;
             load = x .load;
             write = x .write;
-            held = y .0;
-            loadCredit = y .1 .loadCredit;
-            writeCredit = y .1 .writeCredit;
-            dirty = y .1 .dirty;
-            tenths = x .tenths;
-            loads = x .loads;
-            writebacks = x .writebacks;
           };
       absent = unheld;
       clean = unmarked;
@@ -104,7 +100,7 @@ charge-skip c m i x =
     withSlots c (c .held) (store-skip i (loadLeft c m) (c .loadcredit) a z) (store-skip i (writeLeft c m) (c .writecredit) b z) (c .dirty)
 
 -- every item is charged
-module _ (c : Cache) (m : ℕ) (sizes : Sizes c) (ok : Normal c) where
+module _ (c : Cache) (m : ℕ) (sizes : EvictionSizes c) (ok : Normal c) where
   abbrev charged : Cache
   charged = chargedOf c m (c .n)
 
@@ -120,7 +116,7 @@ module _ (c : Cache) (m : ℕ) (sizes : Sizes c) (ok : Normal c) where
       ∙ lose-from (getD (c .held) i false) (dirtyAt c i) (getD (c .loadcredit) i 0) (getD (c .writecredit) i 0) (getD (c .blocks) i 0)
       (getD (c .blocks) i 0 * m) (λ d. ok .clean i l d)
 
-  pub charged-sizes : Sizes charged
+  pub charged-sizes : EvictionSizes charged
   charged-sizes =
       record {
         held = sizes .held;
@@ -132,12 +128,12 @@ module _ (c : Cache) (m : ℕ) (sizes : Sizes c) (ok : Normal c) where
   pub charged-normal : Normal charged
   charged-normal =
       slots-normal c (c .held) (charged .loadcredit) (charged .writecredit) (c .dirty) ok
-      (λ i b s. let x : Blank c i = ok .past i b s in (
+      (λ i b s. let x : EmptyPlace c i = ok .past i b s .place in (
         x .held,
         record {
-          dirty = x .dirty;
-          loadCredit = store-past (c .n) (loadLeft c m) (c .loadcredit) i b ∙ x .loadCredit;
-          writeCredit = store-past (c .n) (writeLeft c m) (c .writecredit) i b ∙ x .writeCredit;
+          dirty = x .slot .dirty;
+          loadCredit = store-past (c .n) (loadLeft c m) (c .loadcredit) i b ∙ x .slot .loadCredit;
+          writeCredit = store-past (c .n) (writeLeft c m) (c .writecredit) i b ∙ x .slot .writeCredit;
         },
       ))
       (λ i b h. let x : Emptied c i = ok .absent i b h in
@@ -149,7 +145,7 @@ module _ (c : Cache) (m : ℕ) (sizes : Sizes c) (ok : Normal c) where
       (λ i b d. omega (arith, write-left i b, ok .clean i b d))
 
 -- item v is dropped
-module _ (c : Cache) (v : ℕ) (ws : List ℕ) (sizes : Sizes c) (ok : Normal c) (l : v < c .n) (un : marks ws ≡ set (marks (c .dirty)) v false) where
+module _ (c : Cache) (v : ℕ) (ws : List ℕ) (sizes : EvictionSizes c) (ok : Normal c) (l : v < c .n) (un : marks ws ≡ set (marks (c .dirty)) v false) where
   abbrev dropped : Cache
   dropped = droppedOf c v ws
 
@@ -190,7 +186,7 @@ module _ (c : Cache) (v : ℕ) (ws : List ℕ) (sizes : Sizes c) (ok : Normal c)
           (λ z. slotFrom (other-held i e z) (other-dirty i (omega (arith, ok .few)) e z) (other-load i e z) (other-write i e z))
           ∙ sym (ap (λ (t : Bool). cond t absent (slotOf c i)) (ne-eqb i v e))
 
-  pub dropped-sizes : Sizes dropped
+  pub dropped-sizes : EvictionSizes dropped
   dropped-sizes =
       record {
         held = length-set (c .held) v false ∙ sizes .held;
@@ -202,13 +198,13 @@ module _ (c : Cache) (v : ℕ) (ws : List ℕ) (sizes : Sizes c) (ok : Normal c)
   pub dropped-normal : Normal dropped
   dropped-normal =
       slots-normal c (dropped .held) (dropped .loadcredit) (dropped .writecredit) ws ok
-      (λ i b s. let x : Blank c i = ok .past i b s in
+      (λ i b s. let x : EmptyPlace c i = ok .past i b s .place in
       let e : i ≢ v = λ q. omega arith in (
         other-held i e ∙ x .held,
         record {
-          dirty = other-dirty i s e ∙ x .dirty;
-          loadCredit = other-load i e ∙ x .loadCredit;
-          writeCredit = other-write i e ∙ x .writeCredit;
+          dirty = other-dirty i s e ∙ x .slot .dirty;
+          loadCredit = other-load i e ∙ x .slot .loadCredit;
+          writeCredit = other-write i e ∙ x .slot .writeCredit;
         },
       ))
       (λ i b h. empty i b h (ℕ-discrete i v))
@@ -228,35 +224,6 @@ module _ (c : Cache) (v : ℕ) (ws : List ℕ) (sizes : Sizes c) (ok : Normal c)
       unwritten i b d (yes e) = ap (λ (j : ℕ). getD (dropped .writecredit) j 0) e ∙ no-write
       unwritten i b d (no e) = other-write i e ∙ ok .clean i b (sym (other-dirty i (omega (arith, ok .few)) e) ∙ d)
 
--- other counts, of which none is past the catalog
-counts-normal :
-    (c : Cache) (e de w wc : ℕ) (ws : List ℕ) →
-    Normal c →
-    ((i : ℕ) → c .n ≤ i → i < 256 → getD ws i 0 ≡ 0) →
-    Normal (withCounts c e de w wc ws)
-counts-normal c e de w wc ws ok none =
-    record {
-      few = ok .few;
-      past =
-          λ i l b. let x : Blank c i = ok .past i l b in
-          record {
-            blocks = x .blocks;
-            load = x .load;
-            write = x .write;
-            held = x .held;
-            loadCredit = x .loadCredit;
-            writeCredit = x .writeCredit;
-            dirty = x .dirty;
-            tenths = x .tenths;
-            loads = x .loads;
-            writebacks = none i l b;
-          };
-      absent =
-          λ i l h. let x : Emptied c i = ok .absent i l h in
-          record { dirty = x .dirty; loadCredit = x .loadCredit; writeCredit = x .writeCredit };
-      clean = ok .clean;
-    }
-
 -- a count to which nothing is added
 still : (n : ℕ) → n ≡ n + 0
 still n = sym (add-zero n)
@@ -267,7 +234,7 @@ same-use true u = λ z. useOf (still (u .tenths) z) (still (u .loads) z) (still 
 same-use false u = λ z. useOf (still (u .tenths) z) (still (u .loads) z) (still (u .writebacks) z)
 
 -- the eviction of item v is counted
-module _ (c : Cache) (v : ℕ) (sizes : Sizes c) (ok : Normal c) (l : v < c .n) where
+module _ (c : Cache) (v : ℕ) (sizes : EvictionSizes c) (ok : Normal c) (l : v < c .n) where
   abbrev counted : Bool → Cache
   counted d = countedOf c v d
 
@@ -281,12 +248,10 @@ module _ (c : Cache) (v : ℕ) (sizes : Sizes c) (ok : Normal c) (l : v < c .n) 
 
   pub counted-normal : (d : Bool) → Normal (counted d)
   counted-normal false =
-      counts-normal c (c .evictions + 1) (c .dirtyevictions) (c .writebacks) (c .writecost) (c .itemwritebacks) ok
-      (λ i b s. ok .past i b s .writebacks)
+      figures-normal c (c .itemwritebacks) (countsOf (counted false)) (c .closed) ok (λ i b s. ok .past i b s .place .writebacks)
   counted-normal true =
-      counts-normal c (c .evictions + 1) (c .dirtyevictions + 1) (c .writebacks + 1) (c .writecost + getD (c .write) v 0)
-      (counted true .itemwritebacks) ok
-      (λ i b s. other-writebacks i (λ q. omega arith) ∙ ok .past i b s .writebacks)
+      figures-normal c (counted true .itemwritebacks) (countsOf (counted true)) (c .closed) ok
+      (λ i b s. other-writebacks i (λ q. omega arith) ∙ ok .past i b s .place .writebacks)
 
   -- what the eviction adds to the line of item i
   abbrev added : Bool → ℕ → Use

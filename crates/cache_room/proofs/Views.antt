@@ -10,16 +10,18 @@ use lib.Dec.{eqb, ltb}
 use borrow.Author.Tests.{eq-eqb, ne-eqb}
 use lib.ListN.{getD}
 use Rattle.landlord.specs.Fold.{bestTo}
-use Rattle.landlord.specs.Catalog.{ItemOk, itemAt}
+use Rattle.landlord.specs.Catalog.{itemAt}
 use Rattle.landlord.specs.Slot.{Slot, held, isDirty, loadCredit, writeCredit}
 use Rattle.landlord.specs.Rule.{size, slotAt, blocksAt, rank, goesBefore, victim}
 use Rattle.landlord.specs.Claims.{SlotKept}
+use Rattle.landlord.specs.Inner.{ItemFacts}
 use Rattle.cache_state.specs.Cache.{Cache}
 use Rattle.cache_state.specs.View.{dirtyAt, stateOf}
 use Rattle.cache_state.specs.Valid.{Normal, Valid}
 use Rattle.cache_state.proofs.Views.{size-is, slot-is, slot-past, blocks-is, held-is, from-dirty, from-load, from-write}
-use Rattle.cache_room.specs.Room.{mostCredit, Ranked}
+use Rattle.cache_room.specs.Inner.{mostCredit, Ranked}
 use Rattle.cache_room.proofs.Laws.{best-start, best-more}
+use Rattle.landlord.proofs.Ranges.{catalog-facts}
 
 -- the rank of item i, from the fields
 abbrev pub rankOf : Cache → ℕ → ℕ
@@ -56,7 +58,7 @@ rank-past c =
 pub ranked : (c : Cache) → Valid c → (i : ℕ) → i < c .n → Ranked (getD (c .loadcredit) i 0) (getD (c .writecredit) i 0) (getD (c .blocks) i 0)
 ranked c ok i l =
     let b : i < size (stateOf c) = rw size-is l in
-    let it : ItemOk (itemAt (stateOf c .catalog) i) = ok .rule .kept .catalog .each i b in
+    let it : ItemFacts (itemAt (stateOf c .catalog) i) = catalog-facts (stateOf c .catalog) (ok .rule .kept .catalog) .each i b in
     let s : SlotKept (itemAt (stateOf c .catalog) i) (slotAt (stateOf c) i) = ok .rule .kept .slot i b in
     record {
       some = omega (arith, blocks-is c i l);

@@ -1,2 +1,2 @@
-pub mod Stores
-pub mod Room
+pub mod InnerStores
+pub mod Inner

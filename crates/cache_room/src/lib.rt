@@ -7,8 +7,8 @@ ghost use Rattle.landlord.specs.Rule.{victim, evict, makeRoom};
 ghost use Rattle.landlord.specs.Figures.{moved};
 ghost use Rattle.cache_state.specs.View.{view, stateOf};
 ghost use Rattle.layout.specs.Layout.{cacheOf};
-ghost use Rattle.layout.specs.Stands.{Stands, Readable, ValidAt, BecomesAt};
-ghost use Rattle.cache_room.specs.Room.{Ranked, ChargeableAt, DroppedAt, CountableAt, CrowdedAt, WantedAt, chargedOf, countedOf};
+ghost use Rattle.layout.specs.Inner.{Stands, Readable, ValidAt, BecomesAt};
+ghost use Rattle.cache_room.specs.Inner.{Ranked, ChargeableAt, DroppedAt, CountableAt, CrowdedAt, WantedAt, chargedOf, countedOf};
 
 // The credits of an item a block: what its place in the cache is still worth. Credits are multiples of the blocks, so nothing is
 // rounded.

@@ -5,13 +5,14 @@ use native.Mathlib.Decide.{ℕ-discrete}
 use native.Mathlib.Omega.{arith}
 use lib.ListN.{getD}
 use Rattle.landlord.specs.Fold.{sumTo}
-use Rattle.landlord.specs.Catalog.{ItemOk}
 use Rattle.landlord.specs.Figures.{Use, useAt}
 use Rattle.landlord.specs.Rule.{size}
+use Rattle.landlord.specs.Inner.{ItemFacts}
 use Rattle.cache_state.specs.Cache.{Cache}
-use Rattle.cache_state.specs.View.{itemOf, stateOf, figuresOf}
+use Rattle.cache_state.specs.View.{itemOf, catalogOf, stateOf, figuresOf}
 use Rattle.cache_state.specs.Valid.{Valid}
 use Rattle.cache_state.proofs.Views.{size-is, item-is, use-is}
+use Rattle.landlord.proofs.Ranges.{catalog-facts}
 
 -- a term is at most its sum
 term-le : (n i : ℕ) (f : ℕ → ℕ) → i < n → f i ≤ sumTo n f
@@ -48,8 +49,8 @@ module _ (c : Cache) (ok : Valid c) (i : ℕ) (l : i < c .n) where
   pub item-tenths : getD (c .tenths) i 0 ≤ 240 * c .steps
   item-tenths = omega (arith, ok .rule .tenths i inside, ap (λ (u : Use). u .tenths) (use-is c i l))
 
-  item-ok : ItemOk (itemOf c i)
-  item-ok = rw (item-is c i l) at (ok .rule .kept .catalog .each i inside)
+  item-ok : ItemFacts (itemOf c i)
+  item-ok = rw (item-is c i l) at (catalog-facts (catalogOf c) (ok .rule .kept .catalog) .each i inside)
 
   pub write-small : getD (c .write) i 0 ≤ 65535
   write-small = item-ok .write

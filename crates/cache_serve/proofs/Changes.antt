@@ -12,7 +12,7 @@ use lib.ListN.{getD, set}
 use lib.Dec.{eqb}
 use borrow.Author.Tests.{eq-eqb, ne-eqb}
 use Rattle.landlord.specs.Fold.{tab, fold}
-use Rattle.landlord.specs.Rule.{Event, size, put}
+use Rattle.landlord.specs.Rule.{Event, size, putSlot}
 use Rattle.landlord.specs.Figures.{Use, useOf, usage, isAbout, plusTotals, plusUse, noUse, adds, tally, moved}
 use Rattle.landlord.proofs.Folds.{tab-set, tab-eq}
 use Rattle.cache_state.specs.Cache.{Cache}
@@ -114,7 +114,7 @@ pub stands-but :
     ((j : ℕ) → isAbout j e ≡ eqb j i) →
     countsOf r ≡ plusTotals (countsOf c) (adds (catalogOf c) e) →
     usageOf r i ≡ plusUse (usageOf c i) (usage e) →
-    view r ≡ moved (view c) (record { state = put (stateOf c) i (slotOf r i); events = e ∷ [] }) (c .closed)
+    view r ≡ moved (view c) (record { state = putSlot (stateOf c) i (slotOf r i); events = e ∷ [] }) (c .closed)
 unfolding fold
 stands-but c r i e o few l about total here =
     λ z.
@@ -145,29 +145,33 @@ normal-but c r i o ok l here spent =
     n : r .n ≡ c .n
     n = same-n c r i o
 
+    emptied : (j : ℕ) → SameAt c r j → Emptied c j → Emptied r j
+    emptied j s x =
+        record { dirty = s .dirty ∙ x .dirty; loadCredit = s .loadCredit ∙ x .loadCredit; writeCredit = s .writeCredit ∙ x .writeCredit }
+
     past : (j : ℕ) → c .n ≤ j → j < 256 → Blank r j
     past j b m =
         let s : SameAt c r j = o .others j m (omega arith) in
         let x : Blank c j = ok .past j b m in
         record {
+          place =
+              record {
+                held = s .held ∙ x .place .held;
+                slot = emptied j s (x .place .slot);
+                tenths = s .tenths ∙ x .place .tenths;
+                loads = s .loads ∙ x .place .loads;
+                writebacks = s .writebacks ∙ x .place .writebacks;
+              };
           blocks = ap (λ (y : Fixed). getD (y .blocks) j 0) (o .fixed) ∙ x .blocks;
           load = ap (λ (y : Fixed). getD (y .load) j 0) (o .fixed) ∙ x .load;
           write = ap (λ (y : Fixed). getD (y .write) j 0) (o .fixed) ∙ x .write;
-          held = s .held ∙ x .held;
-          loadCredit = s .loadCredit ∙ x .loadCredit;
-          writeCredit = s .writeCredit ∙ x .writeCredit;
-          dirty = s .dirty ∙ x .dirty;
-          tenths = s .tenths ∙ x .tenths;
-          loads = s .loads ∙ x .loads;
-          writebacks = s .writebacks ∙ x .writebacks;
         }
 
     absent : (j : ℕ) → j < c .n → getD (r .held) j false ≡ false → Dec (j ≡ i) → Emptied r j
     absent j b e (yes q) = absurd (false≢true (sym e ∙ ap (λ (m : ℕ). getD (r .held) m false) q ∙ here))
     absent j b e (no q) =
         let s : SameAt c r j = o .others j (omega (arith, ok .few)) q in
-        let x : Emptied c j = ok .absent j b (sym (s .held) ∙ e) in
-        record { dirty = s .dirty ∙ x .dirty; loadCredit = s .loadCredit ∙ x .loadCredit; writeCredit = s .writeCredit ∙ x .writeCredit }
+        emptied j s (ok .absent j b (sym (s .held) ∙ e))
 
     clean : (j : ℕ) → j < c .n → dirtyAt r j ≡ false → Dec (j ≡ i) → getD (r .writecredit) j 0 ≡ 0
     clean j b e (yes q) = ap (λ (m : ℕ). getD (r .writecredit) m 0) q ∙ spent (ap (dirtyAt r) (sym q) ∙ e)

@@ -7,14 +7,14 @@ use Prim.Native.Nat.{ℕ, _+_}
 use lib.ListN.{getD, set}
 use Rattle.landlord.specs.Catalog.{full}
 use Rattle.landlord.specs.Figures.{tenthsOf}
-use Rattle.marks.specs.Marks.{marks}
+use Rattle.marks.specs.Inner.{marks}
 use Rattle.cache_state.specs.Cache.{Cache}
-use Rattle.cache_state.specs.With.{withSteps, withHits, withLoads, withWritebacks, withFlushes, withLoadCost, withWriteCost}
-use Rattle.cache_state.specs.With.{withHeld, withDirty, withLoadCredit, withWriteCredit, withTenths, withItemLoads, withItemWritebacks}
+use Rattle.cache_state.specs.InnerWith.{withSteps, withHits, withLoads, withWritebacks, withFlushes, withLoadCost, withWriteCost}
+use Rattle.cache_state.specs.InnerWith.{withHeld, withDirty, withLoadCredit, withWriteCredit, withTenths, withItemLoads, withItemWritebacks}
 use Rattle.layout.specs.Layout.{cacheOf}
-use Rattle.layout.specs.Stands.{Stands}
+use Rattle.layout.specs.Inner.{Stands}
 use Rattle.layout.proofs.Places.{readable, stands-as}
-use Rattle.cache_serve.specs.Stores.{hitOf, loadedOf, refilledOf, writtenOf, wroteOf, flushedOf, WroteAt, WroteBackAt}
+use Rattle.cache_serve.specs.InnerStores.{hitOf, loadedOf, refilledOf, writtenOf, wroteBackOf, flushedOf, WroteAt, WroteBackAt}
 
 pub hit-counted :
     (b b1 left : List ℕ) {steps hits : ℕ} →
@@ -117,12 +117,12 @@ written-back b b1 b2 b3 b4 left i {words} {marked} {own} {writebacks} {paid} {pr
       reads = readable s5;
       cache =
           record {
-            store = is ∙ ap (wroteOf (cacheOf b) i) (sym words-are);
+            store = is ∙ ap (wroteBackOf (cacheOf b) i) (sym words-are);
             mark = ap marks words-are ∙ mark ∙ ap (λ (d : List ℕ). set (marks d) i false) ew;
           };
     }
   where
-    is : cacheOf left ≡ wroteOf (cacheOf b) i marked
+    is : cacheOf left ≡ wroteBackOf (cacheOf b) i marked
     is =
         s5 .cache
         ∙ ap (λ (q : Cache). withWriteCost q (paid + price))

@@ -9,7 +9,7 @@ use native.Mathlib.Omega.{arith}
 use lib.ListN.{length}
 use Rattle.landlord.specs.Fold.{tab}
 use Rattle.landlord.specs.Slot.{Slot, absent, clean, dirty, isDirty, flushed}
-use Rattle.landlord.specs.Rule.{State, wroteBack, Moved, stay, joined, size, slotAt, put, writeBacks, flush}
+use Rattle.landlord.specs.Rule.{State, wroteBack, Moved, stay, joined, size, slotAt, putSlot, writeBacks, flush}
 use Rattle.landlord.proofs.Folds.{tab-eq, tab-of}
 use Rattle.landlord.proofs.Keeps.{put-same, put-other}
 
@@ -64,7 +64,7 @@ flushed-clean (dirty a b) e = absurd (false≢true (sym e))
 
 -- one writeback
 abbrev pub writeBack : ℕ → State → Moved
-writeBack i x = record { state = put x i (flushed (slotAt x i)); events = wroteBack i ∷ [] }
+writeBack i x = record { state = putSlot x i (flushed (slotAt x i)); events = wroteBack i ∷ [] }
 
 -- a flush begins with the lowest dirty item, and goes on with the rest
 pub flush-first :
@@ -83,7 +83,7 @@ flush-first x i whole l due none =
     }
   where
     y : State
-    y = put x i (flushed (slotAt x i))
+    y = putSlot x i (flushed (slotAt x i))
 
     here : slotAt y i ≡ flushed (slotAt x i)
     here = put-same x i (flushed (slotAt x i)) (omega arith)

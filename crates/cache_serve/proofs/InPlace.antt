@@ -11,17 +11,18 @@ use Rattle.landlord.specs.declared.Step.the-variants.{Flush}
 use Rattle.landlord.specs.Slot.{writeFirst}
 use Rattle.landlord.specs.Rule.{State, Moved, serveRead, serveWrite, flush, step}
 use Rattle.landlord.specs.Figures.{Standing, moved}
-use Rattle.marks.specs.Marks.{marks, firstSet}
+use Rattle.marks.specs.Inner.{marks, firstSet}
 use Rattle.cache_state.specs.Cache.{Cache}
 use Rattle.cache_state.specs.View.{stateOf, view}
 use Rattle.cache_state.specs.Valid.{Valid}
-use Rattle.cache_state.specs.Becomes.{Becomes}
+use Rattle.cache_state.specs.InnerBecomes.{Becomes}
 use Rattle.layout.specs.Layout.{cacheOf}
-use Rattle.layout.specs.Stands.{Stands, Readable, ValidBytes, BecomesAt}
+use Rattle.layout.specs.Inner.{Stands, Readable, BecomesAt}
+use Rattle.layout.specs.Valid.{ValidBytes}
 use Rattle.layout.proofs.Rounds.{whole}
 use Rattle.layout.proofs.Places.{readable, valid-reads}
-use Rattle.cache_serve.specs.Stores.{hitOf, loadedOf, refilledOf, flushedOf, WroteAt, WroteBackAt}
-use Rattle.cache_serve.specs.Ready.{Servable, SteppableAt, ServableAt, WritableAt, FlushableAt}
+use Rattle.cache_serve.specs.InnerStores.{hitOf, loadedOf, refilledOf, flushedOf, WroteAt, WroteBackAt}
+use Rattle.cache_serve.specs.InnerReady.{Servable, SteppableAt, ServableAt, WritableAt, FlushableAt}
 use Rattle.cache_serve.proofs.Serves.{read-hit, read-load, writable, write-becomes}
 use Rattle.cache_serve.proofs.Writebacks.{Flushing, flush-starts, flush-ends, flushable, flush-turn, flushed-valid, flush-step-becomes}
 
@@ -32,8 +33,8 @@ MovesTo b f left = BecomesAt (moved (view (cacheOf b)) (f (stateOf (cacheOf b)))
 -- ---- a request
 
 -- the item was held, and a hit counted; or it was not, and was loaded
-abbrev pub Counted : List ℕ → ℕ → List ℕ → Type 0
-Counted b i left =
+abbrev pub FoundOrLoaded : List ℕ → ℕ → List ℕ → Type 0
+FoundOrLoaded b i left =
     ((getD (cacheOf b .held) i false ≡ true) × Stands left (hitOf (cacheOf b)))
     ⊎ ((getD (cacheOf b .held) i false ≡ false) × Stands left (loadedOf (cacheOf b) i))
 
@@ -43,7 +44,7 @@ pub hit-way :
     isHeld ≡ true →
     Stands q (hitOf (cacheOf b)) →
     left ≡ q →
-    Counted b i left
+    FoundOrLoaded b i left
 hit-way b i is h s e = inl (sym is ∙ h, subst (λ (x : List ℕ). Stands x (hitOf (cacheOf b))) (sym e) s)
 
 pub load-way :
@@ -52,7 +53,7 @@ pub load-way :
     isHeld ≡ false →
     Stands q (loadedOf (cacheOf b) i) →
     left ≡ q →
-    Counted b i left
+    FoundOrLoaded b i left
 load-way b i is h s e = inr (sym is ∙ h, subst (λ (x : List ℕ). Stands x (loadedOf (cacheOf b) i)) (sym e) s)
 
 module _ (b : List ℕ) (i : ℕ) (p : ServableAt b i) where
@@ -62,14 +63,14 @@ module _ (b : List ℕ) (i : ℕ) (p : ServableAt b i) where
   place : i < 256
   place = omega (arith, p .item, p .valid .cache .fields .few)
 
-  pub refillable : (b1 : List ℕ) → Counted b i b1 → Readable b1 × (i < 256)
+  pub refillable : (b1 : List ℕ) → FoundOrLoaded b i b1 → Readable b1 × (i < 256)
   refillable b1 (inl w) = (readable (w .1), place)
   refillable b1 (inr w) = (readable (w .1), place)
 
   -- the load credit is filled last
   pub read-at :
       (b1 left : List ℕ) →
-      Counted b i b1 →
+      FoundOrLoaded b i b1 →
       Stands left (refilledOf (cacheOf b1) i) →
       MovesTo b (serveRead i) left
   read-at b1 left w s = record { reads = readable s; cache = by w }
@@ -80,7 +81,7 @@ module _ (b : List ℕ) (i : ℕ) (p : ServableAt b i) where
       at : (c : Cache) → cacheOf b1 ≡ c → Becomes v (refilledOf c i) → Becomes v (cacheOf left)
       at c e r = subst (Becomes v) (sym (s .cache ∙ ap (λ (q : Cache). refilledOf q i) e)) r
 
-      by : Counted b i b1 → Becomes v (cacheOf left)
+      by : FoundOrLoaded b i b1 → Becomes v (cacheOf left)
       by (inl h) = at (hitOf (cacheOf b)) (h .1 .cache) (read-hit (cacheOf b) i (whole b) servable (h .0))
       by (inr h) = at (loadedOf (cacheOf b) i) (h .1 .cache) (read-load (cacheOf b) i (whole b) servable (h .0))
 

@@ -11,21 +11,21 @@ use lib.Dec.{eqb}
 use Rattle.landlord.specs.Fold.{fold}
 use Rattle.landlord.specs.Catalog.{Item, full, itemAt}
 use Rattle.landlord.specs.Slot.{Slot, absent, clean, dirty, held, brought, refilled, written}
-use Rattle.landlord.specs.Rule.{State, Event, hit, loaded, wrote, Moved, size, slotAt, put, found, readSlot, serveRead, serveWrite}
+use Rattle.landlord.specs.Rule.{State, Event, hit, loaded, wrote, Moved, size, slotAt, putSlot, found, readSlot, serveRead, serveWrite}
 use Rattle.landlord.specs.Figures.{Use, Standing, usage, isAbout, plusTotals, plusUse, noUse, useAt, adds, tenthsOf, moved}
 use Rattle.landlord.proofs.Folds.{tab-at}
 use Rattle.landlord.proofs.Slots.{read-held}
 use Rattle.landlord.proofs.Keeps.{put-same}
-use Rattle.marks.specs.Marks.{marks}
+use Rattle.marks.specs.Inner.{marks}
 use Rattle.marks.proofs.Laws.{marked-set-same, marked-set-other}
 use Rattle.cache_state.specs.Cache.{Cache}
 use Rattle.cache_state.specs.View.{dirtyAt, slotFrom, slotOf, usageOf, catalogOf, stateOf, countsOf, figuresOf, view}
 use Rattle.cache_state.specs.Valid.{Normal}
-use Rattle.cache_state.specs.Becomes.{Becomes}
+use Rattle.cache_state.specs.InnerBecomes.{Becomes}
 use Rattle.cache_state.proofs.Views.{size-is, slots-length, item-is, slot-is, use-is, held-is}
-use Rattle.layout.specs.Layout.{Whole}
-use Rattle.cache_serve.specs.Stores.{hitOf, loadedOf, refilledOf, writtenOf, Wrote}
-use Rattle.cache_serve.specs.Ready.{Servable, Writable}
+use Rattle.layout.specs.InnerRows.{WholeArrays}
+use Rattle.cache_serve.specs.InnerStores.{hitOf, loadedOf, refilledOf, writtenOf, Wrote}
+use Rattle.cache_serve.specs.InnerReady.{Servable, Writable}
 use Rattle.cache_serve.proofs.Changes.{OnlyAt, stands-but, normal-but, plus-none}
 use Rattle.cache_serve.proofs.Bounds.{item-tenths}
 
@@ -63,7 +63,7 @@ read-becomes c r i e ok l o at event about total here =
     record {
       stands =
           stands-but c r i e o (ok .few) l about total here
-          ∙ (λ z. moved (view c) (record { state = put (stateOf c) i (slot z); events = event z ∷ [] }) (c .closed));
+          ∙ (λ z. moved (view c) (record { state = putSlot (stateOf c) i (slot z); events = event z ∷ [] }) (c .closed));
       fields = normal-but c r i o ok l (at .holds) (λ q. at .write ∙ ok .clean i l (sym (at .dirty) ∙ q));
     }
   where
@@ -80,7 +80,7 @@ read-becomes c r i e ok l o at event about total here =
 -- a read of an item that is held
 pub read-hit :
     (c : Cache) (i : ℕ) →
-    Whole c →
+    WholeArrays c →
     Servable c i →
     getD (c .held) i false ≡ true →
     Becomes (moved (view c) (serveRead i (stateOf c)) (c .closed)) (refilledOf (hitOf c) i)
@@ -114,7 +114,7 @@ read-hit c i s ok h =
 -- a read of an item that is not held
 pub read-load :
     (c : Cache) (i : ℕ) →
-    Whole c →
+    WholeArrays c →
     Servable c i →
     getD (c .held) i false ≡ false →
     Becomes (moved (view c) (serveRead i (stateOf c)) (c .closed)) (refilledOf (loadedOf c i) i)
@@ -152,13 +152,13 @@ read-load c i s ok h =
 abbrev pub writeOver : ℕ → ℕ → State → Moved
 writeOver i minutes x =
     record {
-      state = put x i (written (full (itemAt (x .catalog) i .write)) (slotAt x i));
+      state = putSlot x i (written (full (itemAt (x .catalog) i .write)) (slotAt x i));
       events = wrote i minutes ∷ [];
     }
 
 wrote-becomes :
     (c : Cache) (i minutes : ℕ) (d : List ℕ) →
-    Whole c →
+    WholeArrays c →
     Normal c →
     i < c .n →
     getD (c .held) i false ≡ true →
@@ -168,7 +168,7 @@ wrote-becomes c i minutes d s ok l h m =
     record {
       stands =
           stands-but c r i (wrote i minutes) o (ok .few) l (λ j. refl) (simp add-zero) (simp (more, add-zero))
-          ∙ (λ z. moved (view c) (record { state = put (stateOf c) i (slot z); events = wrote i minutes ∷ [] }) (c .closed));
+          ∙ (λ z. moved (view c) (record { state = putSlot (stateOf c) i (slot z); events = wrote i minutes ∷ [] }) (c .closed));
       fields = normal-but c r i o ok l h (λ q. absurd (false≢true (sym q ∙ mark)));
     }
   where
@@ -255,7 +255,7 @@ module _ (c q : Cache) (i : ℕ) (ok : Servable c i) (read : Becomes (moved (vie
 
   pub write-becomes :
       (r : Cache) (minutes : ℕ) →
-      Whole q →
+      WholeArrays q →
       Wrote q i minutes r →
       Becomes (moved (view c) (serveWrite i minutes (stateOf c)) (c .closed)) r
   unfolding fold
@@ -264,8 +264,8 @@ module _ (c q : Cache) (i : ℕ) (ok : Servable c i) (read : Becomes (moved (vie
       wrote-becomes q i minutes (r .dirty) s (read .fields) still-in now-held (w .mark) in
       let x : State = stateOf c in
       let top : ℕ = full (itemAt (x .catalog) i .write) in
-      let twice : set (set (x .slots) i (readSlot x i)) i (written top (slotAt (put x i (readSlot x i)) i)) ≡ set (x .slots) i (written top (readSlot x i)) =
-      set-set (x .slots) i (readSlot x i) (written top (slotAt (put x i (readSlot x i)) i))
+      let twice : set (set (x .slots) i (readSlot x i)) i (written top (slotAt (putSlot x i (readSlot x i)) i)) ≡ set (x .slots) i (written top (readSlot x i)) =
+      set-set (x .slots) i (readSlot x i) (written top (slotAt (putSlot x i (readSlot x i)) i))
       ∙ ap (λ (y : Slot). set (x .slots) i (written top y)) (put-same x i (readSlot x i) (omega (arith, slots-length c, ok .item))) in
       rw (w .store)
       (record {

@@ -11,19 +11,20 @@ use lib.Seq.{getD-set-same, getD-set-other}
 use Rattle.landlord.specs.declared.Step.the-variants.{Flush}
 use Rattle.landlord.specs.Fold.{fold}
 use Rattle.landlord.specs.Slot.{isDirty, flushed, writeFirst}
-use Rattle.landlord.specs.Rule.{State, wroteBack, landed, Moved, joined, stay, slotAt, put, flush, step}
+use Rattle.landlord.specs.Rule.{State, wroteBack, flushStep, Moved, joined, stay, slotAt, putSlot, flush, step}
 use Rattle.landlord.specs.Figures.{Standing, plusTotals, adds, moved}
 use Rattle.landlord.specs.Valid.{StandingOk}
-use Rattle.marks.specs.Marks.{marks, firstSet}
+use Rattle.marks.specs.Inner.{marks, firstSet}
 use Rattle.marks.proofs.Laws.{marked-set-same, marked-set-other, NextMark, next-is}
 use Rattle.cache_state.specs.Cache.{Cache}
 use Rattle.cache_state.specs.View.{dirtyAt, slotFrom, slotOf, usageOf, catalogOf, slotsOf, usesOf, stateOf, countsOf, view}
-use Rattle.cache_state.specs.Valid.{Blank, Emptied, Normal, Valid}
-use Rattle.cache_state.specs.Becomes.{Becomes}
+use Rattle.cache_state.specs.Valid.{Normal, Valid}
+use Rattle.cache_state.specs.InnerBecomes.{Becomes}
 use Rattle.cache_state.proofs.Views.{size-is, slots-length, item-is, slot-is, from-dirty}
-use Rattle.layout.specs.Layout.{Whole}
-use Rattle.cache_serve.specs.Stores.{wroteOf, flushedOf, WroteBack}
-use Rattle.cache_serve.specs.Ready.{Steppable, Flushable}
+use Rattle.cache_state.proofs.Normals.{figures-normal}
+use Rattle.layout.specs.InnerRows.{WholeArrays}
+use Rattle.cache_serve.specs.InnerStores.{wroteBackOf, flushedOf, WroteBack}
+use Rattle.cache_serve.specs.InnerReady.{Steppable, Flushable}
 use Rattle.cache_serve.proofs.Changes.{OnlyAt, stands-but, normal-but, uses-by, plus-none}
 use Rattle.cache_serve.proofs.Bounds.{item-writebacks, write-small}
 use Rattle.cache_serve.proofs.Flushes.{writeBack, flush-first, flush-none}
@@ -46,7 +47,7 @@ dirty-in c i ok l d = go (decLt i (c .n))
   where
     go : Dec (i < c .n) → i < c .n
     go (yes m) = m
-    go (no m) = absurd (false≢true (sym (ok .past i (omega arith) l .dirty) ∙ d))
+    go (no m) = absurd (false≢true (sym (ok .past i (omega arith) l .place .slot .dirty) ∙ d))
 
 -- a dirty slot that is written back
 back-slot : (h : Bool) (a b : ℕ) → slotFrom h false a 0 ≡ flushed (slotFrom h true a b)
@@ -55,22 +56,22 @@ back-slot false a b = refl
 
 back-becomes :
     (c : Cache) (i : ℕ) (d : List ℕ) →
-    Whole c →
+    WholeArrays c →
     Normal c →
     i < c .n →
     dirtyAt c i ≡ true →
     marks d ≡ set (marks (c .dirty)) i false →
-    Becomes (moved (view c) (writeBack i (stateOf c)) (c .closed)) (wroteOf c i d)
+    Becomes (moved (view c) (writeBack i (stateOf c)) (c .closed)) (wroteBackOf c i d)
 back-becomes c i d s ok l due m =
     record {
       stands =
           stands-but c r i (wroteBack i) o (ok .few) l (λ j. refl) (simp (add-zero, item-is c i l)) (simp (one, add-zero))
-          ∙ (λ z. moved (view c) (record { state = put (stateOf c) i (slot z); events = wroteBack i ∷ [] }) (c .closed));
+          ∙ (λ z. moved (view c) (record { state = putSlot (stateOf c) i (slot z); events = wroteBack i ∷ [] }) (c .closed));
       fields = normal-but c r i o ok l (dirty-held c i ok l due) (λ q. spent);
     }
   where
     r : Cache
-    r = wroteOf c i d
+    r = wroteBackOf c i d
 
     one : getD (set (c .itemwritebacks) i (getD (c .itemwritebacks) i 0 + 1)) i 0 ≡ getD (c .itemwritebacks) i 0 + 1
     one = getD-set-same (c .itemwritebacks) i (getD (c .itemwritebacks) i 0 + 1) 0 (omega (arith, s .itemwritebacks, ok .few))
@@ -164,10 +165,10 @@ module _ (c q : Cache) (at i : ℕ) (f : Flushing c q at) (e : i ≡ at + firstS
           cost = omega (arith, f .cost, f .within);
         }
 
-    pub flush-turn : (r : Cache) → Whole q → WroteBack q i r → Flushing c r (i + 1)
+    pub flush-turn : (r : Cache) → WholeArrays q → WroteBack q i r → Flushing c r (i + 1)
     unfolding fold
     flush-turn r s w =
-        let b : Becomes (moved (view q) (writeBack i (stateOf q)) (q .closed)) (wroteOf q i (r .dirty)) =
+        let b : Becomes (moved (view q) (writeBack i (stateOf q)) (q .closed)) (wroteBackOf q i (r .dirty)) =
         back-becomes q i (r .dirty) s (f .normal) here (found .here l) (w .mark) in
         let x : State = stateOf q in
         let first : flush x ≡ joined (writeBack i x) (flush (writeBack i x .state)) =
@@ -209,30 +210,7 @@ flushed-valid c ok =
     let n : Normal c = ok .valid .fields in
     let v : StandingOk (view c) = ok .valid .rule in
     record {
-      fields =
-          record {
-            few = n .few;
-            past =
-                λ i l m.
-                let x : Blank c i = n .past i l m in
-                record {
-                  blocks = x .blocks;
-                  load = x .load;
-                  write = x .write;
-                  held = x .held;
-                  loadCredit = x .loadCredit;
-                  writeCredit = x .writeCredit;
-                  dirty = x .dirty;
-                  tenths = x .tenths;
-                  loads = x .loads;
-                  writebacks = x .writebacks;
-                };
-            absent =
-                λ i l e.
-                let x : Emptied c i = n .absent i l e in
-                record { dirty = x .dirty; loadCredit = x .loadCredit; writeCredit = x .writeCredit };
-            clean = n .clean;
-          };
+      fields = figures-normal c (c .itemwritebacks) (countsOf (flushedOf c)) (c .closed) n (λ i l m. n .past i l m .place .writebacks);
       rule =
           record {
             capacity = v .capacity;
@@ -253,18 +231,18 @@ flushed-valid c ok =
           };
     }
 
-flushed-stands : (c : Cache) → view (flushedOf c) ≡ moved (view c) (record { state = stateOf c; events = landed ∷ [] }) (c .closed)
+flushed-stands : (c : Cache) → view (flushedOf c) ≡ moved (view c) (record { state = stateOf c; events = flushStep ∷ [] }) (c .closed)
 unfolding fold catalogOf slotsOf
 flushed-stands c =
     λ z.
     record {
       k = c .k;
       state = stateOf c;
-      figures = record { totals = total z; uses = uses-by c (flushedOf c) landed refl (λ j l. plus-none (usageOf c j)) z };
+      figures = record { totals = total z; uses = uses-by c (flushedOf c) flushStep refl (λ j l. plus-none (usageOf c j)) z };
       closed = c .closed;
     }
   where
-    total : countsOf (flushedOf c) ≡ plusTotals (countsOf c) (adds (catalogOf c) landed)
+    total : countsOf (flushedOf c) ≡ plusTotals (countsOf c) (adds (catalogOf c) flushStep)
     total = simp add-zero
 
 pub flush-step-becomes :

@@ -1,2 +1,2 @@
-pub mod Stores
-pub mod Ready
+pub mod InnerStores
+pub mod InnerReady

@@ -1,5 +1,5 @@
 // Serving a request, and flushing, in place on the state's bytes: what a step of the rule does once there is room for its item.
-// The small functions store the fields of one item and count what happened to it; specs/Stores.antt says which cache the bytes are
+// The small functions store the fields of one item and count what happened to it; specs/InnerStores.antt says which cache the bytes are
 // then. The public ones say where the rule stands after it.
 ghost use Prim.Native.Nat.{_<_, _≤_};
 ghost use mathlib.Core.Path.{_≡_};
@@ -10,9 +10,10 @@ ghost use Rattle.landlord.specs.Rule.{serveRead, serveWrite, flush, step};
 ghost use Rattle.landlord.specs.Figures.{tenthsOf, moved};
 ghost use Rattle.cache_state.specs.View.{stateOf, view};
 ghost use Rattle.layout.specs.Layout.{cacheOf};
-ghost use Rattle.layout.specs.Stands.{Stands, Readable, ValidBytes, BecomesAt};
-ghost use Rattle.cache_serve.specs.Stores.{hitOf, loadedOf, refilledOf, flushedOf, WroteAt, WroteBackAt};
-ghost use Rattle.cache_serve.specs.Ready.{SteppableAt, ServableAt, WritableAt, FlushableAt};
+ghost use Rattle.layout.specs.Inner.{Stands, Readable, BecomesAt};
+ghost use Rattle.layout.specs.Valid.{ValidBytes};
+ghost use Rattle.cache_serve.specs.InnerStores.{hitOf, loadedOf, refilledOf, flushedOf, WroteAt, WroteBackAt};
+ghost use Rattle.cache_serve.specs.InnerReady.{SteppableAt, ServableAt, WritableAt, FlushableAt};
 
 // A cost as it is added to a sum of costs.
 fn cost(price: u16) -> u64

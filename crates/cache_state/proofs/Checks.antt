@@ -1,4 +1,4 @@
--- The check of validity, put together: what the parts of it decide (specs/Parts.antt) is validity, no less and no more; and the
+-- The check of validity, put together: what the parts of it decide (specs/InnerParts.antt) is validity, no less and no more; and the
 -- laws of the sums that its loops make. Assumes nothing.
 use mathlib.Core.Path.{_≡_, refl, sym, ap, _∙_}
 use mathlib.Core.Bool.{Bool, true, false, not, cond}
@@ -8,19 +8,22 @@ use native.Mathlib.Numerals.{add-one}
 use native.Mathlib.Omega.{arith}
 use lib.ListN.{getD}
 use Rattle.landlord.specs.Fold.{sumTo}
-use Rattle.landlord.specs.Catalog.{ItemOk, itemAt}
+use Rattle.landlord.specs.Catalog.{itemAt}
 use Rattle.landlord.specs.Slot.{isDirty, loadCredit, writeCredit}
 use Rattle.landlord.specs.Rule.{size, slotAt}
 use Rattle.landlord.specs.Figures.{Use, useAt}
 use Rattle.landlord.specs.Claims.{SlotKept}
 use Rattle.landlord.specs.Valid.{dirtyCount, StandingOk}
+use Rattle.landlord.specs.Inner.{ItemFacts}
 use Rattle.landlord.proofs.Sums.{sum-eq}
-use Rattle.marks.specs.Marks.{marked, tabFrom, marks, countSet}
+use Rattle.landlord.proofs.Ranges.{catalog-facts, catalog-ok, capacity-facts, capacity-ok}
+use Rattle.marks.specs.Marks.{marked}
+use Rattle.marks.specs.Inner.{marksFrom, marks, countSet}
 use Rattle.cache_state.specs.Cache.{Cache}
 use Rattle.cache_state.specs.View.{itemOf, dirtyAt, catalogOf, stateOf, countsOf, figuresOf, view}
 use Rattle.cache_state.specs.Valid.{Normal, Valid}
-use Rattle.validity.specs.Tests.{CountsOk}
-use Rattle.cache_state.specs.Parts.{PastOk, EntryAt, EntriesOk, SumsOf}
+use Rattle.validity.specs.Inner.{CountsOk}
+use Rattle.cache_state.specs.InnerParts.{PastOk, EntryAt, EntriesOk, SumsOf}
 use Rattle.validity.specs.Decided.{Decided}
 use Rattle.validity.proofs.Decides.{no, sure, denied}
 use Rattle.cache_state.proofs.Views.{size-is, slots-length, uses-length, item-is, slot-is, use-is, from-dirty, from-load, from-write}
@@ -53,8 +56,8 @@ sum-cut m (suc n) f h =
 
 -- ---- the dirty items are those marked
 
-count-sum : (n : ℕ) (f : ℕ → Bool) (i : ℕ) → countSet (tabFrom n f i) ≡ sumTo n (λ j. cond (f (i + j)) 1 0)
-unfolding tabFrom countSet sumTo
+count-sum : (n : ℕ) (f : ℕ → Bool) (i : ℕ) → countSet (marksFrom n f i) ≡ sumTo n (λ j. cond (f (i + j)) 1 0)
+unfolding marksFrom countSet sumTo
 count-sum zero f i = refl
 count-sum (suc n) f i =
     let g : ℕ → ℕ = λ j. cond (f (i + j)) 1 0 in
@@ -62,7 +65,7 @@ count-sum (suc n) f i =
     sum-eq n _ _ (λ j l. let q : suc i + j ≡ i + suc j = omega arith in ap (λ (z : ℕ). cond (f z) 1 0) q) in
     let z : i + 0 ≡ i = omega arith in
     let first : g 0 ≡ cond (f i) 1 0 = ap (λ (x : ℕ). cond (f x) 1 0) z in
-    omega (arith, one (f i) (tabFrom n f (suc i)), count-sum n f (suc i), e, sum-front n g, first)
+    omega (arith, one (f i) (marksFrom n f (suc i)), count-sum n f (suc i), e, sum-front n g, first)
   where
     one : (b : Bool) (bs : List Bool) → countSet (b ∷ bs) ≡ cond b 1 0 + countSet bs
     one true bs = omega arith
@@ -87,7 +90,7 @@ dirty-count c v =
     let e : 256 ≡ (256 - c .n) + c .n = omega (arith, v .few) in
     ap (λ (m : ℕ). sumTo m (λ i. cond (isDirty (slotAt (stateOf c) i)) 1 0)) (size-is c)
     ∙ sum-eq (c .n) _ _ (λ i l. λ z. cond (dirty-is c i l (λ a. v .absent i l a .dirty) z) 1 0)
-    ∙ sym (sum-cut (c .n) (256 - c .n) (λ i. cond (dirtyAt c i) 1 0) (λ i l b. ap (λ (t : Bool). cond t 1 0) (v .past i l (omega (arith, v .few)) .dirty)))
+    ∙ sym (sum-cut (c .n) (256 - c .n) (λ i. cond (dirtyAt c i) 1 0) (λ i l b. ap (λ (t : Bool). cond t 1 0) (v .past i l (omega (arith, v .few)) .place .slot .dirty)))
     ∙ ap (λ (m : ℕ). sumTo m (λ i. cond (dirtyAt c i) 1 0)) (sym e)
     ∙ sum-eq 256 _ _ (λ i l. let q : i ≡ 0 + i = omega arith in ap (λ (z : ℕ). cond (dirtyAt c z) 1 0) q)
     ∙ sym (count-sum 256 (marked (c .dirty)) 0)
@@ -171,7 +174,7 @@ valid-of c w p = record { fields = v; rule = rule }
     below : (i : ℕ) → i < size (stateOf c) → i < c .n
     below i l = rw (size-is c) at l
 
-    item : (i : ℕ) → i < c .n → ItemOk (itemAt (catalogOf c) i)
+    item : (i : ℕ) → i < c .n → ItemFacts (itemAt (catalogOf c) i)
     item i l =
         let o : EntryAt c i = p .entries .each i l in
         rw (item-is c i l) record { some = o .some; small = o .small; load = w .load i; write = w .write i }
@@ -179,10 +182,10 @@ valid-of c w p = record { fields = v; rule = rule }
     rule : StandingOk (view c)
     rule =
         record {
-          capacity = record { low = p .counts .low; high = p .counts .high };
+          capacity = capacity-ok (c .k) (record { low = p .counts .low; high = p .counts .high });
           kept =
               record {
-                catalog = record { few = rw (size-is c) (p .few); each = λ i l. item i (below i l) };
+                catalog = catalog-ok (catalogOf c) (record { few = rw (size-is c) (p .few); each = λ i l. item i (below i l) });
                 slots = slots-length c ∙ sym (size-is c);
                 slot = λ i l. slot-of c v i (below i l) (p .entries .each i (below i l));
                 room = p .sums .room;
@@ -198,15 +201,15 @@ valid-of c w p = record { fields = v; rule = rule }
           uses = uses-length c ∙ sym (size-is c);
           loadsAdd = sum-loads c ∙ p .sums .loadsAdd;
           writebacksAdd = sum-writebacks c ∙ p .sums .writebacksAdd;
-          tenths = λ i l. rw (use-is c i (below i l)) (p .entries .each i (below i l) .hours);
+          tenths = λ i l. rw (use-is c i (below i l)) (p .entries .each i (below i l) .tenthsTop);
           closed = λ e i l. dirty-here c v i (below i l) ∙ p .entries .each i (below i l) .marks .closedClean e;
         }
 
 entry-of : (c : Cache) → Valid c → (i : ℕ) → i < c .n → EntryAt c i
 entry-of c o i l =
     record {
-      some = rw (item-is c i l) at (o .rule .kept .catalog .each i m .some);
-      small = rw (item-is c i l) at (o .rule .kept .catalog .each i m .small);
+      some = rw (item-is c i l) at (catalog-facts (catalogOf c) (o .rule .kept .catalog) .each i m .some);
+      small = rw (item-is c i l) at (catalog-facts (catalogOf c) (o .rule .kept .catalog) .each i m .small);
       marks =
           record {
             absentClean = λ e. v .absent i l e .dirty;
@@ -216,7 +219,7 @@ entry-of c o i l =
           };
       loads = record { whole = rw (load-here c v i l) at (s .wholeLoad); top = rw (load-here c v i l) at (s .loadTop) };
       writes = record { whole = rw (write-here c v i l) at (s .wholeWrite); top = rw (write-here c v i l) at (s .writeTop) };
-      hours = rw (use-is c i l) at (o .rule .tenths i m);
+      tenthsTop = rw (use-is c i l) at (o .rule .tenths i m);
     }
   where
     v : Normal c
@@ -244,8 +247,8 @@ parts-of c o =
           };
       counts =
           record {
-            low = o .rule .capacity .low;
-            high = o .rule .capacity .high;
+            low = capacity-facts (c .k) (o .rule .capacity) .low;
+            high = capacity-facts (c .k) (o .rule .capacity) .high;
             steps = o .rule .steps;
             taken = o .rule .taken;
             dirtyEvictions = o .rule .dirtyEvictions;

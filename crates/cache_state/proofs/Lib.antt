@@ -1,3 +1,4 @@
 pub mod Views
 pub mod Checks
+pub mod Normals
 pub mod Tells

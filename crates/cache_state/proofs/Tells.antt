@@ -12,12 +12,12 @@ use Rattle.landlord.specs.Catalog.{Item, itemAt}
 use Rattle.landlord.specs.Slot.{held, isDirty, loadCredit, writeCredit}
 use Rattle.landlord.specs.Rule.{size, slotAt}
 use Rattle.landlord.specs.Figures.{Standing, Use, useAt}
-use Rattle.marks.specs.Marks.{marks}
+use Rattle.marks.specs.Inner.{marks}
 use Rattle.marks.proofs.Laws.{length-marks, marked-at, marks-tell}
 use Rattle.cache_state.specs.Cache.{Cache}
 use Rattle.cache_state.specs.View.{itemOf, usageOf, stateOf, view}
 use Rattle.cache_state.specs.Valid.{Normal, Valid}
-use Rattle.cache_state.specs.Becomes.{Becomes}
+use Rattle.cache_state.specs.InnerBecomes.{Becomes}
 use Rattle.cache_state.proofs.Views.{size-is, item-is, use-is, held-is}
 use Rattle.cache_state.proofs.Checks.{dirty-here, load-here, write-here}
 
@@ -78,27 +78,27 @@ module _ (c d : Cache) (sc : Sizes c) (sd : Sizes d) (nc : Normal c) (nd : Norma
 
   same-held : c .held ≡ d .held
   same-held =
-      agree false (c .held) (d .held) (sc .held) (sd .held) (λ i l m. sym (held-is c i l) ∙ ap held (slot i) ∙ held-is d i m) (λ i l b. nc .past i l b .held) (λ i l b. nd .past i l b .held)
+      agree false (c .held) (d .held) (sc .held) (sd .held) (λ i l m. sym (held-is c i l) ∙ ap held (slot i) ∙ held-is d i m) (λ i l b. nc .past i l b .place .held) (λ i l b. nd .past i l b .place .held)
 
   same-loadcredit : c .loadcredit ≡ d .loadcredit
   same-loadcredit =
-      agree 0 (c .loadcredit) (d .loadcredit) (sc .loadCredit) (sd .loadCredit) (λ i l m. sym (load-here c nc i l) ∙ ap loadCredit (slot i) ∙ load-here d nd i m) (λ i l b. nc .past i l b .loadCredit) (λ i l b. nd .past i l b .loadCredit)
+      agree 0 (c .loadcredit) (d .loadcredit) (sc .loadCredit) (sd .loadCredit) (λ i l m. sym (load-here c nc i l) ∙ ap loadCredit (slot i) ∙ load-here d nd i m) (λ i l b. nc .past i l b .place .slot .loadCredit) (λ i l b. nd .past i l b .place .slot .loadCredit)
 
   same-writecredit : c .writecredit ≡ d .writecredit
   same-writecredit =
-      agree 0 (c .writecredit) (d .writecredit) (sc .writeCredit) (sd .writeCredit) (λ i l m. sym (write-here c nc i l) ∙ ap writeCredit (slot i) ∙ write-here d nd i m) (λ i l b. nc .past i l b .writeCredit) (λ i l b. nd .past i l b .writeCredit)
+      agree 0 (c .writecredit) (d .writecredit) (sc .writeCredit) (sd .writeCredit) (λ i l m. sym (write-here c nc i l) ∙ ap writeCredit (slot i) ∙ write-here d nd i m) (λ i l b. nc .past i l b .place .slot .writeCredit) (λ i l b. nd .past i l b .place .slot .writeCredit)
 
   same-tenths : c .tenths ≡ d .tenths
   same-tenths =
-      agree 0 (c .tenths) (d .tenths) (sc .tenths) (sd .tenths) (λ i l m. ap (λ (u : Use). u .tenths) (line i l m)) (λ i l b. nc .past i l b .tenths) (λ i l b. nd .past i l b .tenths)
+      agree 0 (c .tenths) (d .tenths) (sc .tenths) (sd .tenths) (λ i l m. ap (λ (u : Use). u .tenths) (line i l m)) (λ i l b. nc .past i l b .place .tenths) (λ i l b. nd .past i l b .place .tenths)
 
   same-itemloads : c .itemloads ≡ d .itemloads
   same-itemloads =
-      agree 0 (c .itemloads) (d .itemloads) (sc .loads) (sd .loads) (λ i l m. ap (λ (u : Use). u .loads) (line i l m)) (λ i l b. nc .past i l b .loads) (λ i l b. nd .past i l b .loads)
+      agree 0 (c .itemloads) (d .itemloads) (sc .loads) (sd .loads) (λ i l m. ap (λ (u : Use). u .loads) (line i l m)) (λ i l b. nc .past i l b .place .loads) (λ i l b. nd .past i l b .place .loads)
 
   same-itemwritebacks : c .itemwritebacks ≡ d .itemwritebacks
   same-itemwritebacks =
-      agree 0 (c .itemwritebacks) (d .itemwritebacks) (sc .writebacks) (sd .writebacks) (λ i l m. ap (λ (u : Use). u .writebacks) (line i l m)) (λ i l b. nc .past i l b .writebacks) (λ i l b. nd .past i l b .writebacks)
+      agree 0 (c .itemwritebacks) (d .itemwritebacks) (sc .writebacks) (sd .writebacks) (λ i l m. ap (λ (u : Use). u .writebacks) (line i l m)) (λ i l b. nc .past i l b .place .writebacks) (λ i l b. nd .past i l b .place .writebacks)
 
   same-marks : marks (c .dirty) ≡ marks (d .dirty)
   same-marks =
@@ -107,8 +107,8 @@ module _ (c d : Cache) (sc : Sizes c) (sd : Sizes d) (nc : Normal c) (nd : Norma
       marked-at (c .dirty) i (omega (arith, nc .few))
       ∙ sym (dirty-here c nc i l) ∙ ap isDirty (slot i) ∙ dirty-here d nd i m
       ∙ sym (marked-at (d .dirty) i (omega (arith, nc .few))))
-      (λ i l b. marked-at (c .dirty) i b ∙ nc .past i l b .dirty)
-      (λ i l b. marked-at (d .dirty) i b ∙ nd .past i l b .dirty)
+      (λ i l b. marked-at (c .dirty) i b ∙ nc .past i l b .place .slot .dirty)
+      (λ i l b. marked-at (d .dirty) i b ∙ nd .past i l b .place .slot .dirty)
 
   same-dirty : c .dirty ≡ d .dirty
   same-dirty = marks-tell (c .dirty) (d .dirty) (sc .dirty) (sd .dirty) (sc .words) (sd .words) same-marks

@@ -1,6 +1,6 @@
 pub mod Cache
 pub mod View
 pub mod Valid
-pub mod Becomes
-pub mod Parts
-pub mod With
+pub mod InnerBecomes
+pub mod InnerParts
+pub mod InnerWith

@@ -7,24 +7,26 @@ use Rattle.landlord.specs.Valid.{StandingOk}
 use Rattle.cache_state.specs.Cache.{Cache}
 use Rattle.cache_state.specs.View.{dirtyAt, view}
 
--- a place past the catalog: "empty, with counts 0", and 0 in the catalog's arrays too
-pub record Blank (c : Cache) (i : ℕ) : Type 0 where
-  pub blocks : getD (c .blocks) i 0 ≡ 0
-  pub load : getD (c .load) i 0 ≡ 0
-  pub write : getD (c .write) i 0 ≡ 0
-  pub held : getD (c .held) i false ≡ false
-  pub loadCredit : getD (c .loadcredit) i 0 ≡ 0
-  pub writeCredit : getD (c .writecredit) i 0 ≡ 0
-  pub dirty : dirtyAt c i ≡ false
-  pub tenths : getD (c .tenths) i 0 ≡ 0
-  pub loads : getD (c .itemloads) i 0 ≡ 0
-  pub writebacks : getD (c .itemwritebacks) i 0 ≡ 0
-
 -- "a sail not held is clean with credits 0"
 pub record Emptied (c : Cache) (i : ℕ) : Type 0 where
   pub dirty : dirtyAt c i ≡ false
   pub loadCredit : getD (c .loadcredit) i 0 ≡ 0
   pub writeCredit : getD (c .writecredit) i 0 ≡ 0
+
+-- an empty place: nothing is held there and nothing counted
+pub record EmptyPlace (c : Cache) (i : ℕ) : Type 0 where
+  pub held : getD (c .held) i false ≡ false
+  pub slot : Emptied c i
+  pub tenths : getD (c .tenths) i 0 ≡ 0
+  pub loads : getD (c .itemloads) i 0 ≡ 0
+  pub writebacks : getD (c .itemwritebacks) i 0 ≡ 0
+
+-- a place past the catalog: "empty, with counts 0", and 0 in the catalog's arrays too
+pub record Blank (c : Cache) (i : ℕ) : Type 0 where
+  pub place : EmptyPlace c i
+  pub blocks : getD (c .blocks) i 0 ≡ 0
+  pub load : getD (c .load) i 0 ≡ 0
+  pub write : getD (c .write) i 0 ≡ 0
 
 -- The sentences on the fields themselves. Flags have no other values than true and false, and every number of a field is one
 -- that its layout allows.

@@ -14,19 +14,21 @@ use Rattle.landlord.specs.Types.{stepKind, stepItem, stepMinutes}
 use Rattle.landlord.specs.Catalog.{Catalog, itemAt}
 use Rattle.landlord.specs.Slot.{writeFirst}
 use Rattle.landlord.specs.Figures.{Standing}
-use Rattle.landlord.specs.Calls.{Call, take, close, callOf, stepOf, inRange, itemRefusal, refusalAt, refusalNow, after}
+use Rattle.landlord.specs.Calls.{Call, stepCall, close, callOf, stepOf, inRange, itemRefusal, refusalAt, refusalNow, after}
 use Rattle.landlord.proofs.Folds.{either}
 use Rattle.cache_state.specs.View.{view}
 use Rattle.cache_state.specs.Valid.{Valid}
 use Rattle.layout.specs.Layout.{cacheOf}
-use Rattle.layout.specs.Stands.{Stands, ValidBytes}
+use Rattle.layout.specs.Inner.{Stands}
+use Rattle.layout.specs.Valid.{ValidBytes}
 use Rattle.cache.specs.Contract.{lent, Called}
 use Rattle.cache.specs.Run.{callFrom}
 use Rattle.cache.proofs.Calls.{invalid-called, refused-answers}
 use Rattle.cache_value.specs.declared.Cache.{Cache}
 use Rattle.cache_value.specs.declared.Answered.{Answered}
 use Rattle.cache_value.specs.Struct.{recordOf, byValue}
-use Rattle.cache_value.specs.Contract.{CalledBy, CallNumber, Numbered}
+use Rattle.cache_value.specs.Contract.{CalledBy}
+use Rattle.cache_value.specs.Inner.{CallNumber, AnswerNumbered}
 
 -- a cache of more items than there are places is refused with 17
 pub many-called : (c : Cache) (call : Call) → 256 < c .n → Called byValue c call 17 c
@@ -67,7 +69,7 @@ module _ {b : List ℕ} (c : Cache) (s : Stands b (recordOf c)) where
       }
 
 -- a call from four numbers
-pub call-takes : (b left : List ℕ) (which kind i m n : ℕ) → which ≡ 0 → Called lent b (take kind i m) n left → Called lent b (callFrom which kind i m) n left
+pub call-takes : (b left : List ℕ) (which kind i m n : ℕ) → which ≡ 0 → Called lent b (stepCall kind i m) n left → Called lent b (callFrom which kind i m) n left
 call-takes b left which kind i m n e h = rw (eq-eqb which 0 e) h
 
 pub call-closes : (b left : List ℕ) (which kind i m n : ℕ) → which ≢ 0 → Called lent b close n left → Called lent b (callFrom which kind i m) n left
@@ -77,7 +79,7 @@ call-closes b left which kind i m n e h = rw (ne-eqb which 0 e) h
 table-number : (P : ℕ → Type 0) (v : Standing) (call : Call) → P 0 → P 3 → P 6 → P 7 → P 8 → P 9 → P (refusalNow v call)
 unfolding refusalAt
 table-number P v close p0 p3 p6 p7 p8 p9 = either P (v .closed) 9 0 (λ z. p9) (λ z. p0)
-table-number P v (take kind i m) p0 p3 p6 p7 p8 p9 =
+table-number P v (stepCall kind i m) p0 p3 p6 p7 p8 p9 =
     either P (v .closed) 9 _ (λ z. p9)
     (λ z. either P (leb 1000000 (v .figures .totals .steps)) 8 _ (λ y. p8)
     (λ y. either P (inRange kind i m) _ 3 (λ x. asks (stepOf kind i m)) (λ x. p3)))
@@ -99,7 +101,7 @@ call-number {c = c} {call = call} {n = n} h =
     record { last = λ p q r s t u. h .invalid (λ ok. table-number (λ (m : ℕ). n ≢ m) (byValue .view c) call p q r s t u (h .fine ok .answer)) .0 }
 
 -- a reply's number as an answer
-pub answered : (c d : Cache) (call : Call) (n : ℕ) (r : Answered) → Called byValue c call n d → Numbered n (r .answer) → r .cache ≡ d → CalledBy c call r
+pub answered : (c d : Cache) (call : Call) (n : ℕ) (r : Answered) → Called byValue c call n d → AnswerNumbered n (r .answer) → r .cache ≡ d → CalledBy c call r
 answered c d call n r h a e =
     record {
       called = subst (λ (m : ℕ). Called byValue c call m (r .cache)) (sym (a .number)) (subst (λ (z : Cache). Called byValue c call n z) (sym e) h);
@@ -112,6 +114,6 @@ pub called-as :
     kind ≡ stepKind s →
     i ≡ stepItem s →
     m ≡ stepMinutes s →
-    Called byValue c (take kind i m) n d →
+    Called byValue c (stepCall kind i m) n d →
     Called byValue c (callOf s) n d
-called-as c d s n p q w h = subst (λ (z : Call). Called byValue c z n d) (λ j. take (p j) (q j) (w j)) h
+called-as c d s n p q w h = subst (λ (z : Call). Called byValue c z n d) (λ j. stepCall (p j) (q j) (w j)) h

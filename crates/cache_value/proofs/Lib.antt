@@ -1,5 +1,4 @@
 mod Openings
-mod Stores
 mod Calls
 pub mod Season
 mod Runs

@@ -5,30 +5,31 @@ use mathlib.Core.Bool.{Bool, true, false, cond, _&&_}
 use mathlib.Core.List.{List, []}
 use Prim.Native.Nat.{ℕ, _+_, _≤_, _<_}
 use native.Mathlib.Omega.{arith}
-use lib.Dec.{eqb, leb}
+use lib.Dec.{eqb}
 use lib.ListN.{length, getD, set, replicate, getD-replicate}
 use lib.Seq.{getD-set-same, getD-set-other}
 use borrow.Author.Count.{below-more}
 use Rattle.landlord.specs.Fold.{tabFrom, fold}
-use Rattle.landlord.specs.Catalog.{Catalog, Item, CapacityOk, CatalogOk, ItemOk, itemAt, noItem}
+use Rattle.landlord.specs.Catalog.{Catalog, Item, CapacityOk, CatalogOk, itemAt, noItem, allInRange, catalogInRange, capacityInRange}
 use Rattle.landlord.specs.Rule.{flush, writeBacks}
 use Rattle.landlord.specs.Figures.{opened, closes}
-use Rattle.landlord.specs.Calls.{openingRefusal, allInRange}
+use Rattle.landlord.specs.Calls.{openingRefusal}
 use Rattle.landlord.specs.Valid.{StandingOk}
+use Rattle.landlord.specs.Inner.{ItemFacts}
 use Rattle.landlord.proofs.Folds.{either, tab-length, tab-at}
-use Rattle.landlord.proofs.Calls.{opening-taken, opening-accepts}
 use Rattle.landlord.proofs.Valid.{ok-opened, ok-closes}
+use Rattle.landlord.proofs.Ranges.{catalog-facts, catalog-ok, capacity-facts, capacity-ok, opening-accepts, range-refused}
 use Rattle.validity.specs.Decided.{Decided}
-use Rattle.cache_state.specs.Becomes.{Becomes}
+use Rattle.cache_state.specs.Valid.{EmptyPlace}
+use Rattle.cache_state.specs.InnerBecomes.{Becomes}
 use Rattle.cache_state.specs.Cache as records
-use Rattle.cache.specs.Contract.{EmptyPlace}
-use Rattle.cache.specs.Opening.{emptyWith}
+use Rattle.cache.specs.Inner.{emptyWith}
 use Rattle.cache.proofs.Empty.{empty-place, empty-becomes}
 use Rattle.cache_value.specs.declared.Cache.{Cache}
 use Rattle.cache_value.specs.declared.Answered.{Answered}
 use Rattle.cache_value.specs.Struct.{recordOf}
-use Rattle.cache_value.specs.Opening.{FirstOf, BlocksOk, Opens}
-use Rattle.cache_value.specs.Contract.{catalogFrom, refusedOpening, Opened, OpenedBy, CallNumber, Numbered}
+use Rattle.cache_value.specs.Inner.{FirstOf, BlocksOk, Opens, CallNumber, AnswerNumbered}
+use Rattle.cache_value.specs.Contract.{catalogFrom, refusedOpening, Opened, OpenedBy}
 
 -- ---- the tests
 
@@ -43,15 +44,6 @@ more-blocks bs i ok low high =
 pub opens-so : (k n : ℕ) (blocks : List ℕ) (r : Bool) → 1 ≤ k → k ≤ 4096 → n ≤ 256 → Decided (BlocksOk n blocks) r → Decided (Opens k n blocks) r
 opens-so k n blocks r low high few d =
     record { yes = λ e. record { low = low; high = high; few = few; each = d .yes e }; only = λ o. d .only (o .each) }
-
--- an opening that asks for something out of range is refused
-refuses : (k : ℕ) (cat : Catalog) → (CapacityOk k × CatalogOk cat → ⊥) → 3 ≡ openingRefusal k cat
-unfolding openingRefusal
-refuses k cat none = go (leb 1 k && leb k 4096 && leb (length cat) 256 && allInRange cat) refl
-  where
-    go : (t : Bool) → leb 1 k && leb k 4096 && leb (length cat) 256 && allInRange cat ≡ t → _≡_ {A = ℕ} 3 (cond t 0 3)
-    go true e = absurd (none (opening-taken k cat (unfold openingRefusal in rw e)))
-    go false e = refl
 
 -- ---- the copied arrays
 
@@ -93,10 +85,10 @@ refused-ok : StandingOk refusedOpening
 refused-ok = unfold closes flush writeBacks tabFrom fold in ok-closes (opened 1 []) (ok-opened 1 [] size none)
   where
     size : CapacityOk 1
-    size = record { low = omega arith; high = omega arith }
+    size = refl
 
     none : CatalogOk []
-    none = record { few = omega arith; each = λ i l. absurd (let z : i < 0 = l in omega arith) }
+    none = unfold catalogInRange allInRange in refl
 
 -- the opening's tests are the table's: costs of 16 bits are in range
 module _ (k n : ℕ) (blocks load write : List ℕ) where
@@ -115,18 +107,18 @@ module _ (k n : ℕ) (blocks load write : List ℕ) where
   item-from i l = tab-at n item i noItem l
 
   opens-from : CapacityOk k × CatalogOk cat → Opens k n blocks
-  opens-from f = record { low = f .0 .low; high = f .0 .high; few = omega (arith, f .1 .few, length-from); each = record { some = λ i l. at i l .some; small = λ i l. at i l .small } }
+  opens-from f = record { low = capacity-facts k (f .0) .low; high = capacity-facts k (f .0) .high; few = omega (arith, catalog-facts cat (f .1) .few, length-from); each = record { some = λ i l. at i l .some; small = λ i l. at i l .small } }
     where
-      at : (i : ℕ) → i < n → ItemOk (item i)
-      at i l = subst ItemOk (item-from i l) (f .1 .each i (omega (arith, length-from)))
+      at : (i : ℕ) → i < n → ItemFacts (item i)
+      at i l = subst ItemFacts (item-from i l) (catalog-facts cat (f .1) .each i (omega (arith, length-from)))
 
   in-range : Opens k n blocks → ((i : ℕ) → getD load i 0 ≤ 65535) → ((i : ℕ) → getD write i 0 ≤ 65535) → CatalogOk cat
-  in-range o fl fw = record { few = omega (arith, length-from, o .few); each = at }
+  in-range o fl fw = catalog-ok cat (record { few = omega (arith, length-from, o .few); each = at })
     where
-      at : (i : ℕ) → i < length cat → ItemOk (itemAt cat i)
+      at : (i : ℕ) → i < length cat → ItemFacts (itemAt cat i)
       at i l =
           let m : i < n = omega (arith, length-from) in
-          subst ItemOk (sym (item-from i m)) (record { some = o .each .some i m; small = o .each .small i m; load = fl i; write = fw i })
+          subst ItemFacts (sym (item-from i m)) (record { some = o .each .some i m; small = o .each .small i m; load = fl i; write = fw i })
 
   pub open-taken :
       {b l w : List ℕ} (c : Cache) →
@@ -140,7 +132,7 @@ module _ (k n : ℕ) (blocks load write : List ℕ) where
       Opened k cat 0 c
   unfolding catalogFrom
   open-taken {b = b} {l = l} {w = w} c o fb fl fw ll lw e =
-      let room : CapacityOk k = record { low = o .low; high = o .high } in
+      let room : CapacityOk k = capacity-ok k (record { low = o .low; high = o .high }) in
       let good : CatalogOk cat = in-range o ll lw in
       stood k cat 0 c (sym (opening-accepts k cat room good)) (ok-opened k cat room good)
       (empty-becomes k n item false b l w (o .few) fb fl fw) (empty-place k n b l w false) e
@@ -152,7 +144,7 @@ module _ (k n : ℕ) (blocks load write : List ℕ) where
       Opened k cat 3 c
   unfolding tabFrom
   open-refused c none e =
-      stood k cat 3 c (refuses k cat (λ f. none (opens-from f))) refused-ok
+      stood k cat 3 c (range-refused k cat (λ f. none (opens-from f))) refused-ok
       (empty-becomes 1 0 item true (replicate 256 0) (replicate 256 0) (replicate 256 0) (omega arith) (first-none blocks) (first-none load) (first-none write))
       (empty-place 1 0 (replicate 256 0) (replicate 256 0) (replicate 256 0) true) e
 
@@ -164,10 +156,10 @@ unfolding openingRefusal
 opening-number {k = k} {cat = cat} {n = n} o =
     record {
       last = λ p q r s t u.
-          absurd (either (λ (m : ℕ). n ≢ m) (leb 1 k && leb k 4096 && leb (length cat) 256 && allInRange cat) 0 3 (λ z. p) (λ z. q) (o .answer));
+          absurd (either (λ (m : ℕ). n ≢ m) (capacityInRange k && catalogInRange cat) 0 3 (λ z. p) (λ z. q) (o .answer));
     }
 
-pub opened-as : (k : ℕ) (cat : Catalog) (n : ℕ) (c : Cache) (r : Answered) → Opened k cat n c → Numbered n (r .answer) → r .cache ≡ c → OpenedBy k cat r
+pub opened-as : (k : ℕ) (cat : Catalog) (n : ℕ) (c : Cache) (r : Answered) → Opened k cat n c → AnswerNumbered n (r .answer) → r .cache ≡ c → OpenedBy k cat r
 opened-as k cat n c r o a e =
     record {
       opening = subst (λ (m : ℕ). Opened k cat m (r .cache)) (sym (a .number)) (subst (Opened k cat n) (sym e) o);

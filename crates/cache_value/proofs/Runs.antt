@@ -13,24 +13,25 @@ use Rattle.landlord.specs.Calls.{Call}
 use Rattle.cache_state.specs.View.{view}
 use Rattle.cache_state.specs.Valid.{Valid}
 use Rattle.layout.specs.Layout.{cacheOf}
-use Rattle.layout.specs.Stands.{Stands}
+use Rattle.layout.specs.Inner.{Stands}
 use Rattle.cache.specs.Contract.{lent}
-use Rattle.cache.specs.Chain.{Bounded, Begins, Season}
+use Rattle.cache.specs.Chain.{Bounded, BeginsAt, Season}
 use Rattle.cache.specs.Run.{RanCalls}
 use Rattle.cache.proofs.Season.{season-theorem}
 use Rattle.cache_value.specs.declared.Cache.{Cache}
 use Rattle.cache_value.specs.declared.Answered.{Answered}
 use Rattle.cache_value.specs.declared.Answer.the-variants.{Taken}
 use Rattle.cache_value.specs.Struct.{recordOf, byValue}
-use Rattle.cache_value.specs.Contract.{refusedOpening, Opened, Numbered}
+use Rattle.cache_value.specs.Contract.{refusedOpening, Opened}
 use Rattle.cache_value.specs.Chain.{SeasonByValue, Ran}
+use Rattle.cache_value.specs.Inner.{AnswerNumbered}
 use Rattle.cache_value.proofs.Calls.{valid-there, same-view}
 
 pub run-refused :
     (k : ℕ) (cat : Catalog) (calls : List Call) (before : List ℕ) (n : ℕ) (c : Cache) (r : Answered) →
     Opened k cat n c →
     n ≢ 0 →
-    Numbered n (r .answer) →
+    AnswerNumbered n (r .answer) →
     r .cache ≡ c →
     Ran k cat calls before before r
 run-refused k cat calls before n c r o d a e =
@@ -43,7 +44,7 @@ run-refused k cat calls before n c r o d a e =
     }
 
 -- the bytes of an opened cache begin a season in place
-bytes-begin : (k : ℕ) (cat : Catalog) (n : ℕ) (c : Cache) (b : List ℕ) → Opened k cat n c → n ≡ 0 → Stands b (recordOf c) → Begins lent k cat b
+bytes-begin : (k : ℕ) (cat : Catalog) (n : ℕ) (c : Cache) (b : List ℕ) → Opened k cat n c → n ≡ 0 → Stands b (recordOf c) → BeginsAt lent k cat b
 bytes-begin k cat n c b o z s =
     record {
       accepted = sym (o .answer) ∙ z;
@@ -53,7 +54,7 @@ bytes-begin k cat n c b o z s =
 
 -- the conclusions for bytes are those for the struct that they stand for
 season-carried : (k : ℕ) (cat : Catalog) (calls : List Call) (numbers left : List ℕ) (d : Cache) → recordOf d ≡ cacheOf left → Season lent k cat calls numbers left → SeasonByValue k cat calls numbers d
-season-carried k cat calls numbers left d e s = record { season = season; wear = season .wear }
+season-carried k cat calls numbers left d e s = record { season = season; cost = season .cost }
   where
     season : Season byValue k cat calls numbers d
     season =
@@ -61,7 +62,7 @@ season-carried k cat calls numbers left d e s = record { season = season; wear =
           answers = s .answers;
           valid = subst Valid (sym e) (s .valid .cache);
           stands = ap view e ∙ s .stands;
-          wear = λ closing. subst (λ (v : Standing). Bounded k cat calls (totalCost (v .figures))) (sym (ap view e)) (s .wear closing);
+          cost = λ closing. subst (λ (v : Standing). Bounded k cat calls (totalCost (v .figures))) (sym (ap view e)) (s .cost closing);
         }
 
 pub run-taken :

@@ -5,8 +5,8 @@ use Prim.Native.Nat.{ℕ, zero, suc}
 use lib.ListN.{getD, length-map}
 use Rattle.landlord.specs.Catalog.{Catalog}
 use Rattle.landlord.specs.Calls.{Call}
-use Rattle.cache.specs.Chain.{Follows, none, then, Begins, Season}
-use Rattle.cache.proofs.Season.{season-theorem}
+use Rattle.cache.specs.Chain.{Follows, none, then, BeginsAt, Season, Prefix}
+use Rattle.cache.proofs.Season.{season-theorem, season-prefix}
 use Rattle.cache_value.specs.declared.Cache.{Cache}
 use Rattle.cache_value.specs.declared.Answer.{Answer}
 use Rattle.cache_value.specs.declared.Answer.the-variants.{Taken}
@@ -15,14 +15,21 @@ use Rattle.cache_value.specs.Contract.{Opened, answerNumber, answerLine}
 use Rattle.cache_value.specs.Chain.{Chain, SeasonByValue, FollowsBy, noCall, thenCall, ChainBy, SeasonByMethods}
 
 -- an opening that was not refused
-value-begins : (k : ℕ) (cat : Catalog) (first : Cache) → Opened k cat 0 first → Begins byValue k cat first
+value-begins : (k : ℕ) (cat : Catalog) (first : Cache) → Opened k cat 0 first → BeginsAt byValue k cat first
 value-begins k cat first o = record { accepted = sym (o .answer); valid = o .valid; stands = o .stands }
 
 -- Demand 3 by value.
 pub season-by-value : (k : ℕ) (cat : Catalog) (calls : List Call) (numbers : List ℕ) (d : Cache) → Chain k cat calls numbers d → SeasonByValue k cat calls numbers d
 season-by-value k cat calls numbers d chain =
     let s : Season byValue k cat calls numbers d = season-theorem byValue (value-begins k cat (chain .first) (chain .opening)) (chain .follows) in
-    record { season = s; wear = s .wear }
+    record { season = s; cost = s .cost }
+
+-- no call hands back an invalid cache
+pub prefix-by-value :
+    (k : ℕ) (cat : Catalog) (calls : List Call) (numbers : List ℕ) (d : Cache) (chain : Chain k cat calls numbers d) (i : ℕ) →
+    Prefix byValue k cat (chain .first) calls numbers d i
+prefix-by-value k cat calls numbers d chain i =
+    season-prefix byValue k cat (chain .first) calls numbers d (value-begins k cat (chain .first) (chain .opening)) (chain .follows) i
 
 -- ---- by methods
 
@@ -41,6 +48,15 @@ no-line noCall i = refl
 no-line (thenCall m f) zero = m .line
 no-line (thenCall m f) (suc i) = no-line f i
 
+-- so from an opening on
+numbered : {k : ℕ} {cat : Catalog} {calls : List Call} {answers : List Answer} {d : Cache} → ChainBy k cat calls answers d → Chain k cat calls (map answerNumber answers) d
+numbered {k = k} {cat = cat} chain =
+    record {
+      first = chain .reply .cache;
+      opening = subst (λ (n : ℕ). Opened k cat n (chain .reply .cache)) (chain .taken) (chain .opening .opening);
+      follows = method-follows (chain .follows);
+    }
+
 -- Demand 3 by value, for the methods and their answers.
 pub season-by-methods : (k : ℕ) (cat : Catalog) (calls : List Call) (answers : List Answer) (d : Cache) → ChainBy k cat calls answers d → SeasonByMethods k cat calls answers d
 season-by-methods k cat calls answers d chain =
@@ -52,10 +68,11 @@ season-by-methods k cat calls answers d chain =
     }
   where
     s : SeasonByValue k cat calls (map answerNumber answers) d
-    s =
-        season-by-value k cat calls (map answerNumber answers) d
-        (record {
-          first = chain .reply .cache;
-          opening = subst (λ (n : ℕ). Opened k cat n (chain .reply .cache)) (chain .taken) (chain .opening .opening);
-          follows = method-follows (chain .follows);
-        })
+    s = season-by-value k cat calls (map answerNumber answers) d (numbered chain)
+
+-- no method hands back an invalid cache
+pub prefix-by-methods :
+    (k : ℕ) (cat : Catalog) (calls : List Call) (answers : List Answer) (d : Cache) (chain : ChainBy k cat calls answers d) (i : ℕ) →
+    Prefix byValue k cat (chain .reply .cache) calls (map answerNumber answers) d i
+unfolding numbered
+prefix-by-methods k cat calls answers d chain i = prefix-by-value k cat calls (map answerNumber answers) d (numbered chain) i

@@ -24,7 +24,7 @@ pub record Chain (k : ℕ) (cat : Catalog) (calls : List Call) (numbers : List �
 -- the three conclusions; the total is that of the struct's own two fields
 pub record SeasonByValue (k : ℕ) (cat : Catalog) (calls : List Call) (numbers : List ℕ) (d : Cache) : Type 0 where
   pub season : Season byValue k cat calls numbers d
-  pub wear : Closing calls numbers → Bounded k cat calls (d .loadcost + d .writecost)
+  pub cost : Closing calls numbers → Bounded k cat calls (d .loadcost + d .writecost)
 
 -- ---- by methods
 

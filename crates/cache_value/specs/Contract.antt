@@ -1,6 +1,5 @@
 -- What the methods promise. Assumes nothing.
 use mathlib.Core.Path.{_≡_}
-use mathlib.Core.Logic.{_≢_}
 use mathlib.Core.Bool.{true, cond}
 use mathlib.Core.List.{List, []}
 use Prim.Native.Nat.{ℕ, _<_}
@@ -12,7 +11,8 @@ use Rattle.landlord.specs.Catalog.{Catalog}
 use Rattle.landlord.specs.Rule.{emptied}
 use Rattle.landlord.specs.Figures.{Standing, nothing, opened}
 use Rattle.landlord.specs.Calls.{Call, openingRefusal}
-use Rattle.cache.specs.Contract.{Called, EmptyPlace}
+use Rattle.cache_state.specs.Valid.{EmptyPlace}
+use Rattle.cache.specs.Contract.{Called}
 use Rattle.cache_value.specs.declared.Cache.{Cache}
 use Rattle.cache_value.specs.declared.Answer.{Answer}
 use Rattle.cache_value.specs.declared.Answer.the-variants.{Taken, Refused}
@@ -32,6 +32,7 @@ pub record Opened (k : ℕ) (cat : Catalog) (number : ℕ) (c : Cache) : Type 0 
   pub answer : number ≡ openingRefusal k cat
   pub valid : byValue .Valid c
   pub stands : byValue .view c ≡ cond (eqb number 0) (opened k cat) refusedOpening
+  -- "It has 256 places, one for each sail number, empty at opening"
   pub empty : (i : ℕ) → i < 256 → EmptyPlace (recordOf c) i
 
 -- ---- answers
@@ -55,14 +56,3 @@ pub record CalledBy (c : Cache) (call : Call) (r : Answered) : Type 0 where
 pub record OpenedBy (k : ℕ) (cat : Catalog) (r : Answered) : Type 0 where
   pub opening : Opened k cat (answerNumber (r .answer)) (r .cache)
   pub line : answerLine (r .answer) ≡ 0
-
--- ---- from a number to its answer
-
--- a number that a call or an opening can have: 0, 3, 6, 7, 8, 9, or else 17
-pub record CallNumber (n : ℕ) : Type 0 where
-  pub last : n ≢ 0 → n ≢ 3 → n ≢ 6 → n ≢ 7 → n ≢ 8 → n ≢ 9 → n ≡ 17
-
--- the answer with a number, and no line; there is only one (proofs/Tells.antt)
-pub record Numbered (n : ℕ) (a : Answer) : Type 0 where
-  pub number : answerNumber a ≡ n
-  pub line : answerLine a ≡ 0

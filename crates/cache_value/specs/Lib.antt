@@ -1,4 +1,4 @@
 pub mod Struct
-pub mod Opening
+pub mod Inner
 pub mod Contract
 pub mod Chain

@@ -4,8 +4,9 @@ ghost use mathlib.Core.Path.{_≡_};
 ghost use mathlib.Core.List.{[], _∷_};
 ghost use Prim.Native.Nat.{_^_, _<_};
 ghost use lib.ListN.{length};
-ghost use Rattle.fields.specs.LittleEndian.{le, run, flags};
-ghost use Rattle.layout.specs.Layout.{stateBytes, format, flag, bytesOf, cacheOf, Fits, atFormat, atCapacity, atCount, atClosed, atSteps, atHits, atLoads, atEvictions, atDirtyEvictions, atWritebacks, atFlushes, atLoadCost, atWriteCost, atDirty, atLoadCredits, atWriteCredits, atTenths, atItemLoads, atItemWritebacks, atItemLoadCosts, atItemWriteCosts, atBlocks, atHeld};
+ghost use Rattle.fields.specs.Inner.{le, runOf, flags};
+ghost use Rattle.layout.specs.Layout.{stateBytes, format, cacheOf, atFormat, atCapacity, atCount, atClosed, atSteps, atHits, atLoads, atEvictions, atDirtyEvictions, atWritebacks, atFlushes, atLoadCost, atWriteCost, atDirty, atLoadCredits, atWriteCredits, atTenths, atItemLoads, atItemWritebacks, atItemLoadCosts, atItemWriteCosts, atBlocks, atHeld};
+ghost use Rattle.layout.specs.InnerRows.{flag, bytesOf, Fits};
 ghost use Rattle.layout.proofs.Rows.{stored};
 ghost use Rattle.cache_value.specs.Struct.{recordOf};
 use crate::Cache;
@@ -38,7 +39,7 @@ fn put_totals(b: &mut [u8], evictions: u32, dirtyevictions: u32, writebacks: u32
 // Stores the two costs and the dirty marks.
 fn put_costs(b: &mut [u8], loadcost: u64, writecost: u64, dirty: [u64; 4])
     requires { ⌜ length (now b) ≡ stateBytes ⌝ }
-    ensures { λ _. ⌜ now (b .exit) ≡ stored (now (b .entry)) ((atLoadCost, le 8 loadcost) ∷ (atWriteCost, le 8 writecost) ∷ (atDirty, run 8 dirty) ∷ []) ⌝ }
+    ensures { λ _. ⌜ now (b .exit) ≡ stored (now (b .entry)) ((atLoadCost, le 8 loadcost) ∷ (atWriteCost, le 8 writecost) ∷ (atDirty, runOf 8 dirty) ∷ []) ⌝ }
 {
     fields::put(b, layout::AT_LOAD_COST, 8, loadcost);
     fields::put(b, layout::AT_WRITE_COST, 8, writecost);
@@ -51,7 +52,7 @@ fn put_costs(b: &mut [u8], loadcost: u64, writecost: u64, dirty: [u64; 4])
 // Stores the credits.
 fn put_credits<'a>(b: &mut [u8], load: &'a [u64; 256], write: &'a [u64; 256])
     requires { ⌜ length (now b) ≡ stateBytes ⌝ }
-    ensures { λ _. ⌜ now (b .exit) ≡ stored (now (b .entry)) ((atLoadCredits, run 8 (now (load .entry))) ∷ (atWriteCredits, run 8 (now (write .entry))) ∷ []) ⌝ }
+    ensures { λ _. ⌜ now (b .exit) ≡ stored (now (b .entry)) ((atLoadCredits, runOf 8 (now (load .entry))) ∷ (atWriteCredits, runOf 8 (now (write .entry))) ∷ []) ⌝ }
 {
     fields::put_run8(b, layout::AT_LOAD_CREDITS, load);
     fields::put_run8(b, layout::AT_WRITE_CREDITS, write);
@@ -65,7 +66,7 @@ fn put_uses<'a>(
     writebacks: &'a [u32; 256],
 )
     requires { ⌜ length (now b) ≡ stateBytes ⌝ }
-    ensures { λ _. ⌜ now (b .exit) ≡ stored (now (b .entry)) ((atTenths, run 4 (now (tenths .entry))) ∷ (atItemLoads, run 4 (now (loads .entry))) ∷ (atItemWritebacks, run 4 (now (writebacks .entry))) ∷ []) ⌝ }
+    ensures { λ _. ⌜ now (b .exit) ≡ stored (now (b .entry)) ((atTenths, runOf 4 (now (tenths .entry))) ∷ (atItemLoads, runOf 4 (now (loads .entry))) ∷ (atItemWritebacks, runOf 4 (now (writebacks .entry))) ∷ []) ⌝ }
 {
     fields::put_run4(b, layout::AT_TENTHS, tenths);
     fields::put_run4(b, layout::AT_ITEM_LOADS, loads);
@@ -81,7 +82,7 @@ fn put_catalog<'a>(
     held: &'a [bool; 256],
 )
     requires { ⌜ length (now b) ≡ stateBytes ⌝ }
-    ensures { λ _. ⌜ now (b .exit) ≡ stored (now (b .entry)) ((atItemLoadCosts, run 2 (now (load .entry))) ∷ (atItemWriteCosts, run 2 (now (write .entry))) ∷ (atBlocks, run 1 (now (blocks .entry))) ∷ (atHeld, flags (now (held .entry))) ∷ []) ⌝ }
+    ensures { λ _. ⌜ now (b .exit) ≡ stored (now (b .entry)) ((atItemLoadCosts, runOf 2 (now (load .entry))) ∷ (atItemWriteCosts, runOf 2 (now (write .entry))) ∷ (atBlocks, runOf 1 (now (blocks .entry))) ∷ (atHeld, flags (now (held .entry))) ∷ []) ⌝ }
 {
     fields::put_run2(b, layout::AT_ITEM_LOAD_COSTS, load);
     fields::put_run2(b, layout::AT_ITEM_WRITE_COSTS, write);

@@ -6,10 +6,10 @@ ghost use Rattle.landlord.specs.Calls.{close, callOf};
 ghost use Rattle.validity.specs.Decided.{Decided};
 ghost use Rattle.cache.specs.Contract.{lent, Called};
 ghost use Rattle.cache.specs.Run.{callFrom, callsOf};
-ghost use Rattle.cache.specs.Opening.{emptyWith};
+ghost use Rattle.cache.specs.Inner.{emptyWith};
 ghost use Rattle.cache_value.specs.Struct.{recordOf, byValue};
-ghost use Rattle.cache_value.specs.Opening.{FirstOf, BlocksOk, Opens};
-ghost use Rattle.cache_value.specs.Contract.{catalogFrom, Opened, CalledBy, OpenedBy, CallNumber, Numbered};
+ghost use Rattle.cache_value.specs.Inner.{FirstOf, BlocksOk, Opens, CallNumber, AnswerNumbered};
+ghost use Rattle.cache_value.specs.Contract.{catalogFrom, Opened, CalledBy, OpenedBy};
 ghost use Rattle.cache_value.specs.Chain.{Ran};
 use landlord::Refusal;
 use landlord::Step;
@@ -224,7 +224,7 @@ fn call(c: Cache, which: u32, kind: u32, item: u32, minutes: u32) -> Reply
 // The answer with a call's number.
 fn answer_to(number: u32) -> Answer
     requires { ⌜ CallNumber number ⌝ }
-    ensures { λ r. ⌜ Numbered number r ⌝ }
+    ensures { λ r. ⌜ AnswerNumbered number r ⌝ }
 {
     if number == 0 {
         return Answer::Taken;
@@ -250,7 +250,7 @@ fn answer_to(number: u32) -> Answer
 // A reply with its number as an answer.
 fn answer_with(r: Reply) -> Answered
     requires { ⌜ CallNumber (r .number) ⌝ }
-    ensures { λ a. ⌜ Numbered (r .number) (a .answer) × (a .cache ≡ r .cache) ⌝ }
+    ensures { λ a. ⌜ AnswerNumbered (r .number) (a .answer) × (a .cache ≡ r .cache) ⌝ }
 {
     let next = r.cache;
     let number = r.number;

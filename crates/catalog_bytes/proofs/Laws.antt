@@ -10,7 +10,8 @@ use lib.Seq.{sets, length-sets, sets-eq, length-take-le, take-at, getD-take, get
 use Rattle.landlord.specs.Fold.{tabFrom}
 use Rattle.landlord.specs.Catalog.{Item, itemAt, noItem}
 use Rattle.landlord.proofs.Folds.{tab-length, tab-at, tab-of}
-use Rattle.catalog_bytes.specs.Catalogs.{itemIn, catalogIn, catalogOfFirst, itemBytes}
+use Rattle.catalog_bytes.specs.Catalogs.{itemIn, catalogIn}
+use Rattle.catalog_bytes.specs.Inner.{catalogOfFirst, itemBytes}
 
 -- ---- what bytes stand for
 

@@ -5,7 +5,7 @@ use Prim.Native.Nat.{ℕ, suc, _+_, _*_, _/_, _%_}
 use native.Mathlib.Omega.{arith}
 use lib.ListN.{getD, set}
 use lib.Seq.{sets}
-use Rattle.catalog_bytes.specs.Catalogs.{itemBytes}
+use Rattle.catalog_bytes.specs.Inner.{itemBytes}
 
 -- a number of two bytes, read
 pub number-read :

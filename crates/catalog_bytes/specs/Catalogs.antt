@@ -1,7 +1,7 @@
 -- A catalog in lent bytes: 5 bytes an item, its blocks, its load cost and its write cost, low byte first. Assumes nothing.
-use mathlib.Core.List.{List, [], _∷_}
-use Prim.Native.Nat.{ℕ, _+_, _*_, _/_, _%_, _≤_}
-use lib.ListN.{length, take, getD}
+use mathlib.Core.List.{List}
+use Prim.Native.Nat.{ℕ, _+_, _*_, _/_}
+use lib.ListN.{length, getD}
 use Rattle.landlord.specs.Fold.{tab}
 use Rattle.landlord.specs.Catalog.{Item, Catalog}
 
@@ -17,16 +17,3 @@ itemIn xs i =
 -- the catalog that bytes stand for; a remainder is no item
 unfoldable pub catalogIn : List ℕ → Catalog
 catalogIn xs = tab (length xs / 5) (itemIn xs)
-
--- the catalog of the first n items of such bytes
-abbrev pub catalogOfFirst : ℕ → List ℕ → Catalog
-catalogOfFirst n xs = catalogIn (take (5 * n) xs)
-
--- the bytes of an item
-abbrev pub itemBytes : Item → List ℕ
-itemBytes x = x .blocks ∷ x .load % 256 ∷ x .load / 256 ∷ x .write % 256 ∷ x .write / 256 ∷ []
-
--- there is an item i
-pub record HasItem (xs : List ℕ) (i : ℕ) : Type 0 where
-  pub place : i ≤ 255
-  pub inside : 5 * i + 5 ≤ length xs

@@ -2,7 +2,8 @@
 ghost use mathlib.Core.Path.{_≡_};
 ghost use Prim.Native.Nat.{_*_, _<_};
 ghost use lib.Seq.{sets};
-ghost use Rattle.catalog_bytes.specs.Catalogs.{itemIn, itemBytes, HasItem};
+ghost use Rattle.catalog_bytes.specs.Catalogs.{itemIn};
+ghost use Rattle.catalog_bytes.specs.Inner.{itemBytes, HasItem};
 
 // The bytes of an item, and the most items there are.
 pub const ITEM_BYTES: usize = 5;

@@ -9,7 +9,8 @@ use native.Mathlib.Omega.{arith}
 use lib.Dec.{eqb}
 use lib.ListN.{length, take, drop, getD, set, replicate, length-append, length-drop, length-set, take-append-drop, drop-of-length-le}
 use lib.Seq.{sets, set-append-left, sets-eq, length-take-le, take-at, drop-at, drop-append-add, drop-drop, take-add, take-length, getD-drop}
-use Rattle.fields.specs.LittleEndian.{Below, le, un, run, unrun, flags, unflags}
+use Rattle.fields.specs.LittleEndian.{un, unrun, unflags}
+use Rattle.fields.specs.Inner.{Below, le, runOf, flags}
 
 -- ---- lengths
 
@@ -18,10 +19,10 @@ unfolding le
 length-le zero v = refl
 length-le (suc w) v = ap suc (length-le w (v / 256))
 
-pub length-run : (w : ℕ) (vs : List ℕ) → length (run w vs) ≡ length vs * w
-unfolding run
+pub length-run : (w : ℕ) (vs : List ℕ) → length (runOf w vs) ≡ length vs * w
+unfolding runOf
 length-run w [] = omega arith
-length-run w (v ∷ vs) = omega (arith, length-append (le w v) (run w vs), length-le w v, length-run w vs)
+length-run w (v ∷ vs) = omega (arith, length-append (le w v) (runOf w vs), length-le w v, length-run w vs)
 
 pub length-unrun : (w n : ℕ) (bs : List ℕ) → length (unrun w n bs) ≡ n
 unfolding unrun
@@ -123,23 +124,23 @@ unrun-lt w (suc n) bs h zero = un-take-lt w bs h
 unrun-lt w (suc n) bs h (suc i) = unrun-lt w n (drop w bs) (below-drop 256 w bs h) i
 
 -- and each byte of a run is a byte
-pub run-lt : (w : ℕ) (vs : List ℕ) → Below 256 (run w vs)
-unfolding run
+pub run-lt : (w : ℕ) (vs : List ℕ) → Below 256 (runOf w vs)
+unfolding runOf
 run-lt w [] i = omega arith
-run-lt w (v ∷ vs) i = below-append 256 (le w v) (run w vs) (le-lt w v) (run-lt w vs) i
+run-lt w (v ∷ vs) i = below-append 256 (le w v) (runOf w vs) (le-lt w v) (run-lt w vs) i
 
 -- a run of numbers that fit, read back, is those numbers
-pub unrun-run : (w n : ℕ) (vs rest : List ℕ) → length vs ≡ n → Below (256 ^ w) vs → unrun w n (run w vs ++ rest) ≡ vs
-unfolding unrun run
+pub unrun-run : (w n : ℕ) (vs rest : List ℕ) → length vs ≡ n → Below (256 ^ w) vs → unrun w n (runOf w vs ++ rest) ≡ vs
+unfolding unrun runOf
 unrun-run w zero [] rest e h = refl
 unrun-run w zero (v ∷ vs) rest e h = absurd (omega arith)
 unrun-run w (suc n) [] rest e h = absurd (omega arith)
 unrun-run w (suc n) (v ∷ vs) rest e h =
-    rw (append-assoc, un-front w v (run w vs ++ rest) (h zero), drop-at (le w v) (run w vs ++ rest) w (length-le w v), unrun-run w n vs rest (omega arith) (λ i. h (suc i)))
+    rw (append-assoc, un-front w v (runOf w vs ++ rest) (h zero), drop-at (le w v) (runOf w vs ++ rest) w (length-le w v), unrun-run w n vs rest (omega arith) (λ i. h (suc i)))
 
 -- numbers read off bytes, stored again, are those bytes
-pub run-unrun : (w n : ℕ) (bs : List ℕ) → n * w ≤ length bs → Below 256 bs → run w (unrun w n bs) ≡ take (n * w) bs
-unfolding unrun run
+pub run-unrun : (w n : ℕ) (bs : List ℕ) → n * w ≤ length bs → Below 256 bs → runOf w (unrun w n bs) ≡ take (n * w) bs
+unfolding unrun runOf
 run-unrun w zero bs l h = rw (zero-mul w)
 run-unrun w (suc n) bs l h =
     let i : n * w ≤ length (drop w bs) = omega (arith, length-drop w bs) in
@@ -147,7 +148,7 @@ run-unrun w (suc n) bs l h =
     rw (s, take-add, le-back w 0 bs (omega arith) h, run-unrun w n (drop w bs) i (below-drop 256 w bs h))
 
 -- the same at a place
-pub run-back : (w n at : ℕ) (bs : List ℕ) → at + n * w ≤ length bs → Below 256 bs → run w (unrun w n (drop at bs)) ≡ take (n * w) (drop at bs)
+pub run-back : (w n at : ℕ) (bs : List ℕ) → at + n * w ≤ length bs → Below 256 bs → runOf w (unrun w n (drop at bs)) ≡ take (n * w) (drop at bs)
 run-back w n at bs l h = run-unrun w n (drop at bs) (omega (arith, length-drop at bs)) (below-drop 256 at bs h)
 
 -- ---- flags
@@ -254,13 +255,13 @@ sets-front xs ys vs e =
     sets-eq vs (xs ++ ys) 0 l ∙ rw (drop-at xs ys (0 + length vs) (omega arith))
 
 -- of one number, it is the run of the list with that number set
-pub run-set : (w : ℕ) (vs : List ℕ) (i v : ℕ) → i < length vs → sets (run w vs) (i * w) (le w v) ≡ run w (set vs i v)
-unfolding run
+pub run-set : (w : ℕ) (vs : List ℕ) (i v : ℕ) → i < length vs → sets (runOf w vs) (i * w) (le w v) ≡ runOf w (set vs i v)
+unfolding runOf
 run-set w [] i v h = absurd (omega arith)
-run-set w (x ∷ vs) zero v h = rw (zero-mul w) (sets-front (le w x) (run w vs) (le w v) (length-le w v ∙ sym (length-le w x)))
+run-set w (x ∷ vs) zero v h = rw (zero-mul w) (sets-front (le w x) (runOf w vs) (le w v) (length-le w v ∙ sym (length-le w x)))
 run-set w (x ∷ vs) (suc i) v h =
     let e : suc i * w ≡ length (le w x) + i * w = omega (arith, length-le w x) in
-    rw (sets-past (le w x) (run w vs) (le w v) (suc i * w) (i * w) e, run-set w vs i v (omega arith))
+    rw (sets-past (le w x) (runOf w vs) (le w v) (suc i * w) (i * w) e, run-set w vs i v (omega arith))
 
 -- of one flag, it is the flags of the list with that flag set
 pub flags-set : (fs : List Bool) (i : ℕ) (f : Bool) → set (flags fs) i (cond f 1 0) ≡ flags (set fs i f)

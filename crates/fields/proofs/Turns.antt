@@ -11,7 +11,8 @@ use lib.Dec.{eqb}
 use lib.ListN.{length, take, drop, getD, set, replicate, length-replicate, drop-of-length-le}
 use lib.Seq.{sets, length-sets, drop-cons, drop-drop, getD-drop}
 use mir.Val.{boolByte}
-use Rattle.fields.specs.LittleEndian.{le, un, run, unrun, flags, unflags}
+use Rattle.fields.specs.LittleEndian.{un, unrun, unflags}
+use Rattle.fields.specs.Inner.{le, runOf, flags}
 use Rattle.fields.proofs.Laws.{length-le, length-unrun, length-unflags, sets-append, sets-all}
 
 -- ---- one number
@@ -71,15 +72,15 @@ pub record Storing (w : ℕ) (buf₀ : List ℕ) (at : ℕ) (xs buf : List ℕ) 
   pub count : i ≤ 256
   pub place : to ≡ at + i * w
   pub long : length buf ≡ length buf₀
-  pub rest : sets buf to (run w (drop i xs)) ≡ sets buf₀ at (run w xs)
+  pub rest : sets buf to (runOf w (drop i xs)) ≡ sets buf₀ at (runOf w xs)
 
 -- nothing stored yet
 pub storing : (w : ℕ) (buf : List ℕ) (at : ℕ) (xs : List ℕ) → Storing w buf at xs buf at 0
 storing w buf at xs = record { count = omega arith; place = omega arith; long = refl; rest = refl }
 
 -- one number stored, and the rest of them still lead there
-run-step : (w : ℕ) (buf buf′ xs : List ℕ) (to i : ℕ) → i < length xs → buf′ ≡ sets buf to (le w (getD xs i 0)) → sets buf′ (to + w) (run w (drop (i + 1) xs)) ≡ sets buf to (run w (drop i xs))
-unfolding run
+run-step : (w : ℕ) (buf buf′ xs : List ℕ) (to i : ℕ) → i < length xs → buf′ ≡ sets buf to (le w (getD xs i 0)) → sets buf′ (to + w) (runOf w (drop (i + 1) xs)) ≡ sets buf to (runOf w (drop i xs))
+unfolding runOf
 run-step w buf buf′ xs to i h e = rw (e, add-one, drop-cons xs i 0 h, sets-append, length-le)
 
 pub store-one : {w : ℕ} {buf₀ : List ℕ} {at : ℕ} {xs buf : List ℕ} {to i : ℕ} (buf′ : List ℕ) → Storing w buf₀ at xs buf to i → buf′ ≡ sets buf to (le w (getD xs i 0)) → length xs ≡ 256 → i < 256 → Storing w buf₀ at xs buf′ (to + w) (i + 1)
@@ -92,8 +93,8 @@ store-one {w} {buf₀} {at} {xs} {buf} {to} {i} buf′ s e n h =
     }
 
 -- nothing left to store
-pub all-stored : {w : ℕ} {buf₀ : List ℕ} {at : ℕ} {xs buf : List ℕ} {to i : ℕ} → Storing w buf₀ at xs buf to i → length xs ≡ 256 → 256 ≤ i → buf ≡ sets buf₀ at (run w xs)
-unfolding run
+pub all-stored : {w : ℕ} {buf₀ : List ℕ} {at : ℕ} {xs buf : List ℕ} {to i : ℕ} → Storing w buf₀ at xs buf to i → length xs ≡ 256 → 256 ≤ i → buf ≡ sets buf₀ at (runOf w xs)
+unfolding runOf
 all-stored {xs = xs} {i = i} s n h = rw (drop-of-length-le xs {i = i} (omega arith)) at (s .rest)
 
 -- ---- a run's reader

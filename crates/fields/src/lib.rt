@@ -6,7 +6,8 @@ ghost use mathlib.Core.Path.{_≡_};
 ghost use Prim.Native.Nat.{_+_, _^_, _≤_, _<_};
 ghost use lib.ListN.{length, take, drop};
 ghost use lib.Seq.{sets};
-ghost use Rattle.fields.specs.LittleEndian.{le, un, run, unrun, flags, unflags};
+ghost use Rattle.fields.specs.LittleEndian.{un, unrun, unflags};
+ghost use Rattle.fields.specs.Inner.{le, runOf, flags};
 
 // Stores the `w` low bytes of `v`, the low byte first.
 pub fn put(buf: &mut [u8], at: usize, w: usize, v: u64)
@@ -41,7 +42,7 @@ pub fn get(buf: &[u8], at: usize, w: usize) -> u64
 // Stores 256 `u8`, 1 byte each.
 pub fn put_run1(buf: &mut [u8], at: usize, xs: &[u8; 256])
     requires { ⌜ at + 256 ≤ length (now buf) ⌝ }
-    ensures { λ _. ⌜ now (buf .exit) ≡ sets (now (buf .entry)) at (run 1 (now (xs .entry))) ⌝ }
+    ensures { λ _. ⌜ now (buf .exit) ≡ sets (now (buf .entry)) at (runOf 1 (now (xs .entry))) ⌝ }
 {
     let vs: &[u8] = xs;
     let mut to = at;
@@ -72,7 +73,7 @@ pub fn get_run1(buf: &[u8], at: usize) -> [u8; 256]
 // Stores 256 `u16`, 2 bytes each.
 pub fn put_run2(buf: &mut [u8], at: usize, xs: &[u16; 256])
     requires { ⌜ at + 512 ≤ length (now buf) ⌝ }
-    ensures { λ _. ⌜ now (buf .exit) ≡ sets (now (buf .entry)) at (run 2 (now (xs .entry))) ⌝ }
+    ensures { λ _. ⌜ now (buf .exit) ≡ sets (now (buf .entry)) at (runOf 2 (now (xs .entry))) ⌝ }
 {
     let vs: &[u16] = xs;
     let mut to = at;
@@ -103,7 +104,7 @@ pub fn get_run2(buf: &[u8], at: usize) -> [u16; 256]
 // Stores 256 `u32`, 4 bytes each.
 pub fn put_run4(buf: &mut [u8], at: usize, xs: &[u32; 256])
     requires { ⌜ at + 1024 ≤ length (now buf) ⌝ }
-    ensures { λ _. ⌜ now (buf .exit) ≡ sets (now (buf .entry)) at (run 4 (now (xs .entry))) ⌝ }
+    ensures { λ _. ⌜ now (buf .exit) ≡ sets (now (buf .entry)) at (runOf 4 (now (xs .entry))) ⌝ }
 {
     let vs: &[u32] = xs;
     let mut to = at;
@@ -134,7 +135,7 @@ pub fn get_run4(buf: &[u8], at: usize) -> [u32; 256]
 // Stores 256 `u64`, 8 bytes each.
 pub fn put_run8(buf: &mut [u8], at: usize, xs: &[u64; 256])
     requires { ⌜ at + 2048 ≤ length (now buf) ⌝ }
-    ensures { λ _. ⌜ now (buf .exit) ≡ sets (now (buf .entry)) at (run 8 (now (xs .entry))) ⌝ }
+    ensures { λ _. ⌜ now (buf .exit) ≡ sets (now (buf .entry)) at (runOf 8 (now (xs .entry))) ⌝ }
 {
     let vs: &[u64] = xs;
     let mut to = at;

@@ -2,9 +2,9 @@
 -- the row that it breaks is told first. Assumes nothing.
 use mathlib.Core.Path.{_≡_}
 use mathlib.Core.List.{map}
-use Rattle.landlord.specs.Rows.{Row, rows, outcome, rows-right, Question, questions, answered, answers-right}
+use Rattle.landlord.specs.Rows.{BenchRow, benchRows, resultOf, rows-right, Question, questions, tableAnswer, answers-right}
 
 pub bench-right :
-    (map outcome rows ≡ map (λ (r : Row). r .expected) rows)
-    × (map answered questions ≡ map (λ (q : Question). q .expected) questions)
+    (map resultOf benchRows ≡ map (λ (r : BenchRow). r .expected) benchRows)
+    × (map tableAnswer questions ≡ map (λ (q : Question). q .expected) questions)
 bench-right = (rows-right, answers-right)

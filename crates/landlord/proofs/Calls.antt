@@ -14,18 +14,18 @@ use Rattle.landlord.specs.declared.Step.{Step}
 use Rattle.landlord.specs.declared.Step.the-variants.{Read, Write, Flush}
 use Rattle.landlord.specs.Types.{stepKind, stepItem, stepMinutes}
 use Rattle.landlord.specs.Fold.{fold}
-use Rattle.landlord.specs.Catalog.{Catalog, Item, ItemOk, CatalogOk, CapacityOk, itemAt}
+use Rattle.landlord.specs.Catalog.{Catalog, CatalogOk}
 use Rattle.landlord.specs.Slot.{Split}
 use Rattle.landlord.specs.Figures.{Standing, opened, took, ran, season}
-use Rattle.landlord.specs.Calls.{Call, take, close, Log, noLog, callOf, stepOf, itemInRange, allInRange, openingRefusal, itemRefusal, refusalAt, refusalIn, refusal, refusalNow, logged, joins, logOf, ruleOver, accepted, after}
-use Rattle.landlord.specs.Claims.{SplitOk, Allowed}
+use Rattle.landlord.specs.Calls.{Call, stepCall, close, Log, noLog, callOf, stepOf, itemRefusal, refusalAt, refusalIn, refusal, refusalNow, logged, joins, logOf, ruleOver, accepted, after}
+use Rattle.landlord.specs.Claims.{SplitOk, AllowedLog}
 use Rattle.landlord.proofs.Folds.{either, fold-append, fold-more}
-use Rattle.landlord.proofs.Logs.{Stands, all-served, ran-stands, closes-stands}
+use Rattle.landlord.proofs.Logs.{StandsAfter, all-served, ran-stands, closes-stands}
 
 -- A call of a known kind in range is answered as the step that it means: values that a step lacks are not looked at.
 pub means :
     (k : ℕ) (cat : Catalog) (t kind i m : ℕ) →
-    refusalAt k cat t false (take kind i m) ≡ 0 →
+    refusalAt k cat t false (stepCall kind i m) ≡ 0 →
     refusalAt k cat t false (callOf (stepOf kind i m)) ≡ 0
 unfolding refusalAt stepOf
 means k cat t kind i m e = go (eqb kind 82) (eqb kind 87) (eqb kind 76) e
@@ -52,17 +52,17 @@ means k cat t kind i m e = go (eqb kind 82) (eqb kind 87) (eqb kind 76) e
 -- an open log: a refused step on a closed one is refused with 9
 pub open-log : (k : ℕ) (cat : Catalog) (t : ℕ) (c : Bool) (call : Call) → refusalAt k cat t c call ≡ 0 → c ≡ false
 unfolding refusalAt
-open-log k cat t true (take kind i m) e = absurd (omega arith)
-open-log k cat t false (take kind i m) e = refl
+open-log k cat t true (stepCall kind i m) e = absurd (omega arith)
+open-log k cat t false (stepCall kind i m) e = refl
 open-log k cat t true close e = absurd (omega arith)
 open-log k cat t false close e = refl
 
 -- one step more at the end of a list that the table lets through
 allowed-more :
     (k : ℕ) (cat : Catalog) (steps : List Step) (s : Step) →
-    Allowed k cat steps →
+    AllowedLog k cat steps →
     refusalAt k cat (length steps) false (callOf s) ≡ 0 →
-    Allowed k cat (steps ++ (s ∷ []))
+    AllowedLog k cat (steps ++ (s ∷ []))
 allowed-more k cat steps s a e = record { each = λ i l. at i l (ℕ-discrete i (length steps)) }
   where
     at : (i : ℕ) → i < length (steps ++ (s ∷ [])) → Dec (i ≡ length steps) → refusalAt k cat i false (callOf (getD (steps ++ (s ∷ [])) i Flush)) ≡ 0
@@ -77,9 +77,9 @@ unfolding joins
 joins-either k cat l call P taken kept =
     either P (eqb (refusalIn k cat l call) 0) (logged l call) l (λ e. taken (eqb-true (refusalIn k cat l call) 0 e)) (λ e. kept)
 
-pub logged-allowed : (k : ℕ) (cat : Catalog) (l : Log) (call : Call) → Allowed k cat (l .steps) → refusalIn k cat l call ≡ 0 → Allowed k cat (logged l call .steps)
-logged-allowed k cat l (take kind i m) a e =
-    let c : l .closed ≡ false = open-log k cat (length (l .steps)) (l .closed) (take kind i m) e in
+pub logged-allowed : (k : ℕ) (cat : Catalog) (l : Log) (call : Call) → AllowedLog k cat (l .steps) → refusalIn k cat l call ≡ 0 → AllowedLog k cat (logged l call .steps)
+logged-allowed k cat l (stepCall kind i m) a e =
+    let c : l .closed ≡ false = open-log k cat (length (l .steps)) (l .closed) (stepCall kind i m) e in
     allowed-more k cat (l .steps) (stepOf kind i m) a (means k cat (length (l .steps)) kind i m (rw c at e))
 logged-allowed k cat l close a e = a
 
@@ -96,9 +96,9 @@ log-induction k cat P more l (call ∷ calls) p =
     log-induction k cat P more (joins k cat l call) calls (joins-either k cat l call P (λ e. more l call p e) p)
 
 -- the table lets through the log of every list of calls
-pub log-allowed : (k : ℕ) (cat : Catalog) (calls : List Call) → Allowed k cat (logOf k cat calls .steps)
+pub log-allowed : (k : ℕ) (cat : Catalog) (calls : List Call) → AllowedLog k cat (logOf k cat calls .steps)
 log-allowed k cat calls =
-    log-induction k cat (λ l. Allowed k cat (l .steps)) (λ l call a e. logged-allowed k cat l call a e) noLog calls
+    log-induction k cat (λ l. AllowedLog k cat (l .steps)) (λ l call a e. logged-allowed k cat l call a e) noLog calls
     (record { each = λ i b. absurd (let z : i < 0 = b in omega arith) })
 
 -- a step, as a call, means itself
@@ -113,7 +113,7 @@ open-with steps = record { steps = steps; closed = false }
 
 logged-one :
     (k : ℕ) (cat : Catalog) (seen rest : List Step) (s : Step) →
-    Allowed k cat (seen ++ (s ∷ rest)) →
+    AllowedLog k cat (seen ++ (s ∷ rest)) →
     joins k cat (open-with seen) (callOf s) ≡ open-with (seen ++ (s ∷ []))
 unfolding joins
 logged-one k cat seen rest s a =
@@ -124,11 +124,11 @@ logged-one k cat seen rest s a =
     rw (eq-eqb (refusalAt k cat (length seen) false (callOf s)) 0 e) (ap (λ (q : Step). open-with (seen ++ (q ∷ []))) (same-step s))
 
 -- and every list of steps that the table lets through is the log of those steps as calls
-pub allowed-logged : (k : ℕ) (cat : Catalog) (steps : List Step) → Allowed k cat steps → logOf k cat (map callOf steps) ≡ open-with steps
+pub allowed-logged : (k : ℕ) (cat : Catalog) (steps : List Step) → AllowedLog k cat steps → logOf k cat (map callOf steps) ≡ open-with steps
 unfolding fold
 allowed-logged k cat steps a = from [] steps a
   where
-    from : (seen steps : List Step) → Allowed k cat (seen ++ steps) → fold (joins k cat) (open-with seen) (map callOf steps) ≡ open-with (seen ++ steps)
+    from : (seen steps : List Step) → AllowedLog k cat (seen ++ steps) → fold (joins k cat) (open-with seen) (map callOf steps) ≡ open-with (seen ++ steps)
     from seen [] a = ap open-with (sym (append-nil seen))
     from seen (s ∷ steps) a =
         ap (λ (l : Log). fold (joins k cat) l (map callOf steps)) (logged-one k cat seen steps s a)
@@ -137,29 +137,29 @@ allowed-logged k cat steps a = from [] steps a
 
 module _ (split : Split) (k : ℕ) (cat : Catalog) (ok : SplitOk split) (good : CatalogOk cat) where
   -- where the rule stands after a log that the table lets through
-  pub stands-over : (l : Log) → Allowed k cat (l .steps) → Stands k cat (length (l .steps)) (l .closed) (ruleOver split k cat l)
+  pub stands-over : (l : Log) → AllowedLog k cat (l .steps) → StandsAfter k cat (length (l .steps)) (l .closed) (ruleOver split k cat l)
   unfolding ruleOver
   stands-over l a = go (l .closed)
     where
-      so : Stands k cat (length (l .steps)) false (ran split k cat (l .steps))
+      so : StandsAfter k cat (length (l .steps)) false (ran split k cat (l .steps))
       so = ran-stands split k cat (l .steps) ok good (all-served k cat (l .steps) a)
 
-      go : (c : Bool) → Stands k cat (length (l .steps)) c (cond c (season split k cat (l .steps)) (ran split k cat (l .steps)))
+      go : (c : Bool) → StandsAfter k cat (length (l .steps)) c (cond c (season split k cat (l .steps)) (ran split k cat (l .steps)))
       go true = closes-stands k cat (length (l .steps)) (ran split k cat (l .steps)) so
       go false = so
 
   -- the table gives the same answer to the rule where it stands as to the log
-  pub same-refusal : (l : Log) (call : Call) → Allowed k cat (l .steps) → refusalNow (ruleOver split k cat l) call ≡ refusalIn k cat l call
+  pub same-refusal : (l : Log) (call : Call) → AllowedLog k cat (l .steps) → refusalNow (ruleOver split k cat l) call ≡ refusalIn k cat l call
   same-refusal l call a =
       let so = stands-over l a in
       rw (so .capacity, so .catalog, so .taken, so .closed)
 
   over-more : (l : Log) (call : Call) → l .closed ≡ false → accepted split (ruleOver split k cat l) call ≡ ruleOver split k cat (logged l call)
   unfolding ruleOver fold
-  over-more l (take kind i m) e = rw e (sym (fold-append (took split) (opened k cat) (l .steps) (stepOf kind i m ∷ [])))
+  over-more l (stepCall kind i m) e = rw e (sym (fold-append (took split) (opened k cat) (l .steps) (stepOf kind i m ∷ [])))
   over-more l close e = rw e
 
-  pub one-call : (l : Log) (call : Call) → Allowed k cat (l .steps) → after split (ruleOver split k cat l) call ≡ ruleOver split k cat (joins k cat l call)
+  pub one-call : (l : Log) (call : Call) → AllowedLog k cat (l .steps) → after split (ruleOver split k cat l) call ≡ ruleOver split k cat (joins k cat l call)
   unfolding after joins
   one-call l call a = rw (same-refusal l call a) (go (eqb (refusalIn k cat l call) 0) refl)
     where
@@ -175,69 +175,11 @@ module _ (split : Split) (k : ℕ) (cat : Catalog) (ok : SplitOk split) (good : 
   unfolding fold ruleOver
   rule-follows calls = from noLog calls (log-allowed k cat [])
     where
-      from : (l : Log) (calls : List Call) → Allowed k cat (l .steps) → fold (after split) (ruleOver split k cat l) calls ≡ ruleOver split k cat (fold (joins k cat) l calls)
+      from : (l : Log) (calls : List Call) → AllowedLog k cat (l .steps) → fold (after split) (ruleOver split k cat l) calls ≡ ruleOver split k cat (fold (joins k cat) l calls)
       from l [] a = refl
       from l (call ∷ calls) a =
           ap (λ (v : Standing). fold (after split) v calls) (one-call l call a)
-          ∙ from (joins k cat l call) calls (joins-either k cat l call (λ m. Allowed k cat (m .steps)) (λ e. logged-allowed k cat l call a e) a)
-
--- An opening that is not refused has a capacity and a catalog in range, and the other way round.
-and-left : (a b : Bool) → a && b ≡ true → a ≡ true
-and-left true b e = refl
-and-left false b e = absurd (false≢true e)
-
-and-right : (a b : Bool) → a && b ≡ true → b ≡ true
-and-right true b e = e
-and-right false b e = absurd (false≢true e)
-
-four-true : (a b c d : Bool) → a && b && c && d ≡ true → (a ≡ true) × (b ≡ true) × (c ≡ true) × (d ≡ true)
-four-true true true true true e = (refl, refl, refl, refl)
-four-true true true true false e = absurd (false≢true e)
-four-true true true false d e = absurd (false≢true e)
-four-true true false c d e = absurd (false≢true e)
-four-true false b c d e = absurd (false≢true e)
-
-pub item-in-range : (x : Item) → itemInRange x ≡ true → ItemOk x
-item-in-range x e =
-    let f = four-true (leb 1 (x .blocks)) (leb (x .blocks) 16) (leb (x .load) 65535) (leb (x .write) 65535) e in
-    record {
-      some = leb-true 1 (x .blocks) (f .0);
-      small = leb-true (x .blocks) 16 (f .1);
-      load = leb-true (x .load) 65535 (f .2);
-      write = leb-true (x .write) 65535 (f .3);
-    }
-
-pub range-of-item : (x : Item) → ItemOk x → itemInRange x ≡ true
-range-of-item x ok =
-    rw (le-leb 1 (x .blocks) (ok .some), le-leb (x .blocks) 16 (ok .small), le-leb (x .load) 65535 (ok .load), le-leb (x .write) 65535 (ok .write))
-
-pub all-in-range : (cat : Catalog) → allInRange cat ≡ true → (i : ℕ) → i < length cat → ItemOk (itemAt cat i)
-unfolding allInRange
-all-in-range [] e i l = absurd (let z : i < 0 = l in omega arith)
-all-in-range (x ∷ items) e zero l = item-in-range x (and-left (itemInRange x) (allInRange items) e)
-all-in-range (x ∷ items) e (suc i) l = all-in-range items (and-right (itemInRange x) (allInRange items) e) i (omega arith)
-
-pub range-of-all : (cat : Catalog) → ((i : ℕ) → i < length cat → ItemOk (itemAt cat i)) → allInRange cat ≡ true
-unfolding allInRange
-range-of-all [] h = refl
-range-of-all (x ∷ items) h = rw (range-of-item x (h 0 (omega arith)), range-of-all items (λ i l. h (suc i) (omega arith)))
-
-zero-or-three : (t : Bool) → _≡_ {A = ℕ} (cond t 0 3) 0 → t ≡ true
-zero-or-three true e = refl
-zero-or-three false e = absurd (omega arith)
-
-pub opening-taken : (k : ℕ) (cat : Catalog) → openingRefusal k cat ≡ 0 → CapacityOk k × CatalogOk cat
-unfolding openingRefusal
-opening-taken k cat e =
-    let f = four-true (leb 1 k) (leb k 4096) (leb (length cat) 256) (allInRange cat) (zero-or-three _ e) in (
-      record { low = leb-true 1 k (f .0); high = leb-true k 4096 (f .1) },
-      record { few = leb-true (length cat) 256 (f .2); each = all-in-range cat (f .3) },
-    )
-
-pub opening-accepts : (k : ℕ) (cat : Catalog) → CapacityOk k → CatalogOk cat → openingRefusal k cat ≡ 0
-unfolding openingRefusal
-opening-accepts k cat size ok =
-    rw (le-leb 1 k (size .low), le-leb k 4096 (size .high), le-leb (length cat) 256 (ok .few), range-of-all cat (ok .each))
+          ∙ from (joins k cat l call) calls (joins-either k cat l call (λ m. AllowedLog k cat (m .steps)) (λ e. logged-allowed k cat l call a e) a)
 
 -- A closed log stays as it is: every call after the closing is refused.
 pub closed-stays : (k : ℕ) (cat : Catalog) (l : Log) (calls : List Call) → l .closed ≡ true → fold (joins k cat) l calls ≡ l
@@ -248,7 +190,7 @@ closed-stays k cat l (call ∷ calls) e =
     ap (λ (m : Log). fold (joins k cat) m calls) same ∙ closed-stays k cat l calls e
   where
     refused : (call : Call) → refusalIn k cat l call ≡ 9
-    refused (take kind i m) = unfold refusalAt in rw e
+    refused (stepCall kind i m) = unfold refusalAt in rw e
     refused close = unfold refusalAt in rw e
 
 closes-log : (k : ℕ) (cat : Catalog) (l : Log) → refusalIn k cat l close ≡ 0 → joins k cat l close ≡ record { steps = l .steps; closed = true }

@@ -9,9 +9,11 @@ use lib.ListN.{length}
 use lib.Dec.{eqb}
 use borrow.Author.Tests.{eq-eqb, ne-eqb}
 use Rattle.landlord.specs.Fold.{sumTo, fold}
-use Rattle.landlord.specs.Catalog.{Catalog, ItemOk, CatalogOk, itemAt}
-use Rattle.landlord.specs.Rule.{Event, hit, loaded, evicted, wroteBack, wrote, landed, writeBacks}
+use Rattle.landlord.specs.Catalog.{Catalog, CatalogOk, itemAt}
+use Rattle.landlord.specs.Inner.{ItemFacts}
+use Rattle.landlord.specs.Rule.{Event, hit, loaded, evicted, wroteBack, wrote, flushStep, writeBacks}
 use Rattle.landlord.specs.Figures.{Totals, Use, Figures, adds, usage, isAbout, noUse, useAt, plusUse, tally, nothing}
+use Rattle.landlord.proofs.Ranges.{catalog-facts}
 use Rattle.landlord.proofs.Sums.{sum-eq, sum-add, sum-zero, sum-change}
 use Rattle.landlord.proofs.Folds.{tab-length, tab-at, fold-append}
 
@@ -22,7 +24,7 @@ Names n (loaded i) = i < n
 Names n (evicted i wasDirty) = i < n
 Names n (wroteBack i) = i < n
 Names n (wrote i minutes) = i < n
-Names n landed = Unit {0}
+Names n flushStep = Unit {0}
 
 -- a sum with a term at one number only
 sum-one : (n v w : ℕ) → v < n → sumTo n (λ i. cond (eqb i v) w 0) ≡ w
@@ -55,7 +57,7 @@ module _ (p : Use → ℕ) (plus : (a b : Use) → p (plusUse a b) ≡ p a + p b
   about-sum n (evicted i d) l = sum-one n i (p (usage (evicted i d))) l
   about-sum n (wroteBack i) l = sum-one n i (p (usage (wroteBack i))) l
   about-sum n (wrote i m) l = sum-one n i (p (usage (wrote i m))) l
-  about-sum n landed l = omega (arith, none, sum-zero n (λ i. 0) (λ i b. refl))
+  about-sum n flushStep l = omega (arith, none, sum-zero n (λ i. 0) (λ i b. refl))
 
   -- the sum over all lines grows by what the event adds to one of them
   uses-part :
@@ -82,17 +84,17 @@ record Fair (a : Totals) (u : Use) : Type 0 where
 
 fair : (cat : Catalog) (e : Event) → CatalogOk cat → Names (length cat) e → Fair (adds cat e) (usage e)
 fair cat (hit i) good l = omega arith
-fair cat (loaded i) good l = let ok : ItemOk (itemAt cat i) = good .each i l in omega arith
-fair cat (evicted i true) good l = let ok : ItemOk (itemAt cat i) = good .each i l in omega arith
+fair cat (loaded i) good l = let ok : ItemFacts (itemAt cat i) = catalog-facts cat good .each i l in omega arith
+fair cat (evicted i true) good l = let ok : ItemFacts (itemAt cat i) = catalog-facts cat good .each i l in omega arith
 fair cat (evicted i false) good l = omega arith
-fair cat (wroteBack i) good l = let ok : ItemOk (itemAt cat i) = good .each i l in omega arith
+fair cat (wroteBack i) good l = let ok : ItemFacts (itemAt cat i) = catalog-facts cat good .each i l in omega arith
 fair cat (wrote i m) good l = omega arith
-fair cat landed good l = omega arith
+fair cat flushStep good l = omega arith
 
 -- The claims of `StandingOk` (specs/Valid.antt) on the figures by themselves, for a catalog of n items, t steps, h items held,
 -- d of them dirty, and no line of more than `top` tenths. A step's events are counted one by one, so `top` is not 240 × t here:
 -- between a write's first event and its second the step is counted and its tenths are not.
-pub record Counted (n t h d top : ℕ) (f : Figures) : Type 0 where
+pub record CountsKept (n t h d top : ℕ) (f : Figures) : Type 0 where
   pub steps : f .totals .hits + f .totals .loads + f .totals .flushes ≡ t
   pub taken : f .totals .steps ≡ t
   pub evictions : f .totals .evictions + h ≡ f .totals .loads
@@ -106,7 +108,7 @@ pub record Counted (n t h d top : ℕ) (f : Figures) : Type 0 where
   pub writebacksAdd : sumTo n (λ i. useAt f i .writebacks) ≡ f .totals .writebacks
   pub tenths : (i : ℕ) → i < n → useAt f i .tenths ≤ top
 
-pub nothing-counted : (cat : Catalog) → Counted (length cat) 0 0 0 0 (nothing cat)
+pub nothing-counted : (cat : Catalog) → CountsKept (length cat) 0 0 0 0 (nothing cat)
 nothing-counted cat =
     record {
       steps = refl;
@@ -131,12 +133,12 @@ pub tallied :
     (cat : Catalog) (f : Figures) (e : Event) (t h d top t' h' d' top' : ℕ) →
     CatalogOk cat →
     Names (length cat) e →
-    Counted (length cat) t h d top f →
+    CountsKept (length cat) t h d top f →
     t + adds cat e .steps ≡ t' →
     adds cat e .evictions + h' ≡ h + adds cat e .loads →
     adds cat e .writebacks + d' ≤ d + adds cat e .steps →
     top + usage e .tenths ≤ top' →
-    Counted (length cat) t' h' d' top' (tally cat f e)
+    CountsKept (length cat) t' h' d' top' (tally cat f e)
 tallied cat f e t h d top t' h' d' top' good l o step held dirty line =
     let a : Fair (adds cat e) (usage e) = fair cat e good l in
     record {
@@ -164,10 +166,10 @@ pub evicted-counted :
     (cat : Catalog) (f : Figures) (i : ℕ) (wasDirty : Bool) (t h d top h' d' : ℕ) →
     CatalogOk cat →
     i < length cat →
-    Counted (length cat) t h d top f →
+    CountsKept (length cat) t h d top f →
     h' + 1 ≡ h →
     d' + cond wasDirty 1 0 ≡ d →
-    Counted (length cat) t h' d' top (tally cat f (evicted i wasDirty))
+    CountsKept (length cat) t h' d' top (tally cat f (evicted i wasDirty))
 evicted-counted cat f i true t h d top h' d' good l o held dirty =
     tallied cat f (evicted i true) t h d top t h' d' top good l o (omega arith) (omega arith) (omega arith) (omega arith)
 evicted-counted cat f i false t h d top h' d' good l o held dirty =
@@ -178,11 +180,11 @@ pub found-counted :
     (cat : Catalog) (f : Figures) (i : ℕ) (wasHeld : Bool) (t h d top h' d' top' : ℕ) →
     CatalogOk cat →
     i < length cat →
-    Counted (length cat) t h d top f →
+    CountsKept (length cat) t h d top f →
     h' + cond wasHeld 1 0 ≡ h + 1 →
     d' ≤ d + 1 →
     top ≤ top' →
-    Counted (length cat) (t + 1) h' d' top' (tally cat f (cond wasHeld (hit i) (loaded i)))
+    CountsKept (length cat) (t + 1) h' d' top' (tally cat f (cond wasHeld (hit i) (loaded i)))
 found-counted cat f i true t h d top h' d' top' good l o held dirty line =
     tallied cat f (hit i) t h d top (t + 1) h' d' top' good l o (omega arith) (omega arith) (omega arith) (omega arith)
 found-counted cat f i false t h d top h' d' top' good l o held dirty line =
@@ -193,8 +195,8 @@ pub flush-counted :
     (cat : Catalog) (n : ℕ) (isDue : ℕ → Bool) (f : Figures) (t h d top : ℕ) →
     CatalogOk cat →
     n ≤ length cat →
-    Counted (length cat) t h (d + sumTo n (λ i. cond (isDue i) 1 0)) top f →
-    Counted (length cat) t h d top (fold (tally cat) f (writeBacks n isDue))
+    CountsKept (length cat) t h (d + sumTo n (λ i. cond (isDue i) 1 0)) top f →
+    CountsKept (length cat) t h d top (fold (tally cat) f (writeBacks n isDue))
 unfolding fold writeBacks sumTo
 flush-counted cat zero isDue f t h d top good l o = rw (let e : d + 0 ≡ d = omega arith in e) at o
 flush-counted cat (suc n) isDue f t h d top good l o =
@@ -204,8 +206,8 @@ flush-counted cat (suc n) isDue f t h d top good l o =
   where
     last :
         (due : Bool) {g : Figures} →
-        Counted (length cat) t h (d + cond due 1 0) top g →
-        Counted (length cat) t h d top (fold (tally cat) g (cond due (wroteBack n ∷ []) []))
+        CountsKept (length cat) t h (d + cond due 1 0) top g →
+        CountsKept (length cat) t h d top (fold (tally cat) g (cond due (wroteBack n ∷ []) []))
     last true {g} o =
         tallied cat g (wroteBack n) t h (d + 1) top t h d top good (omega arith) o (omega arith) (omega arith) (omega arith) (omega arith)
     last false {g} o = rw (let e : d + 0 ≡ d = omega arith in e) at o

@@ -16,8 +16,9 @@ use Rattle.landlord.specs.declared.Step.the-variants.{Read, Write, Flush
 use Rattle.landlord.specs.Fold.{sumTo}
 use Rattle.landlord.specs.Catalog.{Catalog, Item, CatalogOk, itemAt, full}
 use Rattle.landlord.specs.Slot.{Slot, absent, held, loadCredit, writeCredit, Split, lose, written, flushed}
-use Rattle.landlord.specs.Rule.{State, size, slotAt, blocksAt, used, heldCount, rank, victim, evictItem, evict, evictFor, makeRoom, Moved, stay, joined, put, readSlot, flush, step, emptied}
+use Rattle.landlord.specs.Rule.{State, size, slotAt, blocksAt, used, heldCount, rank, victim, evictItem, evict, evictFor, makeRoom, Moved, stay, joined, putSlot, readSlot, flush, step, emptied}
 use Rattle.landlord.specs.Claims.{SplitOk, SlotKept, Kept, Least}
+use Rattle.landlord.proofs.Ranges.{catalog-facts}
 use Rattle.landlord.proofs.Sums.{sum-zero, sum-none, sum-eq, sum-change}
 use Rattle.landlord.proofs.Folds.{tab-length, tab-at, Best, nobody, somebody, best-is}
 use Rattle.landlord.proofs.Slots.{blocks-divide, lose-held, lose-kept, absent-kept, read-kept, write-kept, flush-kept, read-held, write-held, flush-held}
@@ -129,7 +130,7 @@ evict-kept k split v x ok kept low =
     at i l (yes e) = rw (ap (slotAt (evictItem split v x)) e ∙ evicted-slot split v x (low .below)) (absent-kept (itemAt (x .catalog) i))
     at i l (no e) =
         rw (other-slot split v x i l e)
-        (lose-kept split ok (itemAt (x .catalog) i) (kept .catalog .each i l .some) (blocksAt x i * rank x v) (slotAt x i)
+        (lose-kept split ok (itemAt (x .catalog) i) (catalog-facts (x .catalog) (kept .catalog) .each i l .some) (blocksAt x i * rank x v) (slotAt x i)
         (dvd-mul-right (blocksAt x i) (rank x v)) (kept .slot i l) (λ h. bears-rank k x v i kept l (low .least i l h)))
 
 -- Making room, as the paper's loop: evictions of the victim while the free blocks are too few, then nothing more.
@@ -181,7 +182,7 @@ pub room-made : (split : Split) (k blocks : ℕ) → blocks ≤ k → (x : State
 room-made split k blocks fits x = turns split k blocks fits (heldCount x) x refl
 
 -- Room is left, and what the rule keeps is kept, with the catalog, and an item that was not held is not held.
-pub record Roomy (k blocks : ℕ) (x : State) (y : State) : Type 0 where
+pub record RoomLeft (k blocks : ℕ) (x : State) (y : State) : Type 0 where
   pub left : used y + blocks ≤ k
   pub catalog : y .catalog ≡ x .catalog
   pub kept : Kept k x → Kept k y
@@ -194,11 +195,11 @@ still-absent split v x i l h = go (ℕ-discrete i v)
     go (yes e) = ap held (ap (slotAt (evictItem split v x)) e ∙ evicted-slot split v x (omega arith))
     go (no e) = other-held split v x i l e ∙ h
 
-pub room-left : (split : Split) (k blocks : ℕ) (x : State) (m : Moved) → SplitOk split → Evicting split k blocks x m → Roomy k blocks x (m .state)
+pub room-left : (split : Split) (k blocks : ℕ) (x : State) (m : Moved) → SplitOk split → Evicting split k blocks x m → RoomLeft k blocks x (m .state)
 room-left split k blocks x m ok (enough l) = record { left = l; catalog = refl; kept = λ h. h; absent = λ i b h. h }
 room-left split k blocks x m ok (more {m = n} over low next) =
     let y : State = evict split x .state in
-    let r : Roomy k blocks y (n .state) = room-left split k blocks y n ok next in
+    let r : RoomLeft k blocks y (n .state) = room-left split k blocks y n ok next in
     let same : y .catalog ≡ x .catalog = evict-catalog split (victim x) x in
     record {
       left = r .left;
@@ -208,10 +209,10 @@ room-left split k blocks x m ok (more {m = n} over low next) =
     }
 
 -- what one slot changed leaves and makes
-pub put-same : (x : State) (i : ℕ) (s : Slot) → i < length (x .slots) → slotAt (put x i s) i ≡ s
+pub put-same : (x : State) (i : ℕ) (s : Slot) → i < length (x .slots) → slotAt (putSlot x i s) i ≡ s
 put-same x i s l = getD-set-same (x .slots) i s absent l
 
-pub put-other : (x : State) (i j : ℕ) (s : Slot) → j ≢ i → slotAt (put x i s) j ≡ slotAt x j
+pub put-other : (x : State) (i j : ℕ) (s : Slot) → j ≢ i → slotAt (putSlot x i s) j ≡ slotAt x j
 put-other x i j s e = getD-set-other (x .slots) i j s absent e
 
 -- a slot changed to one that is held, for which there is room if it was not
@@ -222,7 +223,7 @@ pub put-kept :
     SlotKept (itemAt (x .catalog) i) s →
     held s ≡ true →
     (isHeld x i ≡ false → used x + blocksAt x i ≤ k) →
-    Kept k (put x i s)
+    Kept k (putSlot x i s)
 unfolding used
 put-kept k x i s kept l new h free =
     record {
@@ -232,19 +233,19 @@ put-kept k x i s kept l new h free =
       room = bound (isHeld x i) refl;
     }
   where
-    here : slotAt (put x i s) i ≡ s
+    here : slotAt (putSlot x i s) i ≡ s
     here = put-same x i s (let e : length (x .slots) ≡ size x = kept .slots in omega arith)
 
-    at : (j : ℕ) → j < size x → Dec (j ≡ i) → SlotKept (itemAt (x .catalog) j) (slotAt (put x i s) j)
-    at j b (yes e) = rw (ap (slotAt (put x i s)) e ∙ here, e) new
+    at : (j : ℕ) → j < size x → Dec (j ≡ i) → SlotKept (itemAt (x .catalog) j) (slotAt (putSlot x i s) j)
+    at j b (yes e) = rw (ap (slotAt (putSlot x i s)) e ∙ here, e) new
     at j b (no e) = rw (put-other x i j s e) (kept .slot j b)
 
-    moved : used (put x i s) + cond (isHeld x i) (blocksAt x i) 0 ≡ used x + blocksAt x i
+    moved : used (putSlot x i s) + cond (isHeld x i) (blocksAt x i) 0 ≡ used x + blocksAt x i
     moved =
-        mark-change held (blocksAt x) x (put x i s) i refl l (λ j b e. ap held (put-other x i j s e))
+        mark-change held (blocksAt x) x (putSlot x i s) i refl l (λ j b e. ap held (put-other x i j s e))
         ∙ ap (λ (t : Bool). used x + cond t (blocksAt x i) 0) (ap held here ∙ h)
 
-    bound : (t : Bool) → isHeld x i ≡ t → used (put x i s) ≤ k
+    bound : (t : Bool) → isHeld x i ≡ t → used (putSlot x i s) ≤ k
     bound true e = omega (arith, kept .room, rw e at moved)
     bound false e = omega (arith, free e, rw e at moved)
 
@@ -275,14 +276,14 @@ flush-keeps k x kept =
     }
 
 -- Room made for item i: if it was held nothing moved; if not, the paper's loop ran.
-pub record Room (split : Split) (k i : ℕ) (x : State) (m : Moved) : Type 0 where
+pub record RoomMade (split : Split) (k i : ℕ) (x : State) (m : Moved) : Type 0 where
   pub catalog : m .state .catalog ≡ x .catalog
   pub kept : Kept k x → Kept k (m .state)
   pub free : isHeld (m .state) i ≡ false → used (m .state) + blocksAt x i ≤ k
   pub stayed : isHeld x i ≡ true → m ≡ stay x
   pub ran : isHeld x i ≡ false → (isHeld (m .state) i ≡ false) × Evicting split k (blocksAt x i) x m
 
-pub make-room : (split : Split) (k i : ℕ) (x : State) → SplitOk split → i < size x → blocksAt x i ≤ k → Room split k i x (makeRoom split k i x)
+pub make-room : (split : Split) (k i : ℕ) (x : State) → SplitOk split → i < size x → blocksAt x i ≤ k → RoomMade split k i x (makeRoom split k i x)
 unfolding makeRoom
 make-room split k i x ok l fits = go (isHeld x i) refl
   where
@@ -292,10 +293,10 @@ make-room split k i x ok l fits = go (isHeld x i) refl
     made : Evicting split k (blocksAt x i) x loop
     made = room-made split k (blocksAt x i) fits x
 
-    roomy : Roomy k (blocksAt x i) x (loop .state)
+    roomy : RoomLeft k (blocksAt x i) x (loop .state)
     roomy = room-left split k (blocksAt x i) x loop ok made
 
-    go : (t : Bool) → isHeld x i ≡ t → Room split k i x (cond t (stay x) loop)
+    go : (t : Bool) → isHeld x i ≡ t → RoomMade split k i x (cond t (stay x) loop)
     go true e =
         record {
           catalog = refl;
@@ -322,12 +323,12 @@ Served k cat Flush = Unit {0}
 -- Room made for a requested item, and then its slot changed to one that is held: this is a read, and this is a write.
 request-kept :
     (split : Split) (k i : ℕ) (x : State) (m : Moved) (s : Slot) →
-    Room split k i x m →
+    RoomMade split k i x m →
     Kept k x →
     i < size x →
     SlotKept (itemAt (m .state .catalog) i) s →
     held s ≡ true →
-    Kept k (put (m .state) i s)
+    Kept k (putSlot (m .state) i s)
 request-kept split k i x m s room kept l new h =
     put-kept k (m .state) i s (room .kept kept) (rw (room .catalog) l) new h
     (λ q. let same : itemAt (m .state .catalog) i .blocks ≡ blocksAt x i = ap (λ (c : Catalog). itemAt c i .blocks) (room .catalog) in omega (arith, room .free q))
@@ -335,23 +336,23 @@ request-kept split k i x m s room kept l new h =
 -- the slot of an item just requested is as the rule keeps it
 pub requested : (k : ℕ) (y : State) (i : ℕ) → Kept k y → i < size y → SlotKept (itemAt (y .catalog) i) (readSlot y i)
 requested k y i kept l =
-    read-kept (itemAt (y .catalog) i) (slotAt y i) (blocks-divide (itemAt (y .catalog) i) (kept .catalog .each i l)) (kept .slot i l)
+    read-kept (itemAt (y .catalog) i) (slotAt y i) (blocks-divide (itemAt (y .catalog) i) (catalog-facts (y .catalog) (kept .catalog) .each i l)) (kept .slot i l)
 
 pub step-kept : (split : Split) (k : ℕ) (s : Step) (x : State) → SplitOk split → Kept k x → Served k (x .catalog) s → Kept k (step split k s x .state)
 unfolding step
 step-kept split k (Read i) x ok kept served =
     let m : Moved = makeRoom split k i x in
-    let room : Room split k i x m = make-room split k i x ok (served .0) (served .1) in
+    let room : RoomMade split k i x m = make-room split k i x ok (served .0) (served .1) in
     request-kept split k i x m (readSlot (m .state) i) room kept (served .0)
     (requested k (m .state) i (room .kept kept) (rw (room .catalog) (served .0)))
     (read-held _ (slotAt (m .state) i))
 step-kept split k (Write i minutes) x ok kept served =
     let m : Moved = makeRoom split k i x in
     let it : Item = itemAt (m .state .catalog) i in
-    let room : Room split k i x m = make-room split k i x ok (served .0) (served .1) in
+    let room : RoomMade split k i x m = make-room split k i x ok (served .0) (served .1) in
     let l : i < size (m .state) = rw (room .catalog) (served .0) in
     request-kept split k i x m (written (full (it .write)) (readSlot (m .state) i)) room kept (served .0)
-    (write-kept it (readSlot (m .state) i) (blocks-divide it (room .kept kept .catalog .each i l)) (requested k (m .state) i (room .kept kept) l))
+    (write-kept it (readSlot (m .state) i) (blocks-divide it (catalog-facts (m .state .catalog) (room .kept kept .catalog) .each i l)) (requested k (m .state) i (room .kept kept) l))
     (write-held _ (readSlot (m .state) i) ∙ read-held _ (slotAt (m .state) i))
 step-kept split k Flush x ok kept served = flush-keeps k x kept
 

@@ -3,10 +3,11 @@ pub mod Sums
 pub mod Potential
 pub mod Moves
 pub mod Folds
+pub mod Ranges
 pub mod Slots
 pub mod Keeps
 pub mod Logs
 pub mod Calls
-pub mod Wear
+pub mod Competitive
 pub mod Counts
 pub mod Valid

@@ -16,9 +16,9 @@ use Rattle.landlord.specs.Slot.{Split, held, isDirty}
 use Rattle.landlord.specs.Rule.{State, Event, hit, loaded, evicted, wroteBack, wrote, Moved, evict, victim, makeRoom, found, slotAt, writeBacks, flush, step, size, blocksAt}
 use Rattle.landlord.specs.Figures.{Totals, Figures, Standing, plusTotals, adds, tally, opened, took, closes, ran}
 use Rattle.landlord.specs.Calls.{callOf, stepOf, inRange, refusalAt}
-use Rattle.landlord.specs.Claims.{SplitOk, Kept, Allowed}
+use Rattle.landlord.specs.Claims.{SplitOk, Kept, AllowedLog}
 use Rattle.landlord.proofs.Sums.{sum-zero}
-use Rattle.landlord.proofs.Keeps.{Evicting, enough, more, Room, make-room, Served, step-kept, step-catalog, flush-keeps, flush-catalog, empty-kept}
+use Rattle.landlord.proofs.Keeps.{Evicting, enough, more, RoomMade, make-room, Served, step-kept, step-catalog, flush-keeps, flush-catalog, empty-kept}
 
 -- the item of a step is in the catalog, and no larger than the cache
 known : (k : ℕ) (cat : Catalog) (i : ℕ) → (ltb i (length cat) ≡ true) × (leb (itemAt cat i .blocks) k ≡ true) → (i < length cat) × (itemAt cat i .blocks ≤ k)
@@ -44,7 +44,7 @@ abbrev pub AllServed : ℕ → Catalog → List Step → Type 0
 AllServed k cat [] = Unit {0}
 AllServed k cat (s ∷ steps) = Served k cat s × AllServed k cat steps
 
-pub all-served : (k : ℕ) (cat : Catalog) (steps : List Step) → Allowed k cat steps → AllServed k cat steps
+pub all-served : (k : ℕ) (cat : Catalog) (steps : List Step) → AllowedLog k cat steps → AllServed k cat steps
 all-served k cat steps a = from 0 steps (λ i l. rw (let e : 0 + i ≡ i = omega arith in e) (a .each i l))
   where
     from : (t : ℕ) (steps : List Step) → ((i : ℕ) → i < length steps → refusalAt k cat (t + i) false (callOf (getD steps i Flush)) ≡ 0) → AllServed k cat steps
@@ -116,7 +116,7 @@ pub room-sum :
     (w : Event → ℕ) →
     ((i : ℕ) (d : Bool) → w (evicted i d) ≡ 0) →
     (split : Split) (k i : ℕ) (x : State) (m : Moved) →
-    Room split k i x m →
+    RoomMade split k i x m →
     eventSum w (m .events) ≡ 0
 room-sum w none split k i x m room = go (held (slotAt x i)) refl
   where
@@ -169,22 +169,22 @@ step-steps split k (Write i minutes) x cat ok served =
 step-steps split k Flush x cat ok served = omega (arith, flush-steps cat x)
 
 -- where the rule stands in a season of capacity k and catalog cat, after t steps
-pub record Stands (k : ℕ) (cat : Catalog) (t : ℕ) (isClosed : Bool) (v : Standing) : Type 0 where
+pub record StandsAfter (k : ℕ) (cat : Catalog) (t : ℕ) (isClosed : Bool) (v : Standing) : Type 0 where
   pub capacity : v .k ≡ k
   pub catalog : v .state .catalog ≡ cat
   pub kept : Kept k (v .state)
   pub taken : v .figures .totals .steps ≡ t
   pub closed : v .closed ≡ isClosed
 
-pub opened-stands : (k : ℕ) (cat : Catalog) → CatalogOk cat → Stands k cat 0 false (opened k cat)
+pub opened-stands : (k : ℕ) (cat : Catalog) → CatalogOk cat → StandsAfter k cat 0 false (opened k cat)
 opened-stands k cat ok = record { capacity = refl; catalog = refl; kept = empty-kept k cat ok; taken = refl; closed = refl }
 
 pub took-stands :
     (split : Split) (k : ℕ) (cat : Catalog) (t : ℕ) (v : Standing) (s : Step) →
     SplitOk split →
-    Stands k cat t false v →
+    StandsAfter k cat t false v →
     Served k cat s →
-    Stands k cat (t + 1) false (took split v s)
+    StandsAfter k cat (t + 1) false (took split v s)
 unfolding took
 took-stands split k cat t v s ok so served =
     let here : Served (v .k) (v .state .catalog) s = rw (so .capacity, so .catalog) served in
@@ -202,7 +202,7 @@ took-stands split k cat t v s ok so served =
       closed = so .closed;
     }
 
-pub closes-stands : (k : ℕ) (cat : Catalog) (t : ℕ) (v : Standing) → Stands k cat t false v → Stands k cat t true (closes v)
+pub closes-stands : (k : ℕ) (cat : Catalog) (t : ℕ) (v : Standing) → StandsAfter k cat t false v → StandsAfter k cat t true (closes v)
 unfolding closes
 closes-stands k cat t v so =
     record {
@@ -225,16 +225,16 @@ pub ran-stands :
     SplitOk split →
     CatalogOk cat →
     AllServed k cat steps →
-    Stands k cat (length steps) false (ran split k cat steps)
+    StandsAfter k cat (length steps) false (ran split k cat steps)
 unfolding fold
 ran-stands split k cat steps ok good served =
     rw (let e : length steps ≡ 0 + length steps = omega arith in e) (from 0 (opened k cat) steps (opened-stands k cat good) served)
   where
     from :
         (t : ℕ) (v : Standing) (steps : List Step) →
-        Stands k cat t false v →
+        StandsAfter k cat t false v →
         AllServed k cat steps →
-        Stands k cat (t + length steps) false (fold (took split) v steps)
+        StandsAfter k cat (t + length steps) false (fold (took split) v steps)
     from t v [] so served = rw (let e : t + 0 ≡ t = omega arith in e) so
     from t v (s ∷ steps) so served =
         rw (let e : t + suc (length steps) ≡ t + 1 + length steps = omega arith in e)

@@ -11,9 +11,9 @@ use native.Mathlib.Omega.{arith}
 use Rattle.landlord.specs.Fold.{sumTo}
 use Rattle.landlord.proofs.Sums.{sum-le, sum-add, sum-plus, sum-zero, sum-but-with}
 use Rattle.landlord.proofs.Potential
-use Rattle.landlord.proofs.Potential.{Both, Terms, Fine, Covered, Charged, size, writeback, planWriteback}
+use Rattle.landlord.proofs.Potential.{Both, Terms, Fine, Covered, Charged, cacheBlocks, writeback, planWriteback}
 use Rattle.landlord.proofs.Potential.{heldBlocks, planBlocks, sharedBlocks, cacheSide, planSide, rise, fall}
-use Rattle.landlord.proofs.Potential.{absent, planEvicted, planFetched, evicted, loaded, wasRead, written, flushed}
+use Rattle.landlord.proofs.Potential.{absent, planEvicted, planFetched, evicted, loaded, wasRead, wasWritten, wasFlushed}
 
 pub record Position : Type 0 where
   -- what the cache has paid
@@ -23,8 +23,8 @@ pub record Position : Type 0 where
   pub items : ℕ → Both
 
 -- the sum of q over the items
-abbrev pub over : Terms → (ℕ → Both → ℕ) → (ℕ → Both) → ℕ
-over T q f = sumTo (T .n) (λ i. q i (f i))
+abbrev pub sumOver : Terms → (ℕ → Both → ℕ) → (ℕ → Both) → ℕ
+sumOver T q f = sumTo (T .n) (λ i. q i (f i))
 
 -- from s to t the cache pays a and the plan b
 pub record Paid (s t : Position) (a b : ℕ) : Type 0 where
@@ -42,8 +42,8 @@ pub record Eviction (T : Terms) (f t : ℕ → Both) (g v m : ℕ) : Type 0 wher
   pub wanted : g < T .n
   pub planHolds : f g .planHeld ≡ true
   pub notHeld : f g .held ≡ false
-  pub planFits : over T (planBlocks T) f ≤ suc (T .p)
-  pub tooFull : size T < over T (heldBlocks T) f + T .blocks g
+  pub planFits : sumOver T (planBlocks T) f ≤ suc (T .p)
+  pub tooFull : cacheBlocks T < sumOver T (heldBlocks T) f + T .blocks g
   pub victim : v < T .n
   pub victimHeld : f v .held ≡ true
   pub rank : f v .load + f v .write ≡ m * T .blocks v
@@ -92,11 +92,11 @@ pub data Move (T : Terms) (s t : Position) : Type 0 where
       → s .items i .held ≡ true
       → s .items i .planHeld ≡ true
       → Paid s t 0 0
-      → Upd (T .n) (s .items) (t .items) i (written T i (s .items i))
+      → Upd (T .n) (s .items) (t .items) i (wasWritten T i (s .items i))
       → Move T s t
   flushes :
-      Paid s t (over T (writeback T) (s .items)) (over T (planWriteback T) (s .items))
-      → ((i : ℕ) → i < T .n → t .items i ≡ flushed (s .items i))
+      Paid s t (sumOver T (writeback T) (s .items)) (sumOver T (planWriteback T) (s .items))
+      → ((i : ℕ) → i < T .n → t .items i ≡ wasFlushed (s .items i))
       → Move T s t
 
 -- some moves, one after the other
@@ -115,8 +115,8 @@ Good T s = (i : ℕ) → i < T .n → Fine T i (s .items i)
 -- what the cache has paid, with what its items count against it, is covered by what the plan has paid and the credits
 pub record Inv (T : Terms) (s : Position) : Type 0 where
   pub bound :
-      T .c * T .unit * s .paid + over T (cacheSide T) (s .items)
-      ≤ size T * T .unit * s .planPaid + over T (planSide T) (s .items)
+      T .c * T .unit * s .paid + sumOver T (cacheSide T) (s .items)
+      ≤ cacheBlocks T * T .unit * s .planPaid + sumOver T (planSide T) (s .items)
 
 -- both are kept from s to t
 abbrev pub Keeps : Terms → Position → Position → Type 0
@@ -131,7 +131,7 @@ pub record Fresh (T : Terms) (s : Position) : Type 0 where
 pub start : {T : Terms} {s : Position} → Fresh T s → Good T s × Inv T s
 start {T} {s} z = ((λ i l. rw (z .empty i l) (omega arith)), record { bound = rw (z .cacheZero) (omega (arith, nothing)) })
   where
-    nothing : over T (cacheSide T) (s .items) ≡ 0
+    nothing : sumOver T (cacheSide T) (s .items) ≡ 0
     nothing = sum-zero (T .n) (λ i. cacheSide T i (s .items i)) (λ i l. rw (z .empty i l) (omega arith))
 
 -- the changes of all items
@@ -145,7 +145,7 @@ falls T s t = sumTo (T .n) (λ i. fall T i (s .items i) (t .items i))
 carried :
     {T : Terms} {s t : Position} {a b : ℕ}
     → Paid s t a b
-    → rises T s t + T .c * T .unit * a ≤ falls T s t + size T * T .unit * b
+    → rises T s t + T .c * T .unit * a ≤ falls T s t + cacheBlocks T * T .unit * b
     → Inv T s
     → Inv T t
 carried {T} {s} {t} w h v =
@@ -175,9 +175,9 @@ one {T} {s} {t} i {x} {a} {b} l o w u g v = (good, carried w covered v)
     good =
         at-each (T .n) i (λ j. Fine T j (t .items j)) (rw (u .here) (o .fine)) (λ j m e. rw (u .others j m e) (g j m))
 
-    covered : rises T s t + T .c * T .unit * a ≤ falls T s t + size T * T .unit * b
+    covered : rises T s t + T .c * T .unit * a ≤ falls T s t + cacheBlocks T * T .unit * b
     covered =
-        sum-but-with (T .n) i (T .c * T .unit * a) (size T * T .unit * b) (λ j. rise T j (s .items j) (t .items j))
+        sum-but-with (T .n) i (T .c * T .unit * a) (cacheBlocks T * T .unit * b) (λ j. rise T j (s .items j) (t .items j))
         (λ j. fall T j (s .items j) (t .items j)) l (rw (u .here) (o .covered))
         (λ j m e. rw (u .others j m e) (omega arith))
 
@@ -185,14 +185,14 @@ one {T} {s} {t} i {x} {a} {b} l o w u g v = (good, carried w covered v)
 -- cache's side loses, for all blocks held.
 module _ {T : Terms} {f t : ℕ → Both} {g v m : ℕ} (e : Eviction T f t g v m) where
   -- the plan holds the wanted item beside those that both hold
-  beside : over T (sharedBlocks T) f + T .blocks g ≤ over T (planBlocks T) f + 0
+  beside : sumOver T (sharedBlocks T) f + T .blocks g ≤ sumOver T (planBlocks T) f + 0
   beside =
       sum-but-with (T .n) g (T .blocks g) 0 (λ i. sharedBlocks T i (f i)) (λ i. planBlocks T i (f i)) (e .wanted)
       (rw (e .planHolds, e .notHeld) (omega arith)) (λ i l ne. Potential.shared-least T i (f i))
 
-  enough : size T * over T (sharedBlocks T) f ≤ T .p * over T (heldBlocks T) f
+  enough : cacheBlocks T * sumOver T (sharedBlocks T) f ≤ T .p * sumOver T (heldBlocks T) f
   enough =
-      Potential.crowded (T .c) (T .p) (over T (sharedBlocks T) f) (over T (heldBlocks T) f) (T .blocks g)
+      Potential.crowded (T .c) (T .p) (sumOver T (sharedBlocks T) f) (sumOver T (heldBlocks T) f) (T .blocks g)
       (T .positive g (e .wanted)) (omega (arith, beside)) (e .tooFull)
 
 evicting :
@@ -202,7 +202,7 @@ evicting :
     → Keeps T s t
 evicting {T} {s} {t} {g} {v} {m} e w ok inv =
     let ups = sum-plus (T .n) (T .p * m) up held in
-    let downs = sum-plus (T .n) (size T * m) down shared in
+    let downs = sum-plus (T .n) (cacheBlocks T * m) down shared in
     let lost = mul-le-mul-left m (enough e) in
     (good, carried w (omega (arith, together)) inv)
   where
@@ -223,27 +223,27 @@ evicting {T} {s} {t} {g} {v} {m} e w ok inv =
     shared : ℕ → ℕ
     shared i = sharedBlocks T i (s .items i)
 
-    leaves : up v + T .p * m * held v + T .c * T .unit * writeback T v (s .items v) ≤ down v + size T * m * shared v + 0
+    leaves : up v + T .p * m * held v + T .c * T .unit * writeback T v (s .items v) ≤ down v + cacheBlocks T * m * shared v + 0
     leaves =
         let emptied : s .items v .load + s .items v .write ≡ m * held v = rw (e .victimHeld) (e .rank) in
         rw (e .gone) (omega (arith, Potential.evicts m (ok v (e .victim)) emptied))
 
     together :
         sumTo (T .n) (λ i. up i + T .p * m * held i) + T .c * T .unit * writeback T v (s .items v)
-        ≤ sumTo (T .n) (λ i. down i + size T * m * shared i) + 0
+        ≤ sumTo (T .n) (λ i. down i + cacheBlocks T * m * shared i) + 0
     together =
         sum-but-with (T .n) v (T .c * T .unit * writeback T v (s .items v)) 0 (λ i. up i + T .p * m * held i)
-        (λ i. down i + size T * m * shared i) (e .victim) leaves
+        (λ i. down i + cacheBlocks T * m * shared i) (e .victim) leaves
         (λ i l ne. Potential.charged (ok i l) (e .others i l ne))
 
 flushing :
     {T : Terms} {s t : Position}
-    → Paid s t (over T (writeback T) (s .items)) (over T (planWriteback T) (s .items))
-    → ((i : ℕ) → i < T .n → t .items i ≡ flushed (s .items i))
+    → Paid s t (sumOver T (writeback T) (s .items)) (sumOver T (planWriteback T) (s .items))
+    → ((i : ℕ) → i < T .n → t .items i ≡ wasFlushed (s .items i))
     → Keeps T s t
 flushing {T} {s} {t} w h ok inv =
     let ups = sum-plus (T .n) (T .c * T .unit) up owed in
-    let downs = sum-plus (T .n) (size T * T .unit) down planOwed in
+    let downs = sum-plus (T .n) (cacheBlocks T * T .unit) down planOwed in
     ((λ i l. rw (h i l) (Potential.flushes (ok i l) .fine)), carried w (omega (arith, together)) inv)
   where
     up : ℕ → ℕ
@@ -260,16 +260,16 @@ flushing {T} {s} {t} w h ok inv =
 
     together :
         sumTo (T .n) (λ i. up i + T .c * T .unit * owed i)
-        ≤ sumTo (T .n) (λ i. down i + size T * T .unit * planOwed i)
+        ≤ sumTo (T .n) (λ i. down i + cacheBlocks T * T .unit * planOwed i)
     together =
-        sum-le (T .n) (λ i. up i + T .c * T .unit * owed i) (λ i. down i + size T * T .unit * planOwed i)
+        sum-le (T .n) (λ i. up i + T .c * T .unit * owed i) (λ i. down i + cacheBlocks T * T .unit * planOwed i)
         (λ i l. rw (h i l) (Potential.flushes (ok i l) .covered))
 
 pub keeps : {T : Terms} {s t : Position} → Move T s t → Good T s → Inv T s → Good T t × Inv T t
 keeps (planEvicts i l r w u) g v = one i l (Potential.plan-evicts (g i l)) w u g v
 keeps (planFetches i l r w u) g v = one i l (Potential.plan-fetches (g i l) r) w u g v
 keeps (evicts i j m e w) g v = evicting e w g v
-keeps (loads i l h r w u) g v = one i l (Potential.loads (g i l) h r) w u g v
+keeps (loads i l h r w u) g v = one i l (Potential.keeps-loads (g i l) h r) w u g v
 keeps (reads i l h r w u) g v = one i l (Potential.reads (g i l) h r) w u g v
 keeps (writes i l h r w u) g v = one i l (Potential.writes (g i l) h r) w u g v
 keeps (flushes w h) g v = flushing w h g v
@@ -289,7 +289,7 @@ pub settled-load :
     → Good T s
     → Inv T s
     → PlanClean T s
-    → T .c * T .unit * s .paid + T .p * sumTo (T .n) (λ i. s .items i .load) ≤ size T * T .unit * s .planPaid
+    → T .c * T .unit * s .paid + T .p * sumTo (T .n) (λ i. s .items i .load) ≤ cacheBlocks T * T .unit * s .planPaid
 settled-load {T} {s} g v q = omega (arith, rest, sum-plus (T .n) (T .p) plan load)
   where
     plan : ℕ → ℕ
@@ -298,7 +298,7 @@ settled-load {T} {s} g v q = omega (arith, rest, sum-plus (T .n) (T .p) plan loa
     load : ℕ → ℕ
     load i = s .items i .load
 
-    rest : sumTo (T .n) (λ i. plan i + T .p * load i) ≤ over T (cacheSide T) (s .items)
+    rest : sumTo (T .n) (λ i. plan i + T .p * load i) ≤ sumOver T (cacheSide T) (s .items)
     rest =
         sum-le (T .n) (λ i. plan i + T .p * load i) (λ i. cacheSide T i (s .items i))
         (λ i l. Potential.at-rest (g i l) (q i l))
@@ -311,7 +311,7 @@ pub settled :
     → PlanClean T s
     → T .c * s .paid ≤ (T .c + T .p) * s .planPaid
 settled {T} {s} u g v q =
-    let scaled : T .unit * (T .c * s .paid) ≤ T .unit * (size T * s .planPaid) = omega (arith, settled-load g v q) in
+    let scaled : T .unit * (T .c * s .paid) ≤ T .unit * (cacheBlocks T * s .planPaid) = omega (arith, settled-load g v q) in
     le-of-mul-le-mul-left scaled u
 
 -- the terms of a cache of k blocks against a plan of h blocks
@@ -321,7 +321,7 @@ pub record Sized (T : Terms) (k h : ℕ) : Type 0 where
   pub cIs : T .c ≡ k - h + 1
   pub pIs : T .p ≡ h - 1
 
-whole : {T : Terms} {k h : ℕ} → Sized T k h → size T ≡ k
+whole : {T : Terms} {k h : ℕ} → Sized T k h → cacheBlocks T ≡ k
 whole z = omega arith
 
 pub ratio-load :

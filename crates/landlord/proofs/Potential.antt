@@ -30,8 +30,8 @@ pub record Terms : Type 0 where
   pub positive : (i : ℕ) → i < n → 1 ≤ blocks i
 
 -- the cache's blocks
-abbrev pub size : Terms → ℕ
-size T = T .c + T .p
+abbrev pub cacheBlocks : Terms → ℕ
+cacheBlocks T = T .c + T .p
 
 -- x where the mark is set, else nothing
 abbrev pub pick : Bool → ℕ → ℕ
@@ -69,10 +69,10 @@ abbrev pub cacheSide : Terms → ℕ → Both → ℕ
 cacheSide T i x =
     T .c * T .unit * writeback T i x
     + T .p * (x .load + x .write)
-    + size T * (pick (x .planHeld) (T .loadCost i) * T .unit)
+    + cacheBlocks T * (pick (x .planHeld) (T .loadCost i) * T .unit)
 
 abbrev pub planSide : Terms → ℕ → Both → ℕ
-planSide T i x = size T * (pick (x .planHeld) (x .load) + pick (x .planDirty) (x .write))
+planSide T i x = cacheBlocks T * (pick (x .planHeld) (x .load) + pick (x .planDirty) (x .write))
 
 -- of an item's change from x to y: what has to be covered, and what covers it
 abbrev pub rise : Terms → ℕ → Both → Both → ℕ
@@ -84,7 +84,7 @@ fall T i x y = planSide T i y + cacheSide T i x
 -- a change of one item that keeps all we know, while the cache pays a and the plan b
 pub record Covered (T : Terms) (i : ℕ) (x y : Both) (a b : ℕ) : Type 0 where
   pub fine : Fine T i y
-  pub covered : rise T i x y + T .c * T .unit * a ≤ fall T i x y + size T * T .unit * b
+  pub covered : rise T i x y + T .c * T .unit * a ≤ fall T i x y + cacheBlocks T * T .unit * b
 
 -- What becomes of an item in each move.
 abbrev pub both : Bool → Bool → Bool → Bool → ℕ → ℕ → Both
@@ -111,11 +111,11 @@ loaded T i x = both true false (x .planHeld) (x .planDirty) (T .loadCost i * T .
 abbrev pub wasRead : Terms → ℕ → Both → Both
 wasRead T i x = withCredits x (T .loadCost i * T .unit) (x .write)
 
-abbrev pub written : Terms → ℕ → Both → Both
-written T i x = both (x .held) true (x .planHeld) true (T .loadCost i * T .unit) (T .writeCost i * T .unit)
+abbrev pub wasWritten : Terms → ℕ → Both → Both
+wasWritten T i x = both (x .held) true (x .planHeld) true (T .loadCost i * T .unit) (T .writeCost i * T .unit)
 
-abbrev pub flushed : Both → Both
-flushed x = both (x .held) false (x .planHeld) false (x .load) 0
+abbrev pub wasFlushed : Both → Both
+wasFlushed x = both (x .held) false (x .planHeld) false (x .load) 0
 
 -- What `pick` keeps of an inequality.
 pick-most : (t : Bool) (x : ℕ) → pick t x ≤ x
@@ -158,14 +158,14 @@ module _ {T : Terms} {i : ℕ} {x : Both} (o : Fine T i x) where
   write-cost = pick-cost (x .planDirty) (x .dirty) (x .write) (T .writeCost i) (T .unit) (o .writeMost)
 
   pub plan-evicts : Covered T i x (planEvicted x) 0 (planWriteback T i x)
-  plan-evicts = omega (arith, mul-le-mul-left (size T) load-cost, mul-le-mul-left (size T) write-cost)
+  plan-evicts = omega (arith, mul-le-mul-left (cacheBlocks T) load-cost, mul-le-mul-left (cacheBlocks T) write-cost)
 
-  pub flushes : Covered T i x (flushed x) (writeback T i x) (planWriteback T i x)
-  flushes = omega (arith, mul-le-mul-left (size T) write-cost)
+  pub flushes : Covered T i x (wasFlushed x) (writeback T i x) (planWriteback T i x)
+  flushes = omega (arith, mul-le-mul-left (cacheBlocks T) write-cost)
 
   -- where the plan owes no writeback, what is left of the potential is at least the load credits' part
   pub at-rest : x .planDirty ≡ false → planSide T i x + T .p * x .load ≤ cacheSide T i x
-  at-rest e = rw e (omega (arith, mul-le-mul-left (size T) load-cost))
+  at-rest e = rw e (omega (arith, mul-le-mul-left (cacheBlocks T) load-cost))
 
 pub plan-fetches :
     {T : Terms} {i : ℕ} {x : Both}
@@ -178,15 +178,15 @@ plan-fetches {T} {i} {x} o e = known P x (x .held) false refl e shown o
     P z = Fine T i z → Covered T i z (planFetched z) 0 (T .loadCost i)
 
     shown : P (both (x .held) (x .dirty) false (x .planDirty) (x .load) (x .write))
-    shown f = omega (arith, mul-le-mul-left (size T) (pick-within (x .planDirty) false (x .write) (f .planDirtyHeld)))
+    shown f = omega (arith, mul-le-mul-left (cacheBlocks T) (pick-within (x .planDirty) false (x .write) (f .planDirtyHeld)))
 
-pub loads :
+pub keeps-loads :
     {T : Terms} {i : ℕ} {x : Both}
     → Fine T i x
     → x .held ≡ false
     → x .planHeld ≡ true
     → Covered T i x (loaded T i x) (T .loadCost i) 0
-loads {T} {i} {x} o e r = known P x false true e r shown o
+keeps-loads {T} {i} {x} o e r = known P x false true e r shown o
   where
     P : Both → Type 0
     P z = Fine T i z → Covered T i z (loaded T i z) (T .loadCost i) 0
@@ -197,7 +197,7 @@ loads {T} {i} {x} o e r = known P x false true e r shown o
         let none : pick (x .dirty) (T .writeCost i) ≤ 0 = pick-within (x .dirty) false (T .writeCost i) (f .dirtyHeld) in
         let noWrite : x .write ≤ 0 = omega (arith, mul-le-mul-left (T .unit) none) in
         let counted : x .load + pick (x .planDirty) (x .write) ≤ 0 = omega (arith, pick-most (x .planDirty) (x .write)) in
-        omega (arith, mul-le-mul-left (size T) counted, pick-most (x .planDirty) 1)
+        omega (arith, mul-le-mul-left (cacheBlocks T) counted, pick-most (x .planDirty) 1)
 
 pub reads :
     {T : Terms} {i : ℕ} {x : Both}
@@ -219,11 +219,11 @@ pub writes :
     → Fine T i x
     → x .held ≡ true
     → x .planHeld ≡ true
-    → Covered T i x (written T i x) 0 0
+    → Covered T i x (wasWritten T i x) 0 0
 writes {T} {i} {x} o e r = known P x true true e r shown o
   where
     P : Both → Type 0
-    P z = Fine T i z → Covered T i z (written T i z) 0 0
+    P z = Fine T i z → Covered T i z (wasWritten T i z) 0 0
 
     shown : P (both true (x .dirty) true (x .planDirty) (x .load) (x .write))
     shown f =
@@ -231,7 +231,7 @@ writes {T} {i} {x} o e r = known P x true true e r shown o
           arith,
           mul-le-mul-left (T .c) (f .loadMost),
           mul-le-mul-left (T .c) (f .writeMost),
-          mul-le-mul-left (size T) (pick-most (x .planDirty) (x .write)),
+          mul-le-mul-left (cacheBlocks T) (pick-most (x .planDirty) (x .write)),
         )
 
 -- an item from which an eviction of rank m takes: m for each block held, in any split between its two credits
@@ -245,13 +245,13 @@ pub record Charged (T : Terms) (i m : ℕ) (x y : Both) : Type 0 where
   pub loss : x .load + x .write ≡ (y .load + y .write) + m * heldBlocks T i x
 
 -- the marks are kept, and a and b are left of the credits
-pub takes :
+pub keeps-takes :
     {T : Terms} {i m : ℕ} {x : Both} (a b : ℕ)
     → a ≤ x .load
     → b ≤ x .write
     → x .load + x .write ≡ (a + b) + m * heldBlocks T i x
     → Charged T i m x (withCredits x a b)
-takes a b u v e =
+keeps-takes a b u v e =
     record {
       heldKept = refl;
       dirtyKept = refl;
@@ -287,8 +287,8 @@ module _ {T : Terms} {i m : ℕ} {x y : Both} (o : Fine T i x) (h : Charged T i 
 
   -- the cache's side falls by p for each credit lost; the plan's falls by the cache's size for each, but only for
   -- blocks that both hold
-  pub charged : rise T i x y + T .p * m * heldBlocks T i x ≤ fall T i x y + size T * m * sharedBlocks T i x
-  charged = rw kept (omega (arith, mul-le-mul-left (size T) seen, lost))
+  pub charged : rise T i x y + T .p * m * heldBlocks T i x ≤ fall T i x y + cacheBlocks T * m * sharedBlocks T i x
+  charged = rw kept (omega (arith, mul-le-mul-left (cacheBlocks T) seen, lost))
     where
       seen :
           pick (x .planHeld) (x .load) + pick (x .planDirty) (x .write)
@@ -309,9 +309,9 @@ pub evicts :
     → Fine T i x
     → x .load + x .write ≡ m * heldBlocks T i x
     → rise T i x (evicted x) + T .p * m * heldBlocks T i x + T .c * T .unit * writeback T i x
-    ≤ fall T i x (evicted x) + size T * m * sharedBlocks T i x
+    ≤ fall T i x (evicted x) + cacheBlocks T * m * sharedBlocks T i x
 evicts {T} {i} m {x} o e =
-    let emptied : Charged T i m x (withCredits x 0 0) = takes 0 0 (omega arith) (omega arith) (omega arith) in
+    let emptied : Charged T i m x (withCredits x 0 0) = keeps-takes 0 0 (omega arith) (omega arith) (omega arith) in
     omega (arith, charged o emptied)
 
 -- Why an eviction loses nothing. The plan holds the wanted item, of g blocks, and the cache does not, so that the

@@ -6,7 +6,8 @@ use native.Mathlib.Nat.{dvd-zero, dvd-sub, dvd-mul-left-of-dvd, div-mul-cancel, 
 use native.Mathlib.Decide.{decLe}
 use native.Mathlib.Omega.{arith}
 use Rattle.landlord.specs.Fold.{sumTo}
-use Rattle.landlord.specs.Catalog.{Item, ItemOk, full, unit, sharesPerBlock}
+use Rattle.landlord.specs.Catalog.{Item, full, unit, sharesPerBlock}
+use Rattle.landlord.specs.Inner.{ItemFacts}
 use Rattle.landlord.specs.Slot.{Slot, absent, clean, dirty, held, isDirty, loadCredit, writeCredit, Split, writeFirst, lose, brought, refilled, written, flushed}
 use Rattle.landlord.proofs.Sums.{sum-none}
 use Rattle.landlord.specs.Claims.{Bears, SplitOk, SlotKept}
@@ -25,7 +26,7 @@ unfolding sumTo
 sixteen = refl
 
 -- the test as a fact about each
-pub blocks-divide : (x : Item) → ItemOk x → x .blocks ∣ unit
+pub blocks-divide : (x : Item) → ItemFacts x → x .blocks ∣ unit
 blocks-divide x ok = go (x .blocks) (ok .some) (ok .small)
   where
     go : (s : ℕ) → 1 ≤ s → s ≤ 16 → s ∣ unit

@@ -16,18 +16,19 @@ use Rattle.landlord.specs.Types.{stepMinutes}
 use Rattle.landlord.specs.Fold.{fold}
 use Rattle.landlord.specs.Catalog.{Catalog, Item, CatalogOk, CapacityOk, itemAt, full}
 use Rattle.landlord.specs.Slot.{Slot, absent, held, isDirty, Split, written}
-use Rattle.landlord.specs.Rule.{State, size, slotAt, blocksAt, used, heldCount, emptied, wrote, landed, Moved, stay, joined, victim, evictItem, evict, makeRoom, put, found, readSlot, serveRead, serveWrite, flush, step}
+use Rattle.landlord.specs.Rule.{State, size, slotAt, blocksAt, used, heldCount, emptied, wrote, flushStep, Moved, stay, joined, victim, evictItem, evict, makeRoom, putSlot, found, readSlot, serveRead, serveWrite, flush, step}
 use Rattle.landlord.specs.Figures.{Totals, Figures, Standing, useAt, tally, opened, moved, took, closes}
-use Rattle.landlord.specs.Calls.{Call, take, close, stepOf, callOf, inRange, itemRefusal, refusalAt, refusalNow, logOf, ruleOver, accepted, after}
+use Rattle.landlord.specs.Calls.{Call, stepCall, close, stepOf, callOf, inRange, itemRefusal, refusalAt, refusalNow, logOf, ruleOver, accepted, after}
 use Rattle.landlord.specs.Claims.{SplitOk, SlotKept, Kept, Least}
 use Rattle.landlord.specs.Valid.{dirtyCount, StandingOk}
+use Rattle.landlord.proofs.Ranges.{catalog-facts}
 use Rattle.landlord.proofs.Sums.{sum-zero, sum-term}
 use Rattle.landlord.proofs.Folds.{either, tab-at, fold-append}
 use Rattle.landlord.proofs.Slots.{blocks-divide, lose-dirty, read-held, write-held, write-kept, flush-clean}
-use Rattle.landlord.proofs.Keeps.{markSum, mark-change, evict-sum, evict-count, evict-catalog, evicted-slot, other-slot, evict-kept, Evicting, enough, more, Room, make-room, put-same, put-other, put-kept, requested, flush-slot, flush-sum, flush-keeps, Served, empty-kept}
+use Rattle.landlord.proofs.Keeps.{markSum, mark-change, evict-sum, evict-count, evict-catalog, evicted-slot, other-slot, evict-kept, Evicting, enough, more, RoomMade, make-room, put-same, put-other, put-kept, requested, flush-slot, flush-sum, flush-keeps, Served, empty-kept}
 use Rattle.landlord.proofs.Logs.{tally-part, room-sum, stepsAdded, no-step, allowed-served}
 use Rattle.landlord.proofs.Calls.{means, open-log, rule-follows}
-use Rattle.landlord.proofs.Counts.{Counted, nothing-counted, tallied, evicted-counted, found-counted, flush-counted}
+use Rattle.landlord.proofs.Counts.{CountsKept, nothing-counted, tallied, evicted-counted, found-counted, flush-counted}
 
 -- the count of steps
 abbrev taken : Standing → ℕ
@@ -39,7 +40,7 @@ Clean x isClosed = isClosed ≡ true → (i : ℕ) → i < size x → isDirty (s
 
 -- the figures of a cache that stands so, where t steps are taken
 abbrev Right : State → ℕ → Figures → Type 0
-Right x t f = Counted (size x) t (heldCount x) (dirtyCount x) (240 * t) f
+Right x t f = CountsKept (size x) t (heldCount x) (dirtyCount x) (240 * t) f
 
 -- a standing, by its parts
 abbrev standingWith : ℕ → State → Figures → Bool → Standing
@@ -193,7 +194,7 @@ ok-room split v i ok o l fits = go (held (slotAt (v .state) i)) refl
     m : Moved
     m = makeRoom split (v .k) i (v .state)
 
-    room : Room split (v .k) i (v .state) m
+    room : RoomMade split (v .k) i (v .state) m
     room = make-room split (v .k) i (v .state) ok l fits
 
     go : (t : Bool) → held (slotAt (v .state) i) ≡ t → StandingOk (moved v m (v .closed))
@@ -208,7 +209,7 @@ evict-steps split v c = omega (arith, no-step (v .state .catalog) (victim (v .st
 -- nor is making room
 room-steps :
     (split : Split) (v : Standing) (i : ℕ) (m : Moved) (c : Bool) →
-    Room split (v .k) i (v .state) m →
+    RoomMade split (v .k) i (v .state) m →
     taken (moved v m c) ≡ taken v
 room-steps split v i m c room =
     omega (
@@ -224,7 +225,7 @@ pub record Taking (v : Standing) : Type 0 where
   pub isOpen : v .closed ≡ false
 
 -- item i can be served: it is in the catalog, and held or else there is room for it
-pub record Ready (v : Standing) (i : ℕ) : Type 0 where
+pub record CanServe (v : Standing) (i : ℕ) : Type 0 where
   pub taking : Taking v
   pub below : i < size (v .state)
   pub free : held (slotAt (v .state) i) ≡ false → used (v .state) + blocksAt (v .state) i ≤ v .k
@@ -236,10 +237,10 @@ pub room-ready :
     Taking v →
     i < size (v .state) →
     blocksAt (v .state) i ≤ v .k →
-    Ready (moved v (makeRoom split (v .k) i (v .state)) (v .closed)) i
+    CanServe (moved v (makeRoom split (v .k) i (v .state)) (v .closed)) i
 room-ready split v i ok o l fits =
     let m : Moved = makeRoom split (v .k) i (v .state) in
-    let room : Room split (v .k) i (v .state) m = make-room split (v .k) i (v .state) ok l fits in
+    let room : RoomMade split (v .k) i (v .state) m = make-room split (v .k) i (v .state) ok l fits in
     record {
       taking =
           record {
@@ -252,19 +253,19 @@ room-ready split v i ok o l fits =
     }
 
 -- one slot changed to one that is held: what the marks then count
-put-held : (x : State) (i : ℕ) (s : Slot) → length (x .slots) ≡ size x → i < size x → held s ≡ true → heldCount (put x i s) + cond (held (slotAt x i)) 1 0 ≡ heldCount x + 1
+put-held : (x : State) (i : ℕ) (s : Slot) → length (x .slots) ≡ size x → i < size x → held s ≡ true → heldCount (putSlot x i s) + cond (held (slotAt x i)) 1 0 ≡ heldCount x + 1
 unfolding heldCount
 put-held x i s e l h =
-    mark-change held (λ j. 1) x (put x i s) i refl l (λ j b d. ap held (put-other x i j s d))
+    mark-change held (λ j. 1) x (putSlot x i s) i refl l (λ j b d. ap held (put-other x i j s d))
     ∙ ap (λ (t : Bool). heldCount x + cond t 1 0) (ap held (put-same x i s (omega arith)) ∙ h)
 
-put-dirty : (x : State) (i : ℕ) (s : Slot) → i < size x → dirtyCount (put x i s) ≤ dirtyCount x + 1
+put-dirty : (x : State) (i : ℕ) (s : Slot) → i < size x → dirtyCount (putSlot x i s) ≤ dirtyCount x + 1
 unfolding dirtyCount
 put-dirty x i s l =
     omega (
       arith,
-      mark-change isDirty (λ j. 1) x (put x i s) i refl l (λ j b d. ap isDirty (put-other x i j s d)),
-      most (isDirty (slotAt (put x i s) i)),
+      mark-change isDirty (λ j. 1) x (putSlot x i s) i refl l (λ j b d. ap isDirty (put-other x i j s d)),
+      most (isDirty (slotAt (putSlot x i s) i)),
     )
   where
     most : (t : Bool) → cond t 1 0 ≤ 1
@@ -278,7 +279,7 @@ found-right :
     i < size (v .state) →
     held s ≡ true →
     240 * taken v ≤ top →
-    Counted (size (v .state)) (taken v + 1) (heldCount (put (v .state) i s)) (dirtyCount (put (v .state) i s)) top
+    CountsKept (size (v .state)) (taken v + 1) (heldCount (putSlot (v .state) i s)) (dirtyCount (putSlot (v .state) i s)) top
     (tally (v .state .catalog) (v .figures) (found (v .state) i))
 found-right v i top s o l h up =
     found-counted (v .state .catalog) (v .figures) i (held (slotAt (v .state) i)) (taken v) _ _ _ _ _ top (o .kept .catalog) l (counted-of v o)
@@ -287,18 +288,18 @@ found-right v i top s o l h up =
 -- a requested item's slot changed and one step more counted: this is a read, and this is a write
 serve-ok :
     (v : Standing) (i : ℕ) (s : Slot) (f : Figures) →
-    Ready v i →
+    CanServe v i →
     SlotKept (itemAt (v .state .catalog) i) s →
     held s ≡ true →
-    Right (put (v .state) i s) (taken v + 1) f →
-    StandingOk (standingWith (v .k) (put (v .state) i s) f (v .closed))
+    Right (putSlot (v .state) i s) (taken v + 1) f →
+    StandingOk (standingWith (v .k) (putSlot (v .state) i s) f (v .closed))
 serve-ok v i s f r new h right =
     let o : StandingOk v = r .taking .standing in
-    standing-of (standingWith (v .k) (put (v .state) i s) f (v .closed)) (taken v + 1) (o .capacity)
+    standing-of (standingWith (v .k) (putSlot (v .state) i s) f (v .closed)) (taken v + 1) (o .capacity)
     (put-kept (v .k) (v .state) i s (o .kept) (r .below) new h (r .free))
     (omega (arith, r .taking .few)) right (λ c. absurd (false≢true (sym (r .taking .isOpen) ∙ c)))
 
-pub ok-serve-read : (v : Standing) (i : ℕ) → Ready v i → StandingOk (moved v (serveRead i (v .state)) (v .closed))
+pub ok-serve-read : (v : Standing) (i : ℕ) → CanServe v i → StandingOk (moved v (serveRead i (v .state)) (v .closed))
 unfolding fold
 ok-serve-read v i r =
     let x : State = v .state in
@@ -306,7 +307,7 @@ ok-serve-read v i r =
     serve-ok v i (readSlot x i) (tally (x .catalog) (v .figures) (found x i)) r (requested (v .k) x i (o .kept) (r .below)) (read-held _ (slotAt x i))
     (found-right v i (240 * (taken v + 1)) (readSlot x i) o (r .below) (read-held _ (slotAt x i)) (omega arith))
 
-pub ok-serve-write : (v : Standing) (i minutes : ℕ) → Ready v i → minutes ≤ 1440 → StandingOk (moved v (serveWrite i minutes (v .state)) (v .closed))
+pub ok-serve-write : (v : Standing) (i minutes : ℕ) → CanServe v i → minutes ≤ 1440 → StandingOk (moved v (serveWrite i minutes (v .state)) (v .closed))
 unfolding fold
 ok-serve-write v i minutes r few =
     let x : State = v .state in
@@ -316,20 +317,20 @@ ok-serve-write v i minutes r few =
     let h : held s ≡ true = write-held _ (readSlot x i) ∙ read-held _ (slotAt x i) in
     let f : Figures = tally (x .catalog) (v .figures) (found x i) in
     serve-ok v i s (tally (x .catalog) f (wrote i minutes)) r
-    (write-kept it (readSlot x i) (blocks-divide it (o .kept .catalog .each i (r .below))) (requested (v .k) x i (o .kept) (r .below))) h
+    (write-kept it (readSlot x i) (blocks-divide it (catalog-facts (x .catalog) (o .kept .catalog) .each i (r .below))) (requested (v .k) x i (o .kept) (r .below))) h
     (tallied (x .catalog) f (wrote i minutes) (taken v + 1) _ _ (240 * taken v) _ _ _ _ (o .kept .catalog) (r .below)
     (found-right v i (240 * taken v) s o (r .below) h (omega arith)) (omega arith) (omega arith) (omega arith) (omega arith))
 
 -- a landing as an event: a step that moves nothing
-abbrev pub lands : State → Moved
-lands x = record { state = x; events = landed ∷ [] }
+abbrev pub flushCounts : State → Moved
+flushCounts x = record { state = x; events = flushStep ∷ [] }
 
-pub ok-lands : (v : Standing) → Taking v → StandingOk (moved v (lands (v .state)) (v .closed))
+pub ok-flushCounts : (v : Standing) → Taking v → StandingOk (moved v (flushCounts (v .state)) (v .closed))
 unfolding fold
-ok-lands v r =
+ok-flushCounts v r =
     let o : StandingOk v = r .standing in
-    standing-of (moved v (lands (v .state)) (v .closed)) (taken v + 1) (o .capacity) (o .kept) (omega (arith, r .few))
-    (tallied (v .state .catalog) (v .figures) landed (taken v) _ _ _ _ _ _ _ (o .kept .catalog) tt (counted-of v o)
+    standing-of (moved v (flushCounts (v .state)) (v .closed)) (taken v + 1) (o .capacity) (o .kept) (omega (arith, r .few))
+    (tallied (v .state .catalog) (v .figures) flushStep (taken v) _ _ _ _ _ _ _ (o .kept .catalog) tt (counted-of v o)
     (omega arith) (omega arith) (omega arith) (omega arith))
     (o .closed)
 
@@ -358,11 +359,11 @@ pub ok-closes : (v : Standing) → StandingOk v → StandingOk (closes v)
 unfolding closes
 ok-closes v o = ok-flush v true o
 
-pub ok-landing : (split : Split) (v : Standing) → Taking v → StandingOk (took split v Flush)
+pub ok-flush-step : (split : Split) (v : Standing) → Taking v → StandingOk (took split v Flush)
 unfolding took step
-ok-landing split v r =
-    rw (moved-joined v (lands (v .state)) (flush (v .state)) (v .closed) refl)
-    (ok-flush (moved v (lands (v .state)) (v .closed)) (v .closed) (ok-lands v r))
+ok-flush-step split v r =
+    rw (moved-joined v (flushCounts (v .state)) (flush (v .state)) (v .closed) refl)
+    (ok-flush (moved v (flushCounts (v .state)) (v .closed)) (v .closed) (ok-flushCounts v r))
 
 -- every step that the table lets through
 pub ok-took :
@@ -381,7 +382,7 @@ ok-took split v (Write i minutes) ok r served few =
     let m : Moved = makeRoom split (v .k) i (v .state) in
     rw (moved-joined v m (serveWrite i minutes (m .state)) (v .closed) (make-room split (v .k) i (v .state) ok (served .0) (served .1) .catalog))
     (ok-serve-write (moved v m (v .closed)) i minutes (room-ready split v i ok r (served .0) (served .1)) few)
-ok-took split v Flush ok r served few = ok-landing split v r
+ok-took split v Flush ok r served few = ok-flush-step split v r
 
 -- the two first tests of the table that an answer of 0 has passed: the log is not full, and the numbers are in range
 passed : (a b : Bool) (z : ℕ) → cond a 8 (cond b z 3) ≡ 0 → (a ≡ false) × (b ≡ true)
@@ -404,8 +405,8 @@ in-range k cat t Flush e = (leb-false 1000000 t (passed (leb 1000000 t) true 0 e
 
 -- a call that is not refused
 accepted-ok : (split : Split) (v : Standing) (call : Call) → SplitOk split → StandingOk v → refusalNow v call ≡ 0 → StandingOk (accepted split v call)
-accepted-ok split v (take kind i m) ok o e =
-    let isOpen : v .closed ≡ false = open-log (v .k) (v .state .catalog) (taken v) (v .closed) (take kind i m) e in
+accepted-ok split v (stepCall kind i m) ok o e =
+    let isOpen : v .closed ≡ false = open-log (v .k) (v .state .catalog) (taken v) (v .closed) (stepCall kind i m) e in
     let lets : refusalAt (v .k) (v .state .catalog) (taken v) false (callOf (stepOf kind i m)) ≡ 0 =
     means (v .k) (v .state .catalog) (taken v) kind i m (rw isOpen at e)
     in

@@ -9,31 +9,22 @@ use Rattle.landlord.specs.declared.Step.{Step}
 use Rattle.landlord.specs.declared.Step.the-variants.{Read, Write, Flush}
 use Rattle.landlord.specs.Types.{stepKind, stepItem, stepMinutes}
 use Rattle.landlord.specs.Fold.{fold}
-use Rattle.landlord.specs.Catalog.{Catalog, Item, itemAt}
+use Rattle.landlord.specs.Catalog.{Catalog, itemAt, catalogInRange, capacityInRange}
 use Rattle.landlord.specs.Slot.{Split}
 use Rattle.landlord.specs.Figures.{Standing, took, closes, ran, season}
 
--- a catalog line in range
-abbrev pub itemInRange : Item → Bool
-itemInRange x = leb 1 (x .blocks) && leb (x .blocks) 16 && leb (x .load) 65535 && leb (x .write) 65535
-
--- every line of a catalogue in range
-unfoldable pub allInRange : Catalog → Bool
-allInRange [] = true
-allInRange (x ∷ items) = itemInRange x && allInRange items
-
 -- "Opening by call checks k and catalogue (3)": the refusal's number, 0 if there is none
 unfoldable pub openingRefusal : ℕ → Catalog → ℕ
-openingRefusal k cat = cond (leb 1 k && leb k 4096 && leb (length cat) 256 && allInRange cat) 0 3
+openingRefusal k cat = cond (capacityInRange k && catalogInRange cat) 0 3
 
 -- a call, with any numbers: a step's kind is the code of its letter
 pub data Call : Type 0 where
-  take : (kind item minutes : ℕ) → Call
+  stepCall : (kind item minutes : ℕ) → Call
   close : Call
 
 -- a step as a call
 abbrev pub callOf : Step → Call
-callOf s = take (stepKind s) (stepItem s) (stepMinutes s)
+callOf s = stepCall (stepKind s) (stepItem s) (stepMinutes s)
 
 -- the step that a call of a known kind means; values that a step lacks are not looked at
 unfoldable pub stepOf : ℕ → ℕ → ℕ → Step
@@ -55,7 +46,7 @@ itemRefusal k cat Flush = 0
 -- The refusal's number, 0 if there is none, when so many steps are taken and the log is closed or not:
 -- "A step checks 9, 8, 3, 6, 7; closing 9".
 unfoldable pub refusalAt : ℕ → Catalog → ℕ → Bool → Call → ℕ
-refusalAt k cat taken isClosed (take kind item minutes) =
+refusalAt k cat taken isClosed (stepCall kind item minutes) =
     cond isClosed 9
     (cond (leb 1000000 taken) 8
     (cond (inRange kind item minutes) (itemRefusal k cat (stepOf kind item minutes)) 3))
@@ -76,7 +67,7 @@ refusalIn k cat l call = refusalAt k cat (length (l .steps)) (l .closed) call
 
 -- a log that a call joins: a step at its end, or the closing
 abbrev pub logged : Log → Call → Log
-logged l (take kind item minutes) = record { steps = l .steps ++ (stepOf kind item minutes ∷ []); closed = l .closed }
+logged l (stepCall kind item minutes) = record { steps = l .steps ++ (stepOf kind item minutes ∷ []); closed = l .closed }
 logged l close = record { steps = l .steps; closed = true }
 
 -- "what the table refuses moves nothing, each step that it does not refuse joins the log, and the first closing that it
@@ -98,7 +89,7 @@ ruleOver split k cat l = cond (l .closed) (season split k cat (l .steps)) (ran s
 
 -- where the rule stands after a call that is not refused
 abbrev pub accepted : Split → Standing → Call → Standing
-accepted split v (take kind item minutes) = took split v (stepOf kind item minutes)
+accepted split v (stepCall kind item minutes) = took split v (stepOf kind item minutes)
 accepted split v close = closes v
 
 -- the same table, asked where the rule stands

@@ -1,8 +1,11 @@
 -- Items, their catalog, the capacity of a cache, and the unit in which credit is counted.
 -- Paper 01, 'Sails, locker, shares'. Assumes nothing.
-use mathlib.Core.List.{List}
-use Prim.Native.Nat.{ℕ, _*_, _/_, _≤_, _<_}
+use mathlib.Core.Path.{_≡_}
+use mathlib.Core.Bool.{Bool, true, _&&_}
+use mathlib.Core.List.{List, [], _∷_}
+use Prim.Native.Nat.{ℕ, _*_, _/_}
 use lib.ListN.{length, getD}
+use lib.Dec.{leb}
 
 -- paper 01: a sail, with its blocks, its load cost and its write cost
 pub record Item : Type 0 where
@@ -23,21 +26,29 @@ abbrev pub itemAt : Catalog → ℕ → Item
 itemAt cat i = getD cat i noItem
 
 -- "blocks 1 to 16, a load cost 0 to 65,535 and a write cost 0 to 65,535"
-pub record ItemOk (x : Item) : Type 0 where
-  pub some : 1 ≤ x .blocks
-  pub small : x .blocks ≤ 16
-  pub load : x .load ≤ 65535
-  pub write : x .write ≤ 65535
+abbrev pub itemInRange : Item → Bool
+itemInRange x = leb 1 (x .blocks) && leb (x .blocks) 16 && leb (x .load) 65535 && leb (x .write) 65535
 
--- "0 to 256 sails"
-pub record CatalogOk (cat : Catalog) : Type 0 where
-  pub few : length cat ≤ 256
-  pub each : (i : ℕ) → i < length cat → ItemOk (itemAt cat i)
+-- every item of a list in range
+unfoldable pub allInRange : Catalog → Bool
+allInRange [] = true
+allInRange (x ∷ items) = itemInRange x && allInRange items
+
+-- "0 to 256 sails", each in range
+unfoldable pub catalogInRange : Catalog → Bool
+catalogInRange cat = leb (length cat) 256 && allInRange cat
 
 -- "k blocks, 1 to 4,096"
-pub record CapacityOk (k : ℕ) : Type 0 where
-  pub low : 1 ≤ k
-  pub high : k ≤ 4096
+abbrev pub capacityInRange : ℕ → Bool
+capacityInRange k = leb 1 k && leb k 4096
+
+-- a catalog in range, as a statement
+abbrev pub CatalogOk : Catalog → Type 0
+CatalogOk cat = catalogInRange cat ≡ true
+
+-- a capacity in range
+abbrev pub CapacityOk : ℕ → Type 0
+CapacityOk k = capacityInRange k ≡ true
 
 -- paper 01: the shares in one unit of cost, the least common multiple of 1 to 16
 abbrev pub unit : ℕ

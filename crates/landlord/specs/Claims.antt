@@ -11,12 +11,12 @@ use Rattle.landlord.specs.Fold.{sumTo}
 use Rattle.landlord.specs.Catalog.{Catalog, Item, itemAt, CatalogOk, full, unit}
 use Rattle.landlord.specs.Slot.{Split, Slot, held, loadCredit, writeCredit}
 use Rattle.landlord.specs.Rule.{State, size, slotAt, used, rank}
-use Rattle.landlord.specs.Figures.{season, totalCost}
+use Rattle.landlord.specs.Figures.{season, totalCost, leftSide, rightSide}
 use Rattle.landlord.specs.Plan.{Plan, price, costs}
 use Rattle.landlord.specs.Calls.{callOf, refusalAt}
 
 -- a list of steps that the table of refusals lets through, each at its place in an open log
-pub record Allowed (k : ℕ) (cat : Catalog) (steps : List Step) : Type 0 where
+pub record AllowedLog (k : ℕ) (cat : Catalog) (steps : List Step) : Type 0 where
   pub each : (i : ℕ) → i < length steps → refusalAt k cat i false (callOf (getD steps i Flush)) ≡ 0
 
 -- What a split "in multiples of the item's blocks" lets the write credit bear, t, of a loss: a multiple of the blocks, no
@@ -54,12 +54,15 @@ pub record Least (x : State) (v : ℕ) : Type 0 where
   pub least : (i : ℕ) → i < size x → held (slotAt x i) ≡ true → rank x v ≤ rank x i
   pub first : (i : ℕ) → i < v → held (slotAt x i) ≡ true → rank x v < rank x i
 
--- The wear bound of one log: the rule's total over the steps and the closing, times k - h + 1, is at most k times the
--- cost of every plan that is legal over those steps with h blocks.
-abbrev pub WearBound : Split → ℕ → Catalog → List Step → Type 0
-WearBound split k cat steps =
-    (h : ℕ) → 1 ≤ h → h ≤ k → (plan : Plan) (c : ℕ) → price cat h plan steps ≡ costs c →
-    totalCost (season split k cat steps .figures) * (k - h + 1) ≤ k * c
+-- What is claimed of a total over a log: for every h from 1 to k and every plan that is legal over its steps with h blocks, at
+-- cost c, total × (k - h + 1) ≤ k × c.
+abbrev pub WithinBound : ℕ → Catalog → List Step → ℕ → Type 0
+WithinBound k cat steps total =
+    (h : ℕ) → 1 ≤ h → h ≤ k → (plan : Plan) (c : ℕ) → price cat h plan steps ≡ costs c → leftSide k h total ≤ rightSide k c
+
+-- the wear bound of one log: the rule's total over the steps and the closing is within it
+abbrev pub CompetitiveBound : Split → ℕ → Catalog → List Step → Type 0
+CompetitiveBound split k cat steps = WithinBound k cat steps (totalCost (season split k cat steps .figures))
 
 -- the load credits held, in shares
 abbrev pub loadCredits : State → ℕ
@@ -70,5 +73,5 @@ loadCredits x = sumTo (size x) (λ i. loadCredit (slotAt x i))
 abbrev pub SharpBound : Split → ℕ → Catalog → List Step → Type 0
 SharpBound split k cat steps =
     (h : ℕ) → 1 ≤ h → h ≤ k → (plan : Plan) (c : ℕ) → price cat h plan steps ≡ costs c →
-    totalCost (season split k cat steps .figures) * (k - h + 1) * unit + (h - 1) * loadCredits (season split k cat steps .state)
-    ≤ k * c * unit
+    leftSide k h (totalCost (season split k cat steps .figures)) * unit + (h - 1) * loadCredits (season split k cat steps .state)
+    ≤ rightSide k c * unit

@@ -2,14 +2,14 @@
 -- Paper 01, 'The step rule' and the report's names. Assumes nothing.
 use mathlib.Core.Bool.{Bool, true, false, cond}
 use mathlib.Core.List.{List}
-use Prim.Native.Nat.{ℕ, _+_, _/_}
+use Prim.Native.Nat.{ℕ, _+_, _*_, _-_, _/_}
 use lib.ListN.{length, getD}
 use lib.Dec.{eqb}
 use Rattle.landlord.specs.declared.Step.{Step}
 use Rattle.landlord.specs.Fold.{tab, fold}
 use Rattle.landlord.specs.Catalog.{Catalog, itemAt}
 use Rattle.landlord.specs.Slot.{Split}
-use Rattle.landlord.specs.Rule.{State, Event, hit, loaded, evicted, wroteBack, wrote, landed, Moved, emptied, flush, step}
+use Rattle.landlord.specs.Rule.{State, Event, hit, loaded, evicted, wroteBack, wrote, flushStep, Moved, emptied, flush, step}
 
 -- The totals of paper 01's report, with the steps and the flushes (landings). The closing is neither a step nor a flush.
 pub record Totals : Type 0 where
@@ -58,7 +58,7 @@ adds cat (evicted i false) = totalsOf 0 0 0 0 1 0 0 0 0
 adds cat (evicted i true) = totalsOf 0 0 0 0 1 1 1 (itemAt cat i .write) 0
 adds cat (wroteBack i) = totalsOf 0 0 0 0 0 0 1 (itemAt cat i .write) 0
 adds cat (wrote i minutes) = totalsOf 0 0 0 0 0 0 0 0 0
-adds cat landed = totalsOf 1 0 0 0 0 0 0 0 1
+adds cat flushStep = totalsOf 1 0 0 0 0 0 0 0 1
 
 -- "A write adds minutes / 6, rounded down, to the sail's tenths of an hour"
 abbrev pub tenthsOf : ℕ → ℕ
@@ -76,7 +76,7 @@ usage (evicted i false) = useOf 0 0 0
 usage (evicted i true) = useOf 0 0 1
 usage (wroteBack i) = useOf 0 0 1
 usage (wrote i minutes) = useOf (tenthsOf minutes) 0 0
-usage landed = useOf 0 0 0
+usage flushStep = useOf 0 0 0
 
 -- whether an event is about item i
 abbrev pub isAbout : ℕ → Event → Bool
@@ -85,7 +85,7 @@ isAbout i (loaded j) = eqb i j
 isAbout i (evicted j d) = eqb i j
 isAbout i (wroteBack j) = eqb i j
 isAbout i (wrote j minutes) = eqb i j
-isAbout i landed = false
+isAbout i flushStep = false
 
 -- totals added up, each by itself
 abbrev pub plusTotals : Totals → Totals → Totals
@@ -121,6 +121,14 @@ nothing cat = record { totals = totalsOf 0 0 0 0 0 0 0 0 0; uses = tab (length c
 -- "Total is loadcost + writecost"
 abbrev pub totalCost : Figures → ℕ
 totalCost f = f .totals .loadCost + f .totals .writeCost
+
+-- "left is (k − h + 1) × total"
+abbrev pub leftSide : ℕ → ℕ → ℕ → ℕ
+leftSide k h total = (k - h + 1) * total
+
+-- "right is k × rival"
+abbrev pub rightSide : ℕ → ℕ → ℕ
+rightSide k cost = k * cost
 
 -- where the rule stands in a season: the capacity, the cache, what it has counted, and whether the log is closed
 pub record Standing : Type 0 where

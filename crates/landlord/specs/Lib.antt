@@ -9,3 +9,4 @@ pub mod Calls
 pub mod Claims
 pub mod Valid
 pub mod Rows
+pub mod Inner

@@ -8,6 +8,9 @@ use Rattle.landlord.specs.declared.Step.{Step}
 use Rattle.landlord.specs.declared.Step.the-variants.{Read, Write, Flush}
 use Rattle.landlord.specs.declared.Act.{Act}
 use Rattle.landlord.specs.declared.Act.the-variants.{Evict, Fetch}
+use Rattle.landlord.specs.declared.Refusal.{Refusal}
+use Rattle.landlord.specs.declared.Refusal.the-variants.{UnknownItem, NotHeld, AlreadyHeld, OverCapacity, RequestNotHeld}
+use Rattle.landlord.specs.Types.{refusalNumber}
 use Rattle.landlord.specs.Fold.{sumTo, tab}
 use Rattle.landlord.specs.Catalog.{Catalog, itemAt}
 
@@ -59,13 +62,17 @@ pub data Fault : Type 0 where
   requestNotHeld : (atStep item : ℕ) → Fault
   overCapacity : (atStep : ℕ) → Fault
 
--- its number in paper 01's table: stranger, not aboard, aboard, missing, overstowed
+-- its refusal, told on a line: stranger, not aboard, aboard, missing, overstowed
+abbrev pub faultRefusal : Fault → ℕ → Refusal
+faultRefusal (unknownItem s a i) n = UnknownItem n
+faultRefusal (notHeld s a i) n = NotHeld n
+faultRefusal (alreadyHeld s a i) n = AlreadyHeld n
+faultRefusal (requestNotHeld s i) n = RequestNotHeld n
+faultRefusal (overCapacity s) n = OverCapacity n
+
+-- its number in paper 01's table
 abbrev pub faultNumber : Fault → ℕ
-faultNumber (unknownItem s a i) = 6
-faultNumber (notHeld s a i) = 11
-faultNumber (alreadyHeld s a i) = 12
-faultNumber (requestNotHeld s i) = 14
-faultNumber (overCapacity s) = 13
+faultNumber f = refusalNumber (faultRefusal f 0)
 
 -- a part of a plan is done, at a cost, or ends in a fault
 pub data Done : Type 0 where

@@ -4,41 +4,44 @@
 use mathlib.Core.Path.{_≡_, refl}
 use mathlib.Core.Bool.{Bool, true, false}
 use mathlib.Core.List.{List, [], _∷_, _++_, map}
-use Prim.Native.Nat.{ℕ, _+_, _*_, _-_}
+use Prim.Native.Nat.{ℕ, _+_, _*_, _-_, _≤_}
+use native.Mathlib.Omega.{arith}
 use lib.ListN.{getD}
 use Rattle.landlord.specs.declared.Step.{Step}
+use Rattle.landlord.specs.declared.Step.the-variants.{Write}
 use Rattle.landlord.specs.declared.Act.{Act}
 use Rattle.landlord.specs.declared.Act.the-variants.{Evict, Fetch}
 use Rattle.landlord.specs.Fold.{sumTo, tabFrom, bestTo, fold}
 use Rattle.landlord.specs.Catalog.{Catalog, Item, unit}
 use Rattle.landlord.specs.Slot.{Slot, absent, clean, dirty, writeFirst}
-use Rattle.landlord.specs.Rule.{State, Event, hit, loaded, evicted, wroteBack, wrote, landed, emptied, used, heldCount, victim, evictItem, evictFor, makeRoom, writeBacks, flush, step}
-use Rattle.landlord.specs.Figures.{Totals, Use, Standing, totalsOf, useOf, took, closes, season, totalCost}
-use Rattle.landlord.specs.Plan.{Priced, costs, fault, unknownItem, notHeld, alreadyHeld, requestNotHeld, overCapacity, planUsed, owed, planActs, allActs, planServes, priceFrom, price}
+use Rattle.landlord.specs.Rule.{State, Event, hit, loaded, evicted, wroteBack, wrote, flushStep, emptied, used, heldCount, victim, evictItem, evictFor, makeRoom, writeBacks, flush, step}
+use Rattle.landlord.specs.Figures.{Totals, Use, Standing, totalsOf, useOf, took, closes, season, totalCost, leftSide, rightSide}
+use Rattle.landlord.specs.Plan.{Plan, Priced, costs, fault, unknownItem, notHeld, alreadyHeld, requestNotHeld, overCapacity, planUsed, owed, planActs, allActs, planServes, priceFrom, price}
 use Rattle.landlord.specs.Claims.{loadCredits}
-use Rattle.landlord.specs.Calls.{Call, take, close, Log, noLog, stepOf, refusalAt, refusalIn, joins, logOf, ruleOver}
+use Rattle.landlord.specs.Calls.{Call, stepCall, close, Log, noLog, stepOf, refusalAt, refusalIn, joins, logOf, ruleOver}
 
 -- a rival of a row: its blocks, and its acts before step 0, 1, 2 and on; no acts after the last list
-pub record Rival : Type 0 where
+pub record RowRival : Type 0 where
   pub blocks : ℕ
   pub acts : List (List Act)
 
--- what a row expects: the number that answers each call; the figures; the items evicted, in order; every slot with its
+-- what a row expects: the number that answers each call; the total, which paper 01 names; the figures; the items evicted, in order; every slot with its
 -- credits at the end; and the price of each rival
-pub record Outcome : Type 0 where
+pub record RowResult : Type 0 where
   pub answers : List ℕ
+  pub total : ℕ
   pub totals : Totals
   pub uses : List Use
   pub evictions : List ℕ
   pub slots : List Slot
   pub prices : List Priced
 
-pub record Row : Type 0 where
+pub record BenchRow : Type 0 where
   pub k : ℕ
   pub catalog : Catalog
   pub calls : List Call
-  pub rivals : List Rival
-  pub expected : Outcome
+  pub rivals : List RowRival
+  pub expected : RowResult
 
 -- the number that answers each call
 unfoldable pub answers : ℕ → Catalog → Log → List Call → List ℕ
@@ -59,20 +62,21 @@ evictedItems (loaded i ∷ es) = evictedItems es
 evictedItems (evicted i d ∷ es) = i ∷ evictedItems es
 evictedItems (wroteBack i ∷ es) = evictedItems es
 evictedItems (wrote i m ∷ es) = evictedItems es
-evictedItems (landed ∷ es) = evictedItems es
+evictedItems (flushStep ∷ es) = evictedItems es
 
 -- what the definitions give for a row
-unfoldable pub outcome : Row → Outcome
-outcome r =
+unfoldable pub resultOf : BenchRow → RowResult
+resultOf r =
     let l = logOf (r .k) (r .catalog) (r .calls) in
     let v = ruleOver writeFirst (r .k) (r .catalog) l in
     record {
       answers = answers (r .k) (r .catalog) noLog (r .calls);
+      total = totalCost (v .figures);
       totals = v .figures .totals;
       uses = v .figures .uses;
       evictions = evictedItems (trace (r .k) (emptied (r .catalog)) (l .steps));
       slots = v .state .slots;
-      prices = map (λ (q : Rival). price (r .catalog) (q .blocks) (λ i. getD (q .acts) i []) (l .steps)) (r .rivals);
+      prices = map (λ (q : RowRival). price (r .catalog) (q .blocks) (λ i. getD (q .acts) i []) (l .steps)) (r .rivals);
     }
 
 -- an item by its blocks, load cost and write cost
@@ -80,17 +84,17 @@ abbrev item : ℕ → ℕ → ℕ → Item
 item b l w = record { blocks = b; load = l; write = w }
 
 -- a rival by its blocks and its lists of acts
-abbrev rival : ℕ → List (List Act) → Rival
+abbrev rival : ℕ → List (List Act) → RowRival
 rival h acts = record { blocks = h; acts = acts }
 
 abbrev read : ℕ → Call
-read i = take 82 i 0
+read i = stepCall 82 i 0
 
 abbrev write : ℕ → ℕ → Call
-write i minutes = take 87 i minutes
+write i minutes = stepCall 87 i minutes
 
-abbrev landing : Call
-landing = take 76 0 0
+abbrev flushCall : Call
+flushCall = stepCall 76 0 0
 
 -- the catalog, the calls and the plan of paper 01's whole example
 abbrev three : Catalog
@@ -99,89 +103,89 @@ three = item 1 4 6 ∷ item 2 6 2 ∷ item 1 3 9 ∷ []
 abbrev fourSteps : List Call
 fourSteps = write 0 90 ∷ read 1 ∷ write 2 45 ∷ read 0 ∷ []
 
-abbrev theRival : Rival
+abbrev theRival : RowRival
 theRival = rival 2 ((Fetch 0 ∷ []) ∷ (Evict 0 ∷ Fetch 1 ∷ []) ∷ (Evict 1 ∷ Fetch 2 ∷ []) ∷ (Fetch 0 ∷ []) ∷ [])
 
 -- a row: the capacity, the catalog, the calls, the rivals; and what it gives
-abbrev row : ℕ → Catalog → List Call → List Rival → Outcome → Row
+abbrev row : ℕ → Catalog → List Call → List RowRival → RowResult → BenchRow
 row k cat calls rivals o = record { k = k; catalog = cat; calls = calls; rivals = rivals; expected = o }
 
--- the answers, the totals, the uses, the items evicted, the slots, the prices
-abbrev gives : List ℕ → Totals → List Use → List ℕ → List Slot → List Priced → Outcome
-gives a t u e s p = record { answers = a; totals = t; uses = u; evictions = e; slots = s; prices = p }
+-- the answers, the total, the totals, the uses, the items evicted, the slots, the prices
+abbrev gives : List ℕ → ℕ → Totals → List Use → List ℕ → List Slot → List Priced → RowResult
+gives a n t u e s p = record { answers = a; total = n; totals = t; uses = u; evictions = e; slots = s; prices = p }
 
 -- The table. Totals are steps, hits, loads, load cost, evictions, dirty evictions, writebacks, write cost, flushes;
 -- uses are tenths, loads, writebacks.
-abbrev pub rows : List Row
-rows =
+abbrev pub benchRows : List BenchRow
+benchRows =
     -- the empty log
     row 1 (item 1 4 6 ∷ []) (close ∷ []) []
-    (gives (0 ∷ []) (totalsOf 0 0 0 0 0 0 0 0 0)
+    (gives (0 ∷ []) 0 (totalsOf 0 0 0 0 0 0 0 0 0)
     (useOf 0 0 0 ∷ []) [] (absent ∷ []) []) ∷
     -- one write: 10
     row 1 (item 1 4 6 ∷ []) (write 0 0 ∷ close ∷ []) []
-    (gives (0 ∷ 0 ∷ []) (totalsOf 1 0 1 4 0 0 1 6 0)
+    (gives (0 ∷ 0 ∷ []) 10 (totalsOf 1 0 1 4 0 0 1 6 0)
     (useOf 0 1 1 ∷ []) [] (clean 2882880 ∷ []) []) ∷
     -- two writes: 10 again
     row 1 (item 1 4 6 ∷ []) (write 0 0 ∷ write 0 0 ∷ close ∷ []) []
-    (gives (0 ∷ 0 ∷ 0 ∷ []) (totalsOf 2 1 1 4 0 0 1 6 0)
+    (gives (0 ∷ 0 ∷ 0 ∷ []) 10 (totalsOf 2 1 1 4 0 0 1 6 0)
     (useOf 0 1 1 ∷ []) [] (clean 2882880 ∷ []) []) ∷
     -- a dirty eviction: 13
     row 1 (item 1 4 6 ∷ item 1 3 9 ∷ []) (write 0 0 ∷ read 1 ∷ close ∷ []) []
-    (gives (0 ∷ 0 ∷ 0 ∷ []) (totalsOf 2 0 2 7 1 1 1 6 0)
+    (gives (0 ∷ 0 ∷ 0 ∷ []) 13 (totalsOf 2 0 2 7 1 1 1 6 0)
     (useOf 0 1 1 ∷ useOf 0 1 0 ∷ []) (0 ∷ []) (absent ∷ clean 2162160 ∷ []) []) ∷
     -- equal ranks go to the lowest number
     row 2 (item 1 5 0 ∷ item 1 5 0 ∷ item 1 5 0 ∷ []) (read 0 ∷ read 1 ∷ read 2 ∷ read 1 ∷ []) []
-    (gives (0 ∷ 0 ∷ 0 ∷ 0 ∷ []) (totalsOf 4 1 3 15 1 0 0 0 0)
+    (gives (0 ∷ 0 ∷ 0 ∷ 0 ∷ []) 15 (totalsOf 4 1 3 15 1 0 0 0 0)
     (useOf 0 1 0 ∷ useOf 0 1 0 ∷ useOf 0 1 0 ∷ []) (0 ∷ []) (absent ∷ clean 3603600 ∷ clean 3603600 ∷ []) []) ∷
     -- two evictions for one load: 12
     row 2 (item 1 2 0 ∷ item 1 3 0 ∷ item 2 7 0 ∷ []) (read 0 ∷ read 1 ∷ read 2 ∷ []) []
-    (gives (0 ∷ 0 ∷ 0 ∷ []) (totalsOf 3 0 3 12 2 0 0 0 0)
+    (gives (0 ∷ 0 ∷ 0 ∷ []) 12 (totalsOf 3 0 3 12 2 0 0 0 0)
     (useOf 0 1 0 ∷ useOf 0 1 0 ∷ useOf 0 1 0 ∷ []) (0 ∷ 1 ∷ []) (absent ∷ absent ∷ clean 5045040 ∷ []) []) ∷
     -- a cost spread over three blocks
     row 4 (item 3 1 0 ∷ item 1 1 0 ∷ item 1 1 0 ∷ []) (read 0 ∷ read 1 ∷ read 2 ∷ []) []
-    (gives (0 ∷ 0 ∷ 0 ∷ []) (totalsOf 3 0 3 3 1 0 0 0 0)
+    (gives (0 ∷ 0 ∷ 0 ∷ []) 3 (totalsOf 3 0 3 3 1 0 0 0 0)
     (useOf 0 1 0 ∷ useOf 0 1 0 ∷ useOf 0 1 0 ∷ []) (0 ∷ []) (absent ∷ clean 480480 ∷ clean 720720 ∷ []) []) ∷
     -- two landings running: the second writes nothing
-    row 1 (item 1 4 6 ∷ []) (write 0 0 ∷ landing ∷ landing ∷ []) []
-    (gives (0 ∷ 0 ∷ 0 ∷ []) (totalsOf 3 0 1 4 0 0 1 6 2)
+    row 1 (item 1 4 6 ∷ []) (write 0 0 ∷ flushCall ∷ flushCall ∷ []) []
+    (gives (0 ∷ 0 ∷ 0 ∷ []) 10 (totalsOf 3 0 1 4 0 0 1 6 2)
     (useOf 0 1 1 ∷ []) [] (clean 2882880 ∷ []) []) ∷
     -- the whole example: 28 and 32
-    row 3 three (fourSteps ++ (landing ∷ close ∷ [])) (theRival ∷ [])
-    (gives (0 ∷ 0 ∷ 0 ∷ 0 ∷ 0 ∷ 0 ∷ []) (totalsOf 5 1 3 13 1 0 2 15 1)
+    row 3 three (fourSteps ++ (flushCall ∷ close ∷ [])) (theRival ∷ [])
+    (gives (0 ∷ 0 ∷ 0 ∷ 0 ∷ 0 ∷ 0 ∷ []) 28 (totalsOf 5 1 3 13 1 0 2 15 1)
     (useOf 15 1 1 ∷ useOf 0 1 0 ∷ useOf 7 1 1 ∷ []) (1 ∷ []) (clean 2882880 ∷ absent ∷ clean 2162160 ∷ []) (costs 32 ∷ [])) ∷
     -- the item of the larger credit and the smaller rank goes
     row 4 (item 3 2 0 ∷ item 1 1 0 ∷ item 1 1 0 ∷ []) (read 0 ∷ read 1 ∷ read 2 ∷ []) []
-    (gives (0 ∷ 0 ∷ 0 ∷ []) (totalsOf 3 0 3 4 1 0 0 0 0)
+    (gives (0 ∷ 0 ∷ 0 ∷ []) 4 (totalsOf 3 0 3 4 1 0 0 0 0)
     (useOf 0 1 0 ∷ useOf 0 1 0 ∷ useOf 0 1 0 ∷ []) (0 ∷ []) (absent ∷ clean 240240 ∷ clean 720720 ∷ []) []) ∷
     -- each eviction takes its own loss
     row 4 (item 1 1 0 ∷ item 1 2 0 ∷ item 1 9 0 ∷ item 3 1 0 ∷ []) (read 0 ∷ read 1 ∷ read 2 ∷ read 3 ∷ []) []
-    (gives (0 ∷ 0 ∷ 0 ∷ 0 ∷ []) (totalsOf 4 0 4 13 2 0 0 0 0)
+    (gives (0 ∷ 0 ∷ 0 ∷ 0 ∷ []) 13 (totalsOf 4 0 4 13 2 0 0 0 0)
     (useOf 0 1 0 ∷ useOf 0 1 0 ∷ useOf 0 1 0 ∷ useOf 0 1 0 ∷ []) (0 ∷ 1 ∷ []) (absent ∷ absent ∷ clean 5045040 ∷ clean 720720 ∷ []) []) ∷
     -- the whole example's first four steps: a read leaves a write credit that has lost some
     row 3 three fourSteps []
-    (gives (0 ∷ 0 ∷ 0 ∷ 0 ∷ []) (totalsOf 4 1 3 13 1 0 0 0 0)
+    (gives (0 ∷ 0 ∷ 0 ∷ 0 ∷ []) 13 (totalsOf 4 1 3 13 1 0 0 0 0)
     (useOf 15 1 0 ∷ useOf 0 1 0 ∷ useOf 7 1 0 ∷ []) (1 ∷ []) (dirty 2882880 2162160 ∷ absent ∷ dirty 2162160 6486480 ∷ []) []) ∷
     -- a dirty eviction of write cost 0
     row 1 (item 1 4 0 ∷ item 1 3 0 ∷ []) (write 0 0 ∷ read 1 ∷ []) []
-    (gives (0 ∷ 0 ∷ []) (totalsOf 2 0 2 7 1 1 1 0 0)
+    (gives (0 ∷ 0 ∷ []) 7 (totalsOf 2 0 2 7 1 1 1 0 0)
     (useOf 0 1 1 ∷ useOf 0 1 0 ∷ []) (0 ∷ []) (absent ∷ clean 2162160 ∷ []) []) ∷
     -- a dirty eviction of used-up write credit
     row 2 (item 1 1 1 ∷ item 1 1 0 ∷ item 1 1 0 ∷ []) (write 0 0 ∷ read 1 ∷ read 2 ∷ read 1 ∷ []) []
-    (gives (0 ∷ 0 ∷ 0 ∷ 0 ∷ []) (totalsOf 4 0 4 4 2 1 1 1 0)
+    (gives (0 ∷ 0 ∷ 0 ∷ 0 ∷ []) 5 (totalsOf 4 0 4 4 2 1 1 1 0)
     (useOf 0 1 1 ∷ useOf 0 2 0 ∷ useOf 0 1 0 ∷ []) (1 ∷ 0 ∷ []) (absent ∷ clean 720720 ∷ clean 0 ∷ []) []) ∷
     -- cache and plan level: 10 against 10
     row 1 (item 1 4 6 ∷ []) (write 0 0 ∷ close ∷ []) (rival 1 ((Fetch 0 ∷ []) ∷ []) ∷ [])
-    (gives (0 ∷ 0 ∷ []) (totalsOf 1 0 1 4 0 0 1 6 0)
+    (gives (0 ∷ 0 ∷ []) 10 (totalsOf 1 0 1 4 0 0 1 6 0)
     (useOf 0 1 1 ∷ []) [] (clean 2882880 ∷ []) (costs 10 ∷ [])) ∷
     -- Refusals, in the order of the calls: a kind that is none, item 256, 1,441 minutes, a stranger, too bulky, 1,441
     -- minutes for a stranger; values that a landing lacks; and every call after the closing.
-    row 2 (item 1 4 6 ∷ item 3 1 1 ∷ item 1 3 9 ∷ []) (take 88 0 0 ∷ read 256 ∷ write 0 1441 ∷ read 3 ∷ read 1 ∷ write 3 1441 ∷ take 76 999 9999 ∷ take 82 2 9999 ∷ close ∷ read 0 ∷ close ∷ []) []
-    (gives (3 ∷ 3 ∷ 3 ∷ 6 ∷ 7 ∷ 3 ∷ 0 ∷ 0 ∷ 0 ∷ 9 ∷ 9 ∷ []) (totalsOf 2 0 1 3 0 0 0 0 1)
+    row 2 (item 1 4 6 ∷ item 3 1 1 ∷ item 1 3 9 ∷ []) (stepCall 88 0 0 ∷ read 256 ∷ write 0 1441 ∷ read 3 ∷ read 1 ∷ write 3 1441 ∷ stepCall 76 999 9999 ∷ stepCall 82 2 9999 ∷ close ∷ read 0 ∷ close ∷ []) []
+    (gives (3 ∷ 3 ∷ 3 ∷ 6 ∷ 7 ∷ 3 ∷ 0 ∷ 0 ∷ 0 ∷ 9 ∷ 9 ∷ []) 3 (totalsOf 2 0 1 3 0 0 0 0 1)
     (useOf 0 0 0 ∷ useOf 0 0 0 ∷ useOf 0 1 0 ∷ []) [] (absent ∷ absent ∷ clean 2162160 ∷ []) []) ∷
     -- Plans over R 0, R 1, L: overfull between two acts, and priced; then a fault of each kind; 14 before 13 where both
     -- fall due; and 13 at the landing.
-    row 2 (item 1 4 6 ∷ item 1 3 9 ∷ item 2 7 0 ∷ []) (read 0 ∷ read 1 ∷ landing ∷ [])
+    row 2 (item 1 4 6 ∷ item 1 3 9 ∷ item 2 7 0 ∷ []) (read 0 ∷ read 1 ∷ flushCall ∷ [])
     (rival 1 ((Fetch 0 ∷ []) ∷ (Fetch 1 ∷ Evict 0 ∷ []) ∷ []) ∷
     rival 1 ((Fetch 0 ∷ Fetch 3 ∷ []) ∷ []) ∷
     rival 1 ((Fetch 0 ∷ Evict 1 ∷ []) ∷ []) ∷
@@ -190,7 +194,7 @@ rows =
     rival 1 ((Fetch 0 ∷ Fetch 1 ∷ []) ∷ []) ∷
     rival 1 ((Fetch 0 ∷ []) ∷ (Evict 0 ∷ Fetch 1 ∷ []) ∷ (Fetch 0 ∷ []) ∷ []) ∷
     [])
-    (gives (0 ∷ 0 ∷ 0 ∷ []) (totalsOf 3 0 2 7 0 0 0 0 1)
+    (gives (0 ∷ 0 ∷ 0 ∷ []) 7 (totalsOf 3 0 2 7 0 0 0 0 1)
     (useOf 0 1 0 ∷ useOf 0 1 0 ∷ useOf 0 0 0 ∷ []) [] (clean 2882880 ∷ clean 2162160 ∷ absent ∷ [])
     (costs 7 ∷
     fault (unknownItem 0 1 3) ∷
@@ -203,23 +207,43 @@ rows =
     []
 
 -- every row of the table is what the definitions give
-pub rows-right : map outcome rows ≡ map (λ (r : Row). r .expected) rows
-unfolding outcome answers trace evictedItems sumTo tabFrom bestTo fold used heldCount victim evictItem evictFor makeRoom writeBacks flush step took closes stepOf refusalAt joins ruleOver planUsed owed planActs allActs planServes priceFrom
+pub rows-right : map resultOf benchRows ≡ map (λ (r : BenchRow). r .expected) benchRows
+unfolding resultOf answers trace evictedItems sumTo tabFrom bestTo fold used heldCount victim evictItem evictFor makeRoom writeBacks flush step took closes stepOf refusalAt joins ruleOver planUsed owed planActs allActs planServes priceFrom
 rows-right = refl
 
 -- the season of the whole example
 abbrev exampleEnd : Standing
-exampleEnd = season writeFirst 3 three (logOf 3 three (fourSteps ++ (landing ∷ [])) .steps)
+exampleEnd = season writeFirst 3 three (logOf 3 three (fourSteps ++ (flushCall ∷ [])) .steps)
 
--- its report's last figures: total 28; left, (k - h + 1) × total, is 56; right, k × rival, is 96. The load credits held at the
--- close are worth 7, which makes the sharper line 63 against 96.
+-- its report's last figures: total 28, left 56, right 96. The load credits held at the close are worth 7, which makes the
+-- sharper line 63 against 96.
 pub example-right :
     (totalCost (exampleEnd .figures) ≡ 28)
-    × (totalCost (exampleEnd .figures) * (3 - 2 + 1) ≡ 56)
-    × (_≡_ {A = ℕ} (3 * 32) 96)
+    × (leftSide 3 2 (totalCost (exampleEnd .figures)) ≡ 56)
+    × (rightSide 3 32 ≡ 96)
     × ((2 - 1) * loadCredits (exampleEnd .state) ≡ 7 * unit)
 unfolding sumTo tabFrom bestTo fold used heldCount victim evictItem evictFor makeRoom writeBacks flush step took closes stepOf refusalAt joins
 example-right = (refl, refl, refl, refl)
+
+-- The row '10 against 10': its season, and its rival as a plan.
+abbrev oneItem : Catalog
+oneItem = item 1 4 6 ∷ []
+
+abbrev oneWrite : List Step
+oneWrite = Write 0 0 ∷ []
+
+abbrev oneFetch : Plan
+oneFetch s = getD ((Fetch 0 ∷ []) ∷ []) s []
+
+-- A claim with k - h + 2 in place of k - h + 1 is false there: 20 is not at most 10.
+pub stronger-false :
+    ((k h : ℕ) (cat : Catalog) (steps : List Step) → 1 ≤ h → h ≤ k → (plan : Plan) (c : ℕ) → price cat h plan steps ≡ costs c →
+    (k - h + 2) * totalCost (season writeFirst k cat steps .figures) ≤ k * c) →
+    ⊥
+unfolding sumTo tabFrom bestTo fold used heldCount victim evictItem evictFor makeRoom writeBacks flush step took closes planUsed owed planActs allActs planServes priceFrom
+stronger-false claim =
+    let l : 20 ≤ 10 = claim 1 1 oneItem oneWrite (omega arith) (omega arith) oneFetch 10 refl in
+    omega arith
 
 -- a question to the table of refusals: the capacity, the catalog, the steps taken, whether the log is closed, the call; and
 -- the number that answers it
@@ -231,8 +255,8 @@ pub record Question : Type 0 where
   pub call : Call
   pub expected : ℕ
 
-abbrev pub answered : Question → ℕ
-answered q = refusalAt (q .k) (q .catalog) (q .taken) (q .closed) (q .call)
+abbrev pub tableAnswer : Question → ℕ
+tableAnswer q = refusalAt (q .k) (q .catalog) (q .taken) (q .closed) (q .call)
 
 -- a question about two items: one block, and three; of a cache of two blocks, so that item 1 is too bulky and 2 a stranger
 abbrev asks : ℕ → Bool → Call → ℕ → Question
@@ -245,19 +269,19 @@ questions =
     -- the millionth step is taken, the next is not, and a closing is
     asks 999999 false (read 0) 0 ∷
     asks 999999 false (write 0 1440) 0 ∷
-    asks 999999 false landing 0 ∷
+    asks 999999 false flushCall 0 ∷
     asks 1000000 false (read 0) 8 ∷
     asks 1000000 false (write 0 1440) 8 ∷
-    asks 1000000 false landing 8 ∷
+    asks 1000000 false flushCall 8 ∷
     asks 1000000 false close 0 ∷
     -- 9 before 8, before 3, before 6 and before 7
     asks 1000000 true (read 0) 9 ∷
-    asks 0 true (take 88 0 0) 9 ∷
+    asks 0 true (stepCall 88 0 0) 9 ∷
     asks 0 true (read 2) 9 ∷
     asks 0 true (read 1) 9 ∷
     asks 1000000 true close 9 ∷
     -- 8 before 3, before 6 and before 7
-    asks 1000000 false (take 88 0 0) 8 ∷
+    asks 1000000 false (stepCall 88 0 0) 8 ∷
     asks 1000000 false (read 256) 8 ∷
     asks 1000000 false (write 0 1441) 8 ∷
     asks 1000000 false (read 2) 8 ∷
@@ -274,6 +298,6 @@ questions =
     []
 
 -- every answer of the table is what the definition gives
-pub answers-right : map answered questions ≡ map (λ (q : Question). q .expected) questions
+pub answers-right : map tableAnswer questions ≡ map (λ (q : Question). q .expected) questions
 unfolding stepOf refusalAt
 answers-right = refl

@@ -40,7 +40,7 @@ pub data Event : Type 0 where
   evicted : (item : ℕ) (wasDirty : Bool) → Event
   wroteBack : (item : ℕ) → Event
   wrote : (item minutes : ℕ) → Event
-  landed : Event
+  flushStep : Event
 
 -- what a part of a step gives: the next state, and what happened, in order
 pub record Moved : Type 0 where
@@ -108,8 +108,8 @@ makeRoom split k i x =
     cond (held (slotAt x i)) (stay x) room
 
 -- one slot changed
-abbrev pub put : State → ℕ → Slot → State
-put x i s = record { catalog = x .catalog; slots = set (x .slots) i s }
+abbrev pub putSlot : State → ℕ → Slot → State
+putSlot x i s = record { catalog = x .catalog; slots = set (x .slots) i s }
 
 -- a hit, or else a load
 abbrev pub found : State → ℕ → Event
@@ -121,13 +121,13 @@ readSlot x i = refilled (full (itemAt (x .catalog) i .load)) (brought (slotAt x 
 
 -- a read, once there is room: a hit, or a load
 abbrev pub serveRead : ℕ → State → Moved
-serveRead i x = record { state = put x i (readSlot x i); events = found x i ∷ [] }
+serveRead i x = record { state = putSlot x i (readSlot x i); events = found x i ∷ [] }
 
 -- a write, once there is room: as a read, and then the write with its minutes
 abbrev pub serveWrite : ℕ → ℕ → State → Moved
 serveWrite i minutes x =
     record {
-      state = put x i (written (full (itemAt (x .catalog) i .write)) (readSlot x i));
+      state = putSlot x i (written (full (itemAt (x .catalog) i .write)) (readSlot x i));
       events = found x i ∷ wrote i minutes ∷ [];
     }
 
@@ -152,4 +152,4 @@ step split k (Read i) x =
 step split k (Write i minutes) x =
     let room = makeRoom split k i x in
     joined room (serveWrite i minutes (room .state))
-step split k Flush x = joined (record { state = x; events = landed ∷ [] }) (flush x)
+step split k Flush x = joined (record { state = x; events = flushStep ∷ [] }) (flush x)

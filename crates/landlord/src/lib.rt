@@ -1,6 +1,7 @@
-// The types that every part of the library shares: a step of the log, an act of a rival plan, and a refusal.
+// The types that every part of the library shares: a step of the log, an act of a rival plan, and a refusal; and the ranges of a step.
 // specs/Types.antt gives paper 01's number, letter and values for each of their cases.
 ghost use mathlib.Core.Path.{_≡_};
+ghost use Rattle.landlord.specs.Calls.{inRange};
 ghost use Rattle.landlord.specs.Types.{stepKind, stepItem, stepMinutes, actKind, actItem, refusalNumber, refusalLine};
 
 // A step of the log. Its numbers are as given: nothing here says that they are in range.
@@ -173,4 +174,20 @@ impl Refusal {
             Refusal::InvalidState { line } => line,
         }
     }
+}
+
+// Whether a step's kind is one of R, W and L, and the values that such a step has are in their ranges.
+pub fn in_range(kind: u32, item: u32, minutes: u32) -> bool
+    ensures { λ r. ⌜ r ≡ inRange kind item minutes ⌝ }
+{
+    if kind == 82 {
+        return item <= 255;
+    }
+    if kind == 87 {
+        if item <= 255 {
+            return minutes <= 1440;
+        }
+        return false;
+    }
+    kind == 76
 }

@@ -9,10 +9,11 @@ use native.Mathlib.Omega.{arith}
 use lib.Dec.{eqb}
 use lib.ListN.{length, take, drop, set, replicate, length-set}
 use lib.Seq.{sets, length-sets, sets-eq, take-all, take-suc-set, getD-drop}
-use Rattle.fields.specs.LittleEndian.{Below, le, unflags}
+use Rattle.fields.specs.LittleEndian.{unflags}
+use Rattle.fields.specs.Inner.{Below, le}
 use Rattle.fields.proofs.Laws.{length-le, un-front, below-append, below-drop, past, un-blank, unrun-blank, unflags-blank}
-use Rattle.layout.specs.Layout.{stateBytes, format, number, numbers, Allowed, atFormat, atCapacity, atCount, atClosed, atSteps, atHits, atLoads, atEvictions, atDirtyEvictions, atWritebacks, atFlushes, atLoadCost, atWriteCost, atDirty, atLoadCredits, atWriteCredits, atTenths, atItemLoads, atItemWritebacks, atItemLoadCosts, atItemWriteCosts, atBlocks, atHeld}
-use Rattle.layout.specs.Stands.{Stands, cleared}
+use Rattle.layout.specs.Layout.{stateBytes, format, numberAt, numbersAt, AllowedBytes, atFormat, atCapacity, atCount, atClosed, atSteps, atHits, atLoads, atEvictions, atDirtyEvictions, atWritebacks, atFlushes, atLoadCost, atWriteCost, atDirty, atLoadCredits, atWriteCredits, atTenths, atItemLoads, atItemWritebacks, atItemLoadCosts, atItemWriteCosts, atBlocks, atHeld}
+use Rattle.layout.specs.Inner.{Stands, cleared}
 
 -- the first i bytes are 0
 pub record Clearing (b : List ℕ) (i : ℕ) : Type 0 where
@@ -40,16 +41,16 @@ module _ (left rest : List ℕ) (n : length left ≡ stateBytes) (e : left ≡ l
   blank : (at : ℕ) → 4 ≤ at → Below 1 (drop at left)
   blank at l = rw (e, past (le 4 format) rest at (at - 4) (omega (arith, length-le 4 format))) (below-drop 1 (at - 4) rest z)
 
-  number-0 : (w at : ℕ) → 4 ≤ at → number left at w ≡ 0
+  number-0 : (w at : ℕ) → 4 ≤ at → numberAt left at w ≡ 0
   number-0 w at l = un-blank w (drop at left) (blank at l)
 
-  numbers-0 : (w k at : ℕ) → 4 ≤ at → numbers left at k w ≡ replicate k 0
+  numbers-0 : (w k at : ℕ) → 4 ≤ at → numbersAt left at k w ≡ replicate k 0
   numbers-0 w k at l = unrun-blank w k (drop at left) (blank at l)
 
   flags-0 : (k at : ℕ) → 4 ≤ at → unflags k (drop at left) ≡ replicate k false
   flags-0 k at l = unflags-blank k (drop at left) (blank at l)
 
-  allowed-0 : Allowed left
+  allowed-0 : AllowedBytes left
   allowed-0 = record {
     format = rw e (un-front 4 format rest (omega arith));
     closed = omega (arith, number-0 2 atClosed (omega arith));

@@ -8,12 +8,17 @@ use native.Mathlib.Omega.{arith}
 use lib.Dec.{eqb}
 use lib.ListN.{length, take, drop, getD}
 use lib.Seq.{drop-drop, getD-drop}
-use Rattle.fields.specs.LittleEndian.{Below, un, unrun, unflags}
+use Rattle.fields.specs.LittleEndian.{un, unrun, unflags}
+use Rattle.fields.specs.Inner.{Below}
 use Rattle.landlord.specs.Figures.{Standing}
+use Rattle.landlord.specs.Valid.{StandingOk}
 use Rattle.cache_state.specs.Cache.{Cache}
+use Rattle.cache_state.specs.InnerBecomes.{Becomes}
 use Rattle.cache_state.proofs.Tells.{Sizes, tells}
-use Rattle.layout.specs.Layout.{bytesOf, number, numbers, cacheOf, Allowed, Fits}
-use Rattle.layout.specs.Stands.{Stands, Readable, ValidBytes, BecomesAt}
+use Rattle.layout.specs.Layout.{numberAt, numbersAt, cacheOf, AllowedBytes}
+use Rattle.layout.specs.Inner.{Stands, Readable, BecomesAt}
+use Rattle.layout.specs.InnerRows.{bytesOf, Fits}
+use Rattle.layout.specs.Valid.{ValidBytes}
 use Rattle.layout.proofs.Rounds.{round, back, fits, length-bytesOf, allowed-bytesOf}
 
 -- ---- reads
@@ -29,7 +34,7 @@ unrun-at w (suc n) bs (suc i) l =
     let e : suc i * w ≡ w + i * w = omega arith in
     rw (e, ← drop-drop (i * w) w bs) (unrun-at w n (drop w bs) i (omega arith))
 
-pub number-at : (w n at : ℕ) (b : List ℕ) (i r : ℕ) → i < n → r ≡ number b (at + i * w) w → r ≡ getD (numbers b at n w) i 0
+pub number-at : (w n at : ℕ) (b : List ℕ) (i r : ℕ) → i < n → r ≡ numberAt b (at + i * w) w → r ≡ getD (numbersAt b at n w) i 0
 number-at w n at b i r l e = e ∙ rw (unrun-at w n (drop at b) i l, drop-drop)
 
 pub unflags-at : (n : ℕ) (bs : List ℕ) (i : ℕ) → i < n → getD (unflags n bs) i false ≡ not (eqb (getD bs i 0) 0)
@@ -44,7 +49,7 @@ pub flag-at : (n at : ℕ) (b : List ℕ) (i : ℕ) → i < n → getD (unflags 
 flag-at n at b i l = unflags-at n (drop at b) i l ∙ rw (getD-drop at b i 0)
 
 -- four numbers read one by one
-pub read-four : (b : List ℕ) (at : ℕ) → numbers b at 4 8 ≡ number b at 8 ∷ number b (at + 8) 8 ∷ number b (at + 16) 8 ∷ number b (at + 24) 8 ∷ []
+pub read-four : (b : List ℕ) (at : ℕ) → numbersAt b at 4 8 ≡ numberAt b at 8 ∷ numberAt b (at + 8) 8 ∷ numberAt b (at + 16) 8 ∷ numberAt b (at + 24) 8 ∷ []
 unfolding unrun
 read-four b at =
     let p : at + 8 + 8 ≡ at + 16 = omega arith in
@@ -64,12 +69,25 @@ stands-as s e = record { size = s .size; allowed = s .allowed; cache = s .cache 
 pub valid-reads : {b : List ℕ} → ValidBytes b → Readable b
 valid-reads v = record { size = v .size; allowed = v .allowed; cache = refl }
 
+-- bytes of a cache that stands where the rule stands
+pub stands-become : {b : List ℕ} {c : Cache} {v : Standing} → Stands b c → Becomes v c → BecomesAt v b
+stands-become {v = v} s h = record { reads = readable s; cache = subst (Becomes v) (sym (s .cache)) h }
+
+-- where the rule stands in order they are valid
+pub becomes-valid : {v : Standing} {b : List ℕ} → StandingOk v → BecomesAt v b → ValidBytes b
+becomes-valid ok h =
+    record {
+      size = h .reads .size;
+      allowed = h .reads .allowed;
+      cache = record { fields = h .cache .fields; rule = subst StandingOk (sym (h .cache .stands)) ok };
+    }
+
 -- the bytes of a cache that fits stand for it
 pub stands : {left : List ℕ} {c : Cache} → left ≡ bytesOf c → Fits c → Stands left c
 stands {c = c} e f =
     record {
       size = ap length e ∙ length-bytesOf c f;
-      allowed = subst Allowed (sym e) (allowed-bytesOf c f);
+      allowed = subst AllowedBytes (sym e) (allowed-bytesOf c f);
       cache = ap cacheOf e ∙ round c f;
     }
 

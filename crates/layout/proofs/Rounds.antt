@@ -8,15 +8,17 @@ use native.Mathlib.Omega.{arith}
 use lib.Dec.{eqb}
 use lib.ListN.{length, drop, getD, length-drop}
 use lib.Seq.{take-all, getD-drop}
-use Rattle.fields.specs.LittleEndian.{Below, le, run, flags, unflags}
-use Rattle.fields.proofs.Laws.{length-unrun, length-unflags, un-front, un-take-lt, below-drop, rejoin, le-back, unrun-lt, unrun-run, run-back, flags-lt, unflags-flags, flag-byte, flags-back}
+use Rattle.fields.specs.LittleEndian.{unflags}
+use Rattle.fields.specs.Inner.{Below, le, runOf, flags}
+use Rattle.fields.proofs.Laws.{sets-all, length-unrun, length-unflags, un-front, un-take-lt, below-drop, rejoin, le-back, unrun-lt, unrun-run, run-back, flags-lt, unflags-flags, flag-byte, flags-back}
 use Rattle.cache_state.specs.Cache.{Cache}
-use Rattle.layout.specs.Layout.{stateBytes, format, joined, rows, bytesOf, number, numbers, cacheOf, flag, Allowed, Whole, Fits, atFormat, atCapacity, atCount, atClosed, atSteps, atHits, atLoads, atEvictions, atDirtyEvictions, atWritebacks, atFlushes, atLoadCost, atWriteCost, atDirty, atLoadCredits, atWriteCredits, atTenths, atItemLoads, atItemWritebacks, atItemLoadCosts, atItemWriteCosts, atBlocks, atHeld}
-use Rattle.layout.proofs.Rows.{Packed, end, number-row, numbers-row, flags-row, packed-length, packed-below, reach}
+use Rattle.layout.specs.Layout.{stateBytes, format, numberAt, numbersAt, cacheOf, AllowedBytes, atFormat, atCapacity, atCount, atClosed, atSteps, atHits, atLoads, atEvictions, atDirtyEvictions, atWritebacks, atFlushes, atLoadCost, atWriteCost, atDirty, atLoadCredits, atWriteCredits, atTenths, atItemLoads, atItemWritebacks, atItemLoadCosts, atItemWriteCosts, atBlocks, atHeld}
+use Rattle.layout.specs.InnerRows.{rowBytes, fieldRows, bytesOf, flag, WholeArrays, Fits}
+use Rattle.layout.proofs.Rows.{Packed, end, number-row, numbers-row, flags-row, packed-length, packed-below, stored, packed-stored, reach}
 
 -- the fields lie end to end
-pub packed : (c : Cache) → Whole c → Packed 0 (rows c) stateBytes
-unfolding rows
+pub packed : (c : Cache) → WholeArrays c → Packed 0 (fieldRows c) stateBytes
+unfolding fieldRows
 packed c w =
     number-row 4 format
     (number-row 4 (c .k)
@@ -42,7 +44,7 @@ packed c w =
     (numbers-row 1 256 (c .blocks) (w .blocks) (flags-row 256 (c .held) (w .held) end))))))))))))))))))))))
 
 -- so the bytes of a cache are all the bytes of the state
-pub length-whole : (c : Cache) → Whole c → length (bytesOf c) ≡ stateBytes
+pub length-whole : (c : Cache) → WholeArrays c → length (bytesOf c) ≡ stateBytes
 unfolding bytesOf
 length-whole c w = omega (arith, packed-length (packed c w))
 
@@ -54,13 +56,18 @@ pub bytesOf-below : (c : Cache) → Fits c → Below 256 (bytesOf c)
 unfolding bytesOf
 bytesOf-below c f = packed-below (packed c (f .whole))
 
+-- the fields of a cache, stored one by one over all the bytes of a state, make its bytes
+pub store-all : (c : Cache) (b : List ℕ) → WholeArrays c → length b ≡ stateBytes → stored b (fieldRows c) ≡ bytesOf c
+unfolding bytesOf
+store-all c b w n = packed-stored (packed c w) b ∙ sets-all b (rowBytes (fieldRows c)) (length-whole c w ∙ sym n)
+
 -- ---- stored and read back
 
 -- what the reader finds where a number, numbers or flags stand
-number-found : (w v at : ℕ) (b rest : List ℕ) → v < 256 ^ w → drop at b ≡ le w v ++ rest → number b at w ≡ v
+number-found : (w v at : ℕ) (b rest : List ℕ) → v < 256 ^ w → drop at b ≡ le w v ++ rest → numberAt b at w ≡ v
 number-found w v at b rest h e = rw e (un-front w v rest h)
 
-numbers-found : (w n at : ℕ) (vs b rest : List ℕ) → length vs ≡ n → Below (256 ^ w) vs → drop at b ≡ run w vs ++ rest → numbers b at n w ≡ vs
+numbers-found : (w n at : ℕ) (vs b rest : List ℕ) → length vs ≡ n → Below (256 ^ w) vs → drop at b ≡ runOf w vs ++ rest → numbersAt b at n w ≡ vs
 numbers-found w n at vs b rest l h e = rw e (unrun-run w n vs rest l h)
 
 flags-found : (n at : ℕ) (fs : List Bool) (b rest : List ℕ) → length fs ≡ n → drop at b ≡ flags fs ++ rest → unflags n (drop at b) ≡ fs
@@ -77,18 +84,18 @@ flag-told false = refl
 
 module _ (c : Cache) (f : Fits c) where
   -- the field of row `n`
-  row-at : (n : ℕ) → n < 23 → drop (getD (rows c) n (0, []) .0) (bytesOf c) ≡ getD (rows c) n (0, []) .1 ++ joined (drop (suc n) (rows c))
-  unfolding bytesOf rows
-  row-at n l = reach (packed c (f .whole)) n (getD (rows c) n (0, []) .0) l (omega arith)
+  row-at : (n : ℕ) → n < 23 → drop (getD (fieldRows c) n (0, []) .0) (bytesOf c) ≡ getD (fieldRows c) n (0, []) .1 ++ rowBytes (drop (suc n) (fieldRows c))
+  unfolding bytesOf fieldRows
+  row-at n l = reach (packed c (f .whole)) n (getD (fieldRows c) n (0, []) .0) l (omega arith)
 
   -- the cache's own flag
-  closed-at : number (bytesOf c) atClosed 2 ≡ flag (c .closed)
-  unfolding rows
+  closed-at : numberAt (bytesOf c) atClosed 2 ≡ flag (c .closed)
+  unfolding fieldRows
   closed-at = number-found 2 (flag (c .closed)) atClosed (bytesOf c) _ (omega (arith, flag-lt (c .closed))) (row-at 3 (omega arith))
 
   -- a cache that fits, stored and read back, is that cache
   pub round : cacheOf (bytesOf c) ≡ c
-  unfolding rows
+  unfolding fieldRows
   round = λ i.
       record {
         k = number-found 4 (c .k) atCapacity (bytesOf c) _ (f .k) (row-at 1 (omega arith)) i;
@@ -116,8 +123,8 @@ module _ (c : Cache) (f : Fits c) where
       }
 
   -- the number of the layout stands at the head, and the flags are stored as 0 or 1
-  pub allowed-bytesOf : Allowed (bytesOf c)
-  unfolding rows
+  pub allowed-bytesOf : AllowedBytes (bytesOf c)
+  unfolding fieldRows
   allowed-bytesOf = record {
     format = number-found 4 format atFormat (bytesOf c) _ (omega arith) (row-at 0 (omega arith));
     closed = rw closed-at (flag-lt (c .closed));
@@ -127,7 +134,7 @@ module _ (c : Cache) (f : Fits c) where
 -- ---- read and stored again
 
 -- whatever the bytes, each list that is read has all its places
-pub whole : (b : List ℕ) → Whole (cacheOf b)
+pub whole : (b : List ℕ) → WholeArrays (cacheOf b)
 whole b = record {
   dirty = length-unrun 8 4 (drop atDirty b);
   loadcredit = length-unrun 8 256 (drop atLoadCredits b);
@@ -143,10 +150,10 @@ whole b = record {
 
 module _ (b : List ℕ) (h : Below 256 b) where
   -- a number, or each of several, that is read has room in the bytes that it was read from
-  number-fits : (w at : ℕ) → number b at w < 256 ^ w
+  number-fits : (w at : ℕ) → numberAt b at w < 256 ^ w
   number-fits w at = un-take-lt w (drop at b) (below-drop 256 at b h)
 
-  numbers-fit : (w n at : ℕ) → Below (256 ^ w) (numbers b at n w)
+  numbers-fit : (w n at : ℕ) → Below (256 ^ w) (numbersAt b at n w)
   numbers-fit w n at = unrun-lt w n (drop at b) (below-drop 256 at b h)
 
   -- what bytes stand for has room in the layout
@@ -177,19 +184,19 @@ module _ (b : List ℕ) (h : Below 256 b) where
 
 module _ (b : List ℕ) (e : length b ≡ stateBytes) (h : Below 256 b) where
   -- a number, or numbers, and the bytes that follow
-  number-back : (w at : ℕ) (rest : List ℕ) → at + w ≤ stateBytes → rest ≡ drop (at + w) b → le w (number b at w) ++ rest ≡ drop at b
+  number-back : (w at : ℕ) (rest : List ℕ) → at + w ≤ stateBytes → rest ≡ drop (at + w) b → le w (numberAt b at w) ++ rest ≡ drop at b
   number-back w at rest l r = rw (r, le-back w at b (omega arith) h) (rejoin b at w (at + w) refl)
 
-  numbers-back : (w n at : ℕ) (rest : List ℕ) → at + n * w ≤ stateBytes → rest ≡ drop (at + n * w) b → run w (numbers b at n w) ++ rest ≡ drop at b
+  numbers-back : (w n at : ℕ) (rest : List ℕ) → at + n * w ≤ stateBytes → rest ≡ drop (at + n * w) b → runOf w (numbersAt b at n w) ++ rest ≡ drop at b
   numbers-back w n at rest l r = rw (r, run-back w n at b (omega arith) h) (rejoin b at (n * w) (at + n * w) refl)
 
-  module _ (g : Allowed b) where
+  module _ (g : AllowedBytes b) where
     -- the number of the layout, and the two kinds of flags
     format-back : (rest : List ℕ) → rest ≡ drop atCapacity b → le 4 format ++ rest ≡ b
     format-back rest r = ap (λ (v : ℕ). le 4 v ++ rest) (sym (g .format)) ∙ number-back 4 atFormat rest (omega arith) r
 
-    closed-back : (rest : List ℕ) → rest ≡ drop atSteps b → le 2 (flag (not (eqb (number b atClosed 2) 0))) ++ rest ≡ drop atClosed b
-    closed-back rest r = rw (flag-byte (number b atClosed 2) (g .closed)) (number-back 2 atClosed rest (omega arith) r)
+    closed-back : (rest : List ℕ) → rest ≡ drop atSteps b → le 2 (flag (not (eqb (numberAt b atClosed 2) 0))) ++ rest ≡ drop atClosed b
+    closed-back rest r = rw (flag-byte (numberAt b atClosed 2) (g .closed)) (number-back 2 atClosed rest (omega arith) r)
 
     held-back : flags (unflags 256 (drop atHeld b)) ++ [] ≡ drop atHeld b
     held-back =
@@ -198,7 +205,7 @@ module _ (b : List ℕ) (e : length b ≡ stateBytes) (h : Below 256 b) where
 
     -- bytes that the layout allows, read and stored again, are those bytes
     pub back : bytesOf (cacheOf b) ≡ b
-    unfolding bytesOf rows
+    unfolding bytesOf fieldRows
     back =
         format-back _
         (number-back 4 atCapacity _ (omega arith)

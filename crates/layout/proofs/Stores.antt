@@ -11,12 +11,13 @@ use borrow.Author.Needs.{needs}
 use mir.Val.{boolByte}
 use lib.ListN.{length, getD, set, length-set}
 use lib.Seq.{sets, getD-set-same, getD-set-other}
-use Rattle.fields.specs.LittleEndian.{Below, le, run, flags}
+use Rattle.fields.specs.Inner.{Below, le, runOf, flags}
 use Rattle.fields.proofs.Laws.{length-le, length-run, length-flags, sets-all, run-set, flags-set}
 use Rattle.cache_state.specs.Cache.{Cache}
-use Rattle.cache_state.specs.With.{withCapacity, withCount, withClosed, withSteps, withHits, withLoads, withEvictions, withDirtyEvictions, withWritebacks, withFlushes, withLoadCost, withWriteCost, withDirty, withLoadCredit, withWriteCredit, withTenths, withItemLoads, withItemWritebacks, withItemLoadCost, withItemWriteCost, withBlocks, withHeld}
-use Rattle.layout.specs.Layout.{Row, joined, rows, bytesOf, cacheOf, flag, Fits, atCapacity, atCount, atClosed, atSteps, atHits, atLoads, atEvictions, atDirtyEvictions, atWritebacks, atFlushes, atLoadCost, atWriteCost, atDirty, atLoadCredits, atWriteCredits, atTenths, atItemLoads, atItemWritebacks, atItemLoadCosts, atItemWriteCosts, atBlocks, atHeld}
-use Rattle.layout.specs.Stands.{Stands, Readable}
+use Rattle.cache_state.specs.InnerWith.{withCapacity, withCount, withClosed, withSteps, withHits, withLoads, withEvictions, withDirtyEvictions, withWritebacks, withFlushes, withLoadCost, withWriteCost, withDirty, withLoadCredit, withWriteCredit, withTenths, withItemLoads, withItemWritebacks, withItemLoadCost, withItemWriteCost, withBlocks, withHeld}
+use Rattle.layout.specs.Layout.{cacheOf, atCapacity, atCount, atClosed, atSteps, atHits, atLoads, atEvictions, atDirtyEvictions, atWritebacks, atFlushes, atLoadCost, atWriteCost, atDirty, atLoadCredits, atWriteCredits, atTenths, atItemLoads, atItemWritebacks, atItemLoadCosts, atItemWriteCosts, atBlocks, atHeld}
+use Rattle.layout.specs.Inner.{Stands, Readable}
+use Rattle.layout.specs.InnerRows.{FieldRow, rowBytes, fieldRows, bytesOf, flag, Fits}
 use Rattle.layout.proofs.Rows.{end, number-row, stored, packed-stored, replaced, sets-row}
 use Rattle.layout.proofs.Rounds.{packed, fits}
 use Rattle.layout.proofs.Places.{stands, encoded}
@@ -45,8 +46,8 @@ as-byte true = refl
 as-byte false = refl
 
 -- four numbers are the four that stand at its places
-run-four : (xs : List ℕ) → length xs ≡ 4 → le 8 (getD xs 0 0) ++ (le 8 (getD xs 1 0) ++ (le 8 (getD xs 2 0) ++ (le 8 (getD xs 3 0) ++ []))) ≡ run 8 xs
-unfolding run
+run-four : (xs : List ℕ) → length xs ≡ 4 → le 8 (getD xs 0 0) ++ (le 8 (getD xs 1 0) ++ (le 8 (getD xs 2 0) ++ (le 8 (getD xs 3 0) ++ []))) ≡ runOf 8 xs
+unfolding runOf
 run-four [] e = absurd (omega arith)
 run-four (x ∷ []) e = absurd (omega arith)
 run-four (x ∷ y ∷ []) e = absurd (omega arith)
@@ -55,7 +56,7 @@ run-four (x ∷ y ∷ z ∷ v ∷ []) e = refl
 run-four (x ∷ y ∷ z ∷ v ∷ u ∷ us) e = absurd (omega arith)
 
 -- the dirty marks, stored one by one
-pub store-four : (b xs : List ℕ) → length xs ≡ 4 → stored b ((atDirty, le 8 (getD xs 0 0)) ∷ (atDirty + 8, le 8 (getD xs 1 0)) ∷ (atDirty + 16, le 8 (getD xs 2 0)) ∷ (atDirty + 24, le 8 (getD xs 3 0)) ∷ []) ≡ sets b atDirty (run 8 xs)
+pub store-four : (b xs : List ℕ) → length xs ≡ 4 → stored b ((atDirty, le 8 (getD xs 0 0)) ∷ (atDirty + 8, le 8 (getD xs 1 0)) ∷ (atDirty + 16, le 8 (getD xs 2 0)) ∷ (atDirty + 24, le 8 (getD xs 3 0)) ∷ []) ≡ sets b atDirty (runOf 8 xs)
 store-four b xs e =
     packed-stored (number-row {at = atDirty} 8 (getD xs 0 0) (number-row 8 (getD xs 1 0) (number-row 8 (getD xs 2 0) (number-row 8 (getD xs 3 0) end)))) b
     ∙ rw (run-four xs e)
@@ -76,19 +77,19 @@ module _ {b : List ℕ} {c : Cache} (s : Coded b c) where
   row-stored :
       (n at off : ℕ) (x y : List ℕ) (d : Cache) →
       n < 23 →
-      getD (rows c) n (0, []) .0 ≡ at →
-      off + length x ≤ length (getD (rows c) n (0, []) .1) →
-      sets (getD (rows c) n (0, []) .1) off x ≡ y →
-      joined (replaced (rows c) n y) ≡ bytesOf d →
+      getD (fieldRows c) n (0, []) .0 ≡ at →
+      off + length x ≤ length (getD (fieldRows c) n (0, []) .1) →
+      sets (getD (fieldRows c) n (0, []) .1) off x ≡ y →
+      rowBytes (replaced (fieldRows c) n y) ≡ bytesOf d →
       Fits d →
       {left : List ℕ} → left ≡ sets b (at + off) x → Stands left d
-  unfolding bytesOf rows
+  unfolding bytesOf fieldRows
   row-stored n at off x y d l place k e z f is =
       stands
       (is
       ∙ ap (λ (u : List ℕ). sets u (at + off) x) (s .bytes)
       ∙ sets-row (packed c (s .fits .whole)) n at off x l (place ∙ (let w : at ≡ 0 + at = omega arith in w)) k
-      ∙ ap (λ (u : List ℕ). joined (replaced (rows c) n u)) e
+      ∙ ap (λ (u : List ℕ). rowBytes (replaced (fieldRows c) n u)) e
       ∙ z)
       f
 
@@ -96,12 +97,12 @@ module _ {b : List ℕ} {c : Cache} (s : Coded b c) where
   number-stored :
       (n at w u v : ℕ) (d : Cache) →
       n < 23 →
-      getD (rows c) n (0, []) ≡ (at, le w u) →
-      joined (replaced (rows c) n (le w v)) ≡ bytesOf d →
+      getD (fieldRows c) n (0, []) ≡ (at, le w u) →
+      rowBytes (replaced (fieldRows c) n (le w v)) ≡ bytesOf d →
       Fits d →
       {left : List ℕ} → left ≡ sets b at (le w v) → Stands left d
   number-stored n at w u v d l e z f is =
-      row-stored n at 0 (le w v) (le w v) d l (ap (λ (r : Row). r .0) e)
+      row-stored n at 0 (le w v) (le w v) d l (ap (λ (r : FieldRow). r .0) e)
       (rw e (omega (arith, length-le w v, length-le w u)))
       (rw e (sets-all (le w u) (le w v) (length-le w v ∙ sym (length-le w u)))) z f
       (is ∙ (let a : at ≡ at + 0 = omega arith in ap (λ (p : ℕ). sets b p (le w v)) a))
@@ -109,124 +110,124 @@ module _ {b : List ℕ} {c : Cache} (s : Coded b c) where
   entry-stored :
       (n at w : ℕ) (xs : List ℕ) (i v : ℕ) (d : Cache) →
       n < 23 →
-      getD (rows c) n (0, []) ≡ (at, run w xs) →
+      getD (fieldRows c) n (0, []) ≡ (at, runOf w xs) →
       i < length xs →
-      joined (replaced (rows c) n (run w (set xs i v))) ≡ bytesOf d →
+      rowBytes (replaced (fieldRows c) n (runOf w (set xs i v))) ≡ bytesOf d →
       Fits d →
       {left : List ℕ} → left ≡ sets b (at + i * w) (le w v) → Stands left d
   entry-stored n at w xs i v d l e k z f is =
-      row-stored n at (i * w) (le w v) (run w (set xs i v)) d l (ap (λ (r : Row). r .0) e)
+      row-stored n at (i * w) (le w v) (runOf w (set xs i v)) d l (ap (λ (r : FieldRow). r .0) e)
       (rw e (omega (arith, length-le w v, length-run w xs, mul-le-mul-right w k)))
       (rw e (run-set w xs i v k)) z f is
 
   -- ---- each field: which row it is, and that the cache with the field so still fits, of which `search` looks up what is unchanged
 
   pub capacity-stored : (v : ℕ) → v < 2 ^ 32 → {left : List ℕ} → left ≡ sets b atCapacity (le 4 v) → Stands left (withCapacity c v)
-  unfolding bytesOf rows
+  unfolding bytesOf fieldRows
   capacity-stored v z is = number-stored 1 atCapacity 4 (c .k) v (withCapacity c v) (omega arith) refl refl (search needs) is
 
   pub count-stored : (v : ℕ) → v < 2 ^ 16 → {left : List ℕ} → left ≡ sets b atCount (le 2 v) → Stands left (withCount c v)
-  unfolding bytesOf rows
+  unfolding bytesOf fieldRows
   count-stored v z is = number-stored 2 atCount 2 (c .n) v (withCount c v) (omega arith) refl refl (search needs) is
 
   pub closed-stored : (f : Bool) → {left : List ℕ} → left ≡ sets b atClosed (le 2 (boolByte f)) → Stands left (withClosed c f)
-  unfolding bytesOf rows
+  unfolding bytesOf fieldRows
   closed-stored f is =
       number-stored 3 atClosed 2 (flag (c .closed)) (flag f) (withClosed c f) (omega arith) refl refl (search needs)
       (is ∙ ap (λ (v : ℕ). sets b atClosed (le 2 v)) (as-flag f))
 
   pub steps-stored : (v : ℕ) → v < 2 ^ 32 → {left : List ℕ} → left ≡ sets b atSteps (le 4 v) → Stands left (withSteps c v)
-  unfolding bytesOf rows
+  unfolding bytesOf fieldRows
   steps-stored v z is = number-stored 4 atSteps 4 (c .steps) v (withSteps c v) (omega arith) refl refl (search needs) is
 
   pub hits-stored : (v : ℕ) → v < 2 ^ 32 → {left : List ℕ} → left ≡ sets b atHits (le 4 v) → Stands left (withHits c v)
-  unfolding bytesOf rows
+  unfolding bytesOf fieldRows
   hits-stored v z is = number-stored 5 atHits 4 (c .hits) v (withHits c v) (omega arith) refl refl (search needs) is
 
   pub loads-stored : (v : ℕ) → v < 2 ^ 32 → {left : List ℕ} → left ≡ sets b atLoads (le 4 v) → Stands left (withLoads c v)
-  unfolding bytesOf rows
+  unfolding bytesOf fieldRows
   loads-stored v z is = number-stored 6 atLoads 4 (c .loads) v (withLoads c v) (omega arith) refl refl (search needs) is
 
   pub evictions-stored : (v : ℕ) → v < 2 ^ 32 → {left : List ℕ} → left ≡ sets b atEvictions (le 4 v) → Stands left (withEvictions c v)
-  unfolding bytesOf rows
+  unfolding bytesOf fieldRows
   evictions-stored v z is = number-stored 7 atEvictions 4 (c .evictions) v (withEvictions c v) (omega arith) refl refl (search needs) is
 
   pub dirty-evictions-stored : (v : ℕ) → v < 2 ^ 32 → {left : List ℕ} → left ≡ sets b atDirtyEvictions (le 4 v) → Stands left (withDirtyEvictions c v)
-  unfolding bytesOf rows
+  unfolding bytesOf fieldRows
   dirty-evictions-stored v z is = number-stored 8 atDirtyEvictions 4 (c .dirtyevictions) v (withDirtyEvictions c v) (omega arith) refl refl (search needs) is
 
   pub writebacks-stored : (v : ℕ) → v < 2 ^ 32 → {left : List ℕ} → left ≡ sets b atWritebacks (le 4 v) → Stands left (withWritebacks c v)
-  unfolding bytesOf rows
+  unfolding bytesOf fieldRows
   writebacks-stored v z is = number-stored 9 atWritebacks 4 (c .writebacks) v (withWritebacks c v) (omega arith) refl refl (search needs) is
 
   pub flushes-stored : (v : ℕ) → v < 2 ^ 32 → {left : List ℕ} → left ≡ sets b atFlushes (le 4 v) → Stands left (withFlushes c v)
-  unfolding bytesOf rows
+  unfolding bytesOf fieldRows
   flushes-stored v z is = number-stored 10 atFlushes 4 (c .flushes) v (withFlushes c v) (omega arith) refl refl (search needs) is
 
   pub load-cost-stored : (v : ℕ) → v < 2 ^ 64 → {left : List ℕ} → left ≡ sets b atLoadCost (le 8 v) → Stands left (withLoadCost c v)
-  unfolding bytesOf rows
+  unfolding bytesOf fieldRows
   load-cost-stored v z is = number-stored 11 atLoadCost 8 (c .loadcost) v (withLoadCost c v) (omega arith) refl refl (search needs) is
 
   pub write-cost-stored : (v : ℕ) → v < 2 ^ 64 → {left : List ℕ} → left ≡ sets b atWriteCost (le 8 v) → Stands left (withWriteCost c v)
-  unfolding bytesOf rows
+  unfolding bytesOf fieldRows
   write-cost-stored v z is = number-stored 12 atWriteCost 8 (c .writecost) v (withWriteCost c v) (omega arith) refl refl (search needs) is
 
-  pub dirty-stored : (ws : List ℕ) → length ws ≡ 4 → Below (2 ^ 64) ws → {left : List ℕ} → left ≡ sets b atDirty (run 8 ws) → Stands left (withDirty c ws)
-  unfolding bytesOf rows
+  pub dirty-stored : (ws : List ℕ) → length ws ≡ 4 → Below (2 ^ 64) ws → {left : List ℕ} → left ≡ sets b atDirty (runOf 8 ws) → Stands left (withDirty c ws)
+  unfolding bytesOf fieldRows
   dirty-stored ws l z is =
-      let e : length (run 8 ws) ≡ length (run 8 (c .dirty)) = omega (arith, length-run 8 ws, length-run 8 (c .dirty), s .fits .whole .dirty) in
-      row-stored 13 atDirty 0 (run 8 ws) (run 8 ws) (withDirty c ws) (omega arith) refl (omega arith) (sets-all (run 8 (c .dirty)) (run 8 ws) e) refl (search needs) is
+      let e : length (runOf 8 ws) ≡ length (runOf 8 (c .dirty)) = omega (arith, length-run 8 ws, length-run 8 (c .dirty), s .fits .whole .dirty) in
+      row-stored 13 atDirty 0 (runOf 8 ws) (runOf 8 ws) (withDirty c ws) (omega arith) refl (omega arith) (sets-all (runOf 8 (c .dirty)) (runOf 8 ws) e) refl (search needs) is
 
   pub load-credit-stored : (i v : ℕ) → i < 256 → v < 2 ^ 64 → {left : List ℕ} → left ≡ sets b (atLoadCredits + i * 8) (le 8 v) → Stands left (withLoadCredit c i v)
-  unfolding bytesOf rows
+  unfolding bytesOf fieldRows
   load-credit-stored i v l z is =
       let u : Numbers (2 ^ 64) (set (c .loadcredit) i v) = with-one (2 ^ 64) (c .loadcredit) i v (s .fits .whole .loadcredit) (s .fits .loadcredit) l z in
       entry-stored 14 atLoadCredits 8 (c .loadcredit) i v (withLoadCredit c i v) (omega arith) refl (omega (arith, s .fits .whole .loadcredit)) refl (search needs) is
 
   pub write-credit-stored : (i v : ℕ) → i < 256 → v < 2 ^ 64 → {left : List ℕ} → left ≡ sets b (atWriteCredits + i * 8) (le 8 v) → Stands left (withWriteCredit c i v)
-  unfolding bytesOf rows
+  unfolding bytesOf fieldRows
   write-credit-stored i v l z is =
       let u : Numbers (2 ^ 64) (set (c .writecredit) i v) = with-one (2 ^ 64) (c .writecredit) i v (s .fits .whole .writecredit) (s .fits .writecredit) l z in
       entry-stored 15 atWriteCredits 8 (c .writecredit) i v (withWriteCredit c i v) (omega arith) refl (omega (arith, s .fits .whole .writecredit)) refl (search needs) is
 
   pub tenths-stored : (i v : ℕ) → i < 256 → v < 2 ^ 32 → {left : List ℕ} → left ≡ sets b (atTenths + i * 4) (le 4 v) → Stands left (withTenths c i v)
-  unfolding bytesOf rows
+  unfolding bytesOf fieldRows
   tenths-stored i v l z is =
       let u : Numbers (2 ^ 32) (set (c .tenths) i v) = with-one (2 ^ 32) (c .tenths) i v (s .fits .whole .tenths) (s .fits .tenths) l z in
       entry-stored 16 atTenths 4 (c .tenths) i v (withTenths c i v) (omega arith) refl (omega (arith, s .fits .whole .tenths)) refl (search needs) is
 
   pub item-loads-stored : (i v : ℕ) → i < 256 → v < 2 ^ 32 → {left : List ℕ} → left ≡ sets b (atItemLoads + i * 4) (le 4 v) → Stands left (withItemLoads c i v)
-  unfolding bytesOf rows
+  unfolding bytesOf fieldRows
   item-loads-stored i v l z is =
       let u : Numbers (2 ^ 32) (set (c .itemloads) i v) = with-one (2 ^ 32) (c .itemloads) i v (s .fits .whole .itemloads) (s .fits .itemloads) l z in
       entry-stored 17 atItemLoads 4 (c .itemloads) i v (withItemLoads c i v) (omega arith) refl (omega (arith, s .fits .whole .itemloads)) refl (search needs) is
 
   pub item-writebacks-stored : (i v : ℕ) → i < 256 → v < 2 ^ 32 → {left : List ℕ} → left ≡ sets b (atItemWritebacks + i * 4) (le 4 v) → Stands left (withItemWritebacks c i v)
-  unfolding bytesOf rows
+  unfolding bytesOf fieldRows
   item-writebacks-stored i v l z is =
       let u : Numbers (2 ^ 32) (set (c .itemwritebacks) i v) = with-one (2 ^ 32) (c .itemwritebacks) i v (s .fits .whole .itemwritebacks) (s .fits .itemwritebacks) l z in
       entry-stored 18 atItemWritebacks 4 (c .itemwritebacks) i v (withItemWritebacks c i v) (omega arith) refl (omega (arith, s .fits .whole .itemwritebacks)) refl (search needs) is
 
   pub item-load-cost-stored : (i v : ℕ) → i < 256 → v < 2 ^ 16 → {left : List ℕ} → left ≡ sets b (atItemLoadCosts + i * 2) (le 2 v) → Stands left (withItemLoadCost c i v)
-  unfolding bytesOf rows
+  unfolding bytesOf fieldRows
   item-load-cost-stored i v l z is =
       let u : Numbers (2 ^ 16) (set (c .load) i v) = with-one (2 ^ 16) (c .load) i v (s .fits .whole .load) (s .fits .load) l z in
       entry-stored 19 atItemLoadCosts 2 (c .load) i v (withItemLoadCost c i v) (omega arith) refl (omega (arith, s .fits .whole .load)) refl (search needs) is
 
   pub item-write-cost-stored : (i v : ℕ) → i < 256 → v < 2 ^ 16 → {left : List ℕ} → left ≡ sets b (atItemWriteCosts + i * 2) (le 2 v) → Stands left (withItemWriteCost c i v)
-  unfolding bytesOf rows
+  unfolding bytesOf fieldRows
   item-write-cost-stored i v l z is =
       let u : Numbers (2 ^ 16) (set (c .write) i v) = with-one (2 ^ 16) (c .write) i v (s .fits .whole .write) (s .fits .write) l z in
       entry-stored 20 atItemWriteCosts 2 (c .write) i v (withItemWriteCost c i v) (omega arith) refl (omega (arith, s .fits .whole .write)) refl (search needs) is
 
   pub blocks-stored : (i v : ℕ) → i < 256 → v < 2 ^ 8 → {left : List ℕ} → left ≡ sets b (atBlocks + i) (le 1 v) → Stands left (withBlocks c i v)
-  unfolding bytesOf rows
+  unfolding bytesOf fieldRows
   blocks-stored i v l z is =
       let u : Numbers (2 ^ 8) (set (c .blocks) i v) = with-one (2 ^ 8) (c .blocks) i v (s .fits .whole .blocks) (s .fits .blocks) l z in
       entry-stored 21 atBlocks 1 (c .blocks) i v (withBlocks c i v) (omega arith) refl (omega (arith, s .fits .whole .blocks)) refl (search needs) (is ∙ (let e : i ≡ i * 1 = omega arith in ap (λ (p : ℕ). sets b (atBlocks + p) (le 1 v)) e))
 
   pub held-stored : (i : ℕ) (f : Bool) → i < 256 → {left : List ℕ} → left ≡ sets b (atHeld + i) (le 1 (boolByte f)) → Stands left (withHeld c i f)
-  unfolding bytesOf rows
+  unfolding bytesOf fieldRows
   held-stored i f l is =
       let e : length (set (c .held) i f) ≡ 256 = length-set (c .held) i f ∙ s .fits .whole .held in
       row-stored 22 atHeld i (flag f ∷ []) (flags (set (c .held) i f)) (withHeld c i f) (omega arith) refl (omega (arith, length-flags (c .held), s .fits .whole .held))

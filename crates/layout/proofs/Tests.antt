@@ -10,9 +10,9 @@ use lib.Bits.{bitOr, or-lt, or-add-and, and-le-l, and-le-r}
 use lib.Dec.{ltb}
 use lib.ListN.{getD}
 use borrow.Author.Tests.{ltb-true, lt-ltb}
-use Rattle.cache_state.specs.Becomes.{Decided}
-use Rattle.layout.specs.Layout.{format, number, Allowed, atFormat, atClosed, atHeld}
-use Rattle.layout.specs.Stands.{FlagsWithin}
+use Rattle.cache_state.specs.InnerBecomes.{Decided}
+use Rattle.layout.specs.Layout.{format, numberAt, AllowedBytes, atFormat, atClosed, atHeld}
+use Rattle.layout.specs.Inner.{FlagsWithin}
 
 -- ---- the loop
 
@@ -61,14 +61,14 @@ pub no : {A : Type 0} → (A → ⊥) → Decided A false
 no f = record { yes = λ e. absurd (false≢true e); only = λ a. absurd (f a) }
 
 -- with the number of the layout and the cache's own flag right, the items' flags decide
-pub allowed-so : (b : List ℕ) {r : Bool} → number b atFormat 4 ≡ format → number b atClosed 2 < 2 → Decided (FlagsWithin b atHeld (atHeld + 256)) r → Decided (Allowed b) r
+pub allowed-so : (b : List ℕ) {r : Bool} → numberAt b atFormat 4 ≡ format → numberAt b atClosed 2 < 2 → Decided (FlagsWithin b atHeld (atHeld + 256)) r → Decided (AllowedBytes b) r
 allowed-so b e h d =
     record {
       yes = λ t. record { format = e; closed = h; held = λ i l. d .yes t .each (atHeld + i) (omega arith) (omega arith) };
       only = λ a. d .only (record { each = λ i l m. flag a i l m });
     }
   where
-    flag : Allowed b → (i : ℕ) → atHeld ≤ i → i < atHeld + 256 → getD b i 0 < 2
+    flag : AllowedBytes b → (i : ℕ) → atHeld ≤ i → i < atHeld + 256 → getD b i 0 < 2
     flag a i l m =
         let p : atHeld + (i - atHeld) ≡ i = omega arith in
         rw p at (a .held (i - atHeld) (omega arith))

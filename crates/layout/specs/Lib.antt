@@ -1,2 +1,4 @@
 pub mod Layout
-pub mod Stands
+pub mod Inner
+pub mod Valid
+pub mod InnerRows

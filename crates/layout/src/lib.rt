@@ -6,10 +6,10 @@ ghost use Prim.Native.Nat.{_+_, _*_, _<_, _≤_};
 ghost use lib.ListN.{length, getD};
 ghost use mathlib.Core.Bool.{false};
 ghost use Rattle.cache_state.specs.View.{dirtyAt};
-ghost use Rattle.cache_state.specs.With.{withCapacity, withCount, withClosed, withSteps, withHits, withLoads, withEvictions, withDirtyEvictions, withWritebacks, withFlushes, withLoadCost, withWriteCost, withDirty, withLoadCredit, withWriteCredit, withTenths, withItemLoads, withItemWritebacks, withItemLoadCost, withItemWriteCost, withBlocks, withHeld};
-ghost use Rattle.cache_state.specs.Becomes.{Decided};
-ghost use Rattle.layout.specs.Layout.{stateBytes, atDirty, number, cacheOf, Allowed};
-ghost use Rattle.layout.specs.Stands.{Stands, Readable, FlagsWithin, cleared};
+ghost use Rattle.cache_state.specs.InnerWith.{withCapacity, withCount, withClosed, withSteps, withHits, withLoads, withEvictions, withDirtyEvictions, withWritebacks, withFlushes, withLoadCost, withWriteCost, withDirty, withLoadCredit, withWriteCredit, withTenths, withItemLoads, withItemWritebacks, withItemLoadCost, withItemWriteCost, withBlocks, withHeld};
+ghost use Rattle.cache_state.specs.InnerBecomes.{Decided};
+ghost use Rattle.layout.specs.Layout.{stateBytes, atDirty, numberAt, cacheOf, AllowedBytes};
+ghost use Rattle.layout.specs.Inner.{Stands, Readable, FlagsWithin, cleared};
 
 // The bytes of a state, and the number of this layout.
 pub const STATE_BYTES: usize = 8792;
@@ -243,7 +243,7 @@ pub fn put_closed(b: &mut [u8], f: bool)
 // Word `j` of them. As a function of its own its eight bytes are read as one number.
 fn word(b: &[u8], j: usize) -> u64
     requires { ⌜ (length (now b) ≡ stateBytes) × (j < 4) ⌝ }
-    ensures { λ r. ⌜ r ≡ number (now (b .entry)) (atDirty + j * 8) 8 ⌝ }
+    ensures { λ r. ⌜ r ≡ numberAt (now (b .entry)) (atDirty + j * 8) 8 ⌝ }
 {
     fields::get(b, AT_DIRTY + j * 8, 8)
 }
@@ -433,7 +433,7 @@ fn flags_ok(b: &[u8], from: usize, to: usize) -> bool
 // Whether every field has a value that the layout allows.
 pub fn allowed(b: &[u8]) -> bool
     requires { ⌜ length (now b) ≡ stateBytes ⌝ }
-    ensures { λ r. ⌜ Decided (Allowed (now (b .entry))) r ⌝ }
+    ensures { λ r. ⌜ Decided (AllowedBytes (now (b .entry))) r ⌝ }
 {
     if fields::get(b, AT_FORMAT, 4) != FORMAT {
         return false;

@@ -15,7 +15,8 @@ use lib.Dec.{eqb}
 use lib.ListN.{length, getD, set, drop, length-set, length-drop, drop-of-length-le, List·getD-eq-default}
 use lib.Pow.{pow-pos, pow-mono, pow-lt, shr-lt, shr-shr, shr-le, shl-exact}
 use lib.Seq.{ext-getD, getD-set-same, getD-set-other, getD-drop, drop-drop, set-out}
-use Rattle.marks.specs.Marks.{bit, marked, tabFrom, marks, countSet, firstSet}
+use Rattle.marks.specs.Marks.{bit, marked}
+use Rattle.marks.specs.Inner.{marksFrom, marks, countSet, firstSet}
 
 -- ---- one digit
 
@@ -111,21 +112,21 @@ tz-below (suc n) w j l = go (w % 2) j refl (λ i m. tz-below n (w / 2) i m) l
 
 -- ---- tables
 
-tab-length : (n : ℕ) (f : ℕ → Bool) (i : ℕ) → length (tabFrom n f i) ≡ n
-unfolding tabFrom
+tab-length : (n : ℕ) (f : ℕ → Bool) (i : ℕ) → length (marksFrom n f i) ≡ n
+unfolding marksFrom
 tab-length zero f i = refl
 tab-length (suc n) f i = ap suc (tab-length n f (suc i))
 
-tab-at : (n : ℕ) (f : ℕ → Bool) (i j : ℕ) → j < n → getD (tabFrom n f i) j false ≡ f (i + j)
-unfolding tabFrom
+tab-at : (n : ℕ) (f : ℕ → Bool) (i j : ℕ) → j < n → getD (marksFrom n f i) j false ≡ f (i + j)
+unfolding marksFrom
 tab-at zero f i j l = absurd (omega arith)
 tab-at (suc n) f i zero l = ap f (omega arith)
 tab-at (suc n) f i (suc j) l =
     let e : suc i + j ≡ i + suc j = omega arith in
     tab-at n f (suc i) j (omega arith) ∙ ap f e
 
-tab-cat : (m n : ℕ) (f : ℕ → Bool) (i : ℕ) → tabFrom (m + n) f i ≡ tabFrom m f i ++ tabFrom n f (i + m)
-unfolding tabFrom
+tab-cat : (m n : ℕ) (f : ℕ → Bool) (i : ℕ) → marksFrom (m + n) f i ≡ marksFrom m f i ++ marksFrom n f (i + m)
+unfolding marksFrom
 tab-cat zero n f i =
     let e : 0 + n ≡ n = omega arith in
     let u : i + 0 ≡ i = omega arith in
@@ -161,7 +162,7 @@ count-cat [] b = omega arith
 count-cat (true ∷ a) b = omega (arith, count-cat a b)
 count-cat (false ∷ a) b = count-cat a b
 
-count-split : (m n : ℕ) (f : ℕ → Bool) (i : ℕ) → countSet (tabFrom (m + n) f i) ≡ countSet (tabFrom m f i) + countSet (tabFrom n f (i + m))
+count-split : (m n : ℕ) (f : ℕ → Bool) (i : ℕ) → countSet (marksFrom (m + n) f i) ≡ countSet (marksFrom m f i) + countSet (marksFrom n f (i + m))
 count-split m n f i = rw tab-cat (count-cat _ _)
 
 count-cons : (b : Bool) (bs : List Bool) (r : ℕ) → r < 2 → b ≡ eqb r 1 → countSet (b ∷ bs) ≡ r + countSet bs
@@ -181,8 +182,8 @@ count-length (false ∷ l) = omega (arith, count-length l)
 
 -- a table of a word's digits has as many set as the word
 count-word : (n : ℕ) (f : ℕ → Bool) (i w : ℕ) → w < 2 ^ n → ((j : ℕ) → j < n → f (i + j) ≡ eqb (bit w j) 1)
-    → countSet (tabFrom n f i) ≡ ones w
-unfolding tabFrom countSet bit
+    → countSet (marksFrom n f i) ≡ ones w
+unfolding marksFrom countSet bit
 count-word zero f i w h d = omega (arith, ones-le 0 w h)
 count-word (suc n) f i w h d =
     let z : i + 0 ≡ i = omega arith in
@@ -191,7 +192,7 @@ count-word (suc n) f i w h d =
     omega (
       arith,
       ones-step w,
-      count-cons (f i) (tabFrom n f (suc i)) (w % 2) (omega arith) first,
+      count-cons (f i) (marksFrom n f (suc i)) (w % 2) (omega arith) first,
       count-word n f (suc i) (w / 2) (omega (arith, pow-suc 2 n)) later,
     )
   where

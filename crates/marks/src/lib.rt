@@ -4,18 +4,7 @@ ghost use Prim.Native.Nat.{_+_};
 ghost use mathlib.Core.Path.{_≡_};
 ghost use mathlib.Core.Bool.{true, false};
 ghost use lib.ListN.{set, drop};
-ghost use Rattle.marks.specs.Marks.{marked, marks, countSet, firstSet};
-
-// Whether mark `i` is set.
-pub fn is_marked(words: [u64; 4], i: usize) -> bool
-    ensures { λ r. ⌜ r ≡ marked words i ⌝ }
-{
-    if i >= 256 {
-        return false;
-    }
-    // Shifting brings the digit to the low end, where its parity tells it.
-    (words[i / 64] >> (i % 64)) % 2 == 1
-}
+ghost use Rattle.marks.specs.Inner.{marks, countSet, firstSet};
 
 // The marks with mark `i` set.
 pub fn mark(words: [u64; 4], i: usize) -> [u64; 4]

@@ -9,7 +9,7 @@ use Rattle.cache_state.specs.View.{view}
 use Rattle.layout.specs.Layout.{cacheOf}
 use Rattle.report.specs.declared.Rival.the-variants.{Absent}
 use Rattle.report.specs.Report.{reportOf}
-use Rattle.layout.specs.Stands.{ValidBytes}
+use Rattle.layout.specs.Valid.{ValidBytes}
 
 -- A text put on the page: 0 and its length in the length's place, or 15 with page and place as before.
 pub record PutLent (t before : List ℕ) (was number : ℕ) (after : List ℕ) (told : ℕ) : Type 0 where

@@ -1,6 +1,6 @@
 // The functions that the firmware calls from C, on a state in lent bytes. Each answers 0 or the refusal's number; refused, every
 // lent byte is as before. Nothing is asked of the caller: any bytes, any lengths and any numbers are answered.
-ghost use Rattle.landlord.specs.Calls.{take, close};
+ghost use Rattle.landlord.specs.Calls.{stepCall, close};
 ghost use Rattle.cache.specs.Contract.{lent, Called, OpenedLent};
 ghost use Rattle.recorder.specs.Reports.{ReportedLent};
 use report::Rival;
@@ -17,7 +17,7 @@ pub extern "C" fn recorder_open(state: &mut [u8], k: u32, catalog: &[u8]) -> u32
 // Takes one step: `kind` is the code of its letter, 82 for R, 87 for W, 76 for L.
 #[no_mangle]
 pub extern "C" fn recorder_step(state: &mut [u8], kind: u32, item: u32, minutes: u32) -> u32
-    ensures { λ r. ⌜ Called lent (now (state .entry)) (take kind item minutes) r (now (state .exit)) ⌝ }
+    ensures { λ r. ⌜ Called lent (now (state .entry)) (stepCall kind item minutes) r (now (state .exit)) ⌝ }
 {
     cache::step(state, kind, item, minutes)
 }

@@ -1,6 +1,6 @@
--- The laws by which the writers are proved. A text is written in parts, each into the rest of the page (`Going`), and what is left of
+-- The laws by which the writers are proved. A text is written in parts, each into the rest of the page (`TextGoing`), and what is left of
 -- it is known by one law for each definition of specs/Report.antt: the next part, and its length. Assumes nothing.
-use mathlib.Core.Path.{_≡_, refl, sym, ap, _∙_}
+use mathlib.Core.Path.{_≡_, refl, sym, ap, subst, _∙_}
 use mathlib.Core.List.{List, [], _∷_, _++_, append-assoc, append-nil}
 use Prim.Native.Nat.{ℕ, suc, _+_, _-_, _≤_, _<_}
 use native.Mathlib.Nat.{zero-add}
@@ -11,23 +11,23 @@ use lib.ListN.{length, getD, take, drop, set, length-append, length-drop, take-a
 use lib.Seq.{drop-cons, drop-drop, take-at, drop-at, length-take-le, take-all, set-split}
 use borrow.Rule.Slice.PartMut.{midOf, putMid, mid-len}
 use Rattle.decimal.specs.Decimal.{digitsOf, wroteOf, pageOf}
-use Rattle.decimal.proofs.Laws.{wrote-all, page-all, page-none}
+use Rattle.decimal.proofs.Laws.{wrote-all, wrote-none, page-all, page-none}
 use Rattle.landlord.specs.declared.Refusal.{Refusal}
 use Rattle.landlord.specs.declared.Refusal.the-variants.{ShortBuffer, InvalidState}
 use Rattle.landlord.specs.Types.{refusalNumber, refusalLine}
-use Rattle.landlord.specs.Figures.{Use, noUse, Standing}
+use Rattle.landlord.specs.Figures.{Use, noUse, Standing, totalCost, leftSide, rightSide}
 use Rattle.cache_state.specs.Cache.{Cache}
 use Rattle.cache_state.specs.View.{usageOf, usesOf, view}
 use Rattle.cache_state.proofs.Views.{uses-length, use-is}
 use Rattle.layout.specs.Layout.{cacheOf}
-use Rattle.layout.specs.Stands.{ValidBytes}
+use Rattle.layout.specs.Valid.{ValidBytes}
 use Rattle.report.specs.declared.Rival.{Rival}
-use Rattle.report.specs.declared.Rival.the-variants.{Absent, Priced}
+use Rattle.report.specs.declared.Rival.the-variants.{Absent, Against}
 use Rattle.report.specs.declared.Written.{Written}
 use Rattle.report.specs.declared.Written.the-variants.{Text, Refused}
 use Rattle.report.specs.Words.{moreWords, wordsOf}
-use Rattle.report.specs.Report.{separator, lineOf, itemNumbers, itemLines, itemNames, totalNames, totalNumbers, totalLines, reportOf, refusalNames, refusalText, wrote, Put, Reported}
-use Rattle.report.specs.Lines.{over, figureCount}
+use Rattle.report.specs.Report.{separator, lineOf, itemNumbers, itemLines, itemNames, rivalNumbers, totalNames, totalsThen, totalNumbers, totalLines, reportOf, refusalNames, refusalText, Put, Reported}
+use Rattle.report.specs.Inner.{textOver, RivalOk, rivalCount}
 
 -- ## A text at a place of a page
 
@@ -35,7 +35,7 @@ use Rattle.report.specs.Lines.{over, figureCount}
 unfoldable pub overAt : ℕ → List ℕ → List ℕ → List ℕ
 overAt a t page = take a page ++ (t ++ drop (a + length t) page)
 
-pub over-start : (t page : List ℕ) → overAt 0 t page ≡ over t page
+pub over-start : (t page : List ℕ) → overAt 0 t page ≡ textOver t page
 unfolding overAt
 over-start t page = rw zero-add
 
@@ -73,7 +73,7 @@ over-join a t u page h =
 
 -- what comes back of a lent rest of the page
 pub tail-over :
-    (a : ℕ) (t page ys : List ℕ) → a ≤ length page → ys ≡ over t (midOf a (length page - a) page) →
+    (a : ℕ) (t page ys : List ℕ) → a ≤ length page → ys ≡ textOver t (midOf a (length page - a) page) →
     putMid a (length page - a) page ys ≡ overAt a t page
 unfolding overAt
 tail-over a t page ys h e =
@@ -81,7 +81,7 @@ tail-over a t page ys h e =
     let past : drop (length page - a) (drop a page) ≡ [] =
     drop-of-length-le (drop a page) {i = length page - a} (omega (arith, length-drop a page)) in
     let got : ys ≡ t ++ drop (a + length t) page =
-    e ∙ ap (over t) lent ∙ ap (λ (l : List ℕ). t ++ l) (drop-drop (length t) a page) in
+    e ∙ ap (textOver t) lent ∙ ap (λ (l : List ℕ). t ++ l) (drop-drop (length t) a page) in
     ap (λ (l : List ℕ). take a page ++ (ys ++ l)) past
     ∙ ap (λ (l : List ℕ). take a page ++ l) (append-nil ys ∙ got)
 
@@ -93,22 +93,22 @@ set-over a b page h = rw (set-split page a b h, add-one)
 
 -- Of the text `all`, to be written at the start of the page `before`, what is `left` is still to be written at place a, and the page
 -- as it is is `page`.
-pub record Going (all before : List ℕ) (a : ℕ) (left page : List ℕ) : Type 0 where
+pub record TextGoing (all before : List ℕ) (a : ℕ) (left page : List ℕ) : Type 0 where
   pub count : a + length left ≡ length all
   pub same : length page ≡ length before
-  pub goal : overAt a left page ≡ over all before
+  pub goal : overAt a left page ≡ textOver all before
 
-pub go-start : (all before : List ℕ) → Going all before 0 all before
+pub go-start : (all before : List ℕ) → TextGoing all before 0 all before
 go-start all before = record { count = omega arith; same = refl; goal = over-start all before }
 
 module _ {all before : List ℕ} (room : length all ≤ length before) where
   -- the law of all writers: the part t is written into the rest of the page, and what is left is behind it
   pub go-next :
       {a : ℕ} (t u : List ℕ) {page ys : List ℕ} {w : ℕ} →
-      Going all before a (t ++ u) page →
+      TextGoing all before a (t ++ u) page →
       w ≡ length t →
-      ys ≡ over t (midOf a (length page - a) page) →
-      Going all before (a + w) u (putMid a (length page - a) page ys)
+      ys ≡ textOver t (midOf a (length page - a) page) →
+      TextGoing all before (a + w) u (putMid a (length page - a) page ys)
   go-next {a} t u {page} {ys} {w} g l e =
       let n : a + length t + length u ≡ length all = behind a t u ∙ g .count in
       let s = g .same in
@@ -122,7 +122,7 @@ module _ {all before : List ℕ} (room : length all ≤ length before) where
 
   -- one byte is written
   pub go-byte :
-      {a b : ℕ} {u page : List ℕ} → Going all before a (b ∷ u) page → Going all before (a + 1) u (set page a b)
+      {a b : ℕ} {u page : List ℕ} → TextGoing all before a (b ∷ u) page → TextGoing all before (a + 1) u (set page a b)
   go-byte {a} {b} {u} {page} g =
       let n : a + suc (length u) ≡ length all = g .count in
       let s = g .same in
@@ -134,7 +134,7 @@ module _ {all before : List ℕ} (room : length all ≤ length before) where
       }
 
   -- the rest of the page has room for the part t
-  pub go-room : (a : ℕ) (t u page : List ℕ) → Going all before a (t ++ u) page → length t ≤ length (midOf a (length page - a) page)
+  pub go-room : (a : ℕ) (t u page : List ℕ) → TextGoing all before a (t ++ u) page → length t ≤ length (midOf a (length page - a) page)
   go-room a t u page g =
       omega (arith, g .count, g .same, length-append t u, mid-len a (length page) page (omega arith))
 
@@ -143,8 +143,8 @@ pub go-first :
     (t u before : List ℕ) {after : List ℕ} {w : ℕ} →
     length (t ++ u) ≤ length before →
     w ≡ length t →
-    after ≡ over t before →
-    Going (t ++ u) before w u after
+    after ≡ textOver t before →
+    TextGoing (t ++ u) before w u after
 go-first t u before {after} {w} h l e =
     let n : w ≡ 0 + length t = omega arith in
     let p : after ≡ overAt 0 t before = e ∙ sym (over-start t before) in
@@ -156,11 +156,11 @@ go-first t u before {after} {w} h l e =
     }
 
 -- nothing is left
-pub go-end : {all before : List ℕ} {a : ℕ} {page : List ℕ} → Going all before a [] page → (a ≡ length all) × (page ≡ over all before)
+pub go-end : {all before : List ℕ} {a : ℕ} {page : List ℕ} → TextGoing all before a [] page → (a ≡ length all) × (page ≡ textOver all before)
 go-end {all} {before} {a} {page} g = (omega (arith, g .count), sym (over-none a page) ∙ g .goal)
 
 -- the same text in another form is left
-pub go-as : {all before : List ℕ} {a : ℕ} {t u page : List ℕ} → t ≡ u → Going all before a t page → Going all before a u page
+pub go-as : {all before : List ℕ} {a : ℕ} {t u page : List ℕ} → t ≡ u → TextGoing all before a t page → TextGoing all before a u page
 go-as e g = rw e at g
 
 -- ## What is left of a text
@@ -201,14 +201,14 @@ pub number-next :
     (ns before : List ℕ) (i a w : ℕ) (page ys : List ℕ) →
     length (lineOf ns) ≤ length before →
     i < length ns →
-    Going (lineOf ns) before a (lineOf (drop i ns)) page →
+    TextGoing (lineOf ns) before a (lineOf (drop i ns)) page →
     w ≡ wroteOf (digitsOf (getD ns i 0)) (midOf a (length page - a) page) →
     ys ≡ pageOf (digitsOf (getD ns i 0)) (midOf a (length page - a) page) →
-    Going (lineOf ns) before (a + w) (separator (drop (i + 1) ns) ∷ lineOf (drop (i + 1) ns)) (putMid a (length page - a) page ys)
+    TextGoing (lineOf ns) before (a + w) (separator (drop (i + 1) ns) ∷ lineOf (drop (i + 1) ns)) (putMid a (length page - a) page ys)
 number-next ns before i a w page ys room l g n p =
     let t = digitsOf (getD ns i 0) in
     let u = separator (drop (i + 1) ns) ∷ lineOf (drop (i + 1) ns) in
-    let h : Going (lineOf ns) before a (t ++ u) page = go-as (line-next ns i l) g in
+    let h : TextGoing (lineOf ns) before a (t ++ u) page = go-as (line-next ns i l) g in
     let fits = go-room room a t u page h in
     go-next room t u h (n ∙ wrote-all t _ fits) (p ∙ page-all t _ fits)
 
@@ -236,47 +236,71 @@ items-count c i ns h e = ap length (items-next c i ns h e) ∙ length-append (li
 
 -- ## The last two lines
 
--- the eight totals, and behind them three numbers of which a report without a rival prints none
-pub figures-alone :
-    (v : Standing) (rival : Rival) (x y z : ℕ) →
-    rival ≡ Absent →
-    take (figureCount rival) (totalNumbers v (Priced x y z)) ≡ totalNumbers v rival
-figures-alone v rival x y z e = rw e
+-- the numbers of a rival in range
+pub priced-ok :
+    (v : Standing) (rival : Rival) {h cost : ℕ} → rival ≡ Against h cost → RivalOk v rival → (1 ≤ h) × (h ≤ v .k) × (cost ≤ 1000000000000)
+priced-ok v rival e f = subst (RivalOk v) e f
 
-pub figures-priced :
-    (v : Standing) (rival : Rival) (x y z : ℕ) →
-    rival ≡ Priced x y z →
-    take (figureCount rival) (totalNumbers v (Priced x y z)) ≡ totalNumbers v rival
-figures-priced v rival x y z e = rw e
+-- the numbers of a rival's plan
+pub rival-told :
+    (v : Standing) (rival : Rival) (h cost : ℕ) {y z : ℕ} →
+    rival ≡ Against h cost →
+    y ≡ leftSide (v .k) h (totalCost (v .figures)) →
+    z ≡ rightSide (v .k) cost →
+    take (rivalCount rival) (cost ∷ y ∷ z ∷ []) ≡ rivalNumbers v rival
+rival-told v rival h cost e ey ez = rw (e, ey, ez)
+
+-- a list of three numbers, one by one
+three : (l : List ℕ) → length l ≡ 3 → getD l 0 0 ∷ getD l 1 0 ∷ getD l 2 0 ∷ [] ≡ l
+three l e =
+    let last : drop 2 l ≡ getD l 2 0 ∷ [] =
+    text-next l 2 (omega arith) ∙ ap (λ (m : List ℕ). getD l 2 0 ∷ m) (drop-of-length-le l {i = 3} (omega arith)) in
+    let two : drop 1 l ≡ getD l 1 0 ∷ getD l 2 0 ∷ [] = text-next l 1 (omega arith) ∙ ap (λ (m : List ℕ). getD l 1 0 ∷ m) last in
+    sym (text-next l 0 (omega arith) ∙ ap (λ (m : List ℕ). getD l 0 0 ∷ m) two)
+
+-- the eight totals, and behind them an array whose first numbers are the rival's
+totals-then :
+    (v : Standing) (rival : Rival) (more : List ℕ) →
+    take (rivalCount rival) more ≡ rivalNumbers v rival →
+    take (8 + rivalCount rival) (totalsThen v more) ≡ totalNumbers v rival
+totals-then v Absent more e = ap (totalsThen v) e
+totals-then v (Against h cost) more e = ap (totalsThen v) e
+
+pub totals-told :
+    (v : Standing) (rival : Rival) (more : List ℕ) →
+    length more ≡ 3 →
+    take (rivalCount rival) more ≡ rivalNumbers v rival →
+    take (8 + rivalCount rival) (totalsThen v (getD more 0 0 ∷ getD more 1 0 ∷ getD more 2 0 ∷ [])) ≡ totalNumbers v rival
+totals-told v rival more l e = ap (λ (m : List ℕ). take (8 + rivalCount rival) (totalsThen v m)) (three more l) ∙ totals-then v rival more e
 
 -- the last two lines, from an array whose first numbers are those of the last line
 totals-as :
     (v : Standing) (rival known : Rival) (ns : List ℕ) →
     rival ≡ known →
-    take (figureCount rival) ns ≡ totalNumbers v rival →
-    totalLines v rival ≡ totalNames known ++ lineOf (take (figureCount known) ns)
+    take (8 + rivalCount rival) ns ≡ totalNumbers v rival →
+    totalLines v rival ≡ totalNames known ++ lineOf (take (8 + rivalCount known) ns)
 unfolding totalLines
 totals-as v rival known ns e f =
     ap (λ (l : List ℕ). totalNames rival ++ lineOf l) (sym f)
-    ∙ ap (λ (x : Rival). totalNames x ++ lineOf (take (figureCount x) ns)) e
+    ∙ ap (λ (x : Rival). totalNames x ++ lineOf (take (8 + rivalCount x) ns)) e
 
 pub totals-alone :
     (v : Standing) (rival : Rival) (ns : List ℕ) →
     rival ≡ Absent →
-    take (figureCount rival) ns ≡ totalNumbers v rival →
+    take (8 + rivalCount rival) ns ≡ totalNumbers v rival →
     totalLines v rival ≡ totalNames Absent ++ lineOf (take 8 ns)
 totals-alone v rival ns e f = totals-as v rival Absent ns e f
 
--- the names are the same whatever the rival's figures are
+-- the names are the same whatever the rival is
 pub totals-priced :
-    (v : Standing) (rival : Rival) (x y z : ℕ) (ns : List ℕ) →
+    (v : Standing) (rival : Rival) (h cost : ℕ) (ns : List ℕ) →
     length ns ≡ 11 →
-    rival ≡ Priced x y z →
-    take (figureCount rival) ns ≡ totalNumbers v rival →
-    totalLines v rival ≡ totalNames (Priced 0 0 0) ++ lineOf ns
-totals-priced v rival x y z ns l e f =
-    totals-as v rival (Priced x y z) ns e f
-    ∙ ap (λ (m : List ℕ). totalNames (Priced 0 0 0) ++ lineOf m) (take-all 11 ns (omega arith))
+    rival ≡ Against h cost →
+    take (8 + rivalCount rival) ns ≡ totalNumbers v rival →
+    totalLines v rival ≡ totalNames (Against 0 0) ++ lineOf ns
+totals-priced v rival h cost ns l e f =
+    totals-as v rival (Against h cost) ns e f
+    ∙ ap (λ (m : List ℕ). totalNames (Against 0 0) ++ lineOf m) (take-all 11 ns (omega arith))
 
 -- ## Lengths
 
@@ -292,9 +316,9 @@ pub names-alone-count : length (totalNames Absent) ≡ 64
 unfolding moreWords wordsOf
 names-alone-count = refl
 
-pub names-priced-count : (cost left right : ℕ) → length (totalNames (Priced cost left right)) ≡ 81
+pub names-priced-count : (h cost : ℕ) → length (totalNames (Against h cost)) ≡ 81
 unfolding moreWords wordsOf
-names-priced-count cost left right = refl
+names-priced-count h cost = refl
 
 pub totals-count :
     (v : Standing) (rival : Rival) → length (totalLines v rival) ≡ length (totalNames rival) + length (lineOf (totalNumbers v rival))
@@ -321,18 +345,27 @@ refusal-count r = omega (arith, refusal-names-count, length-append refusalNames 
 
 -- a page that is too short, and one with the text
 pub put-short : (t before : List ℕ) → length before < length t → Put t before (Refused (ShortBuffer 0)) before
-unfolding wrote
-put-short t before h = record { answer = rw (lt-leb (length t) (length before) h); page = sym (page-none t before h) }
+put-short t before h =
+    record {
+      answer = rw (lt-leb (length t) (length before) h);
+      line = refl;
+      size = sym (wrote-none t before h);
+      page = sym (page-none t before h);
+    }
 
 pub put-whole :
-    (t before after : List ℕ) (n : ℕ) → length t ≤ length before → n ≡ length t → after ≡ over t before → Put t before (Text n) after
-unfolding wrote
+    (t before after : List ℕ) (n : ℕ) → length t ≤ length before → n ≡ length t → after ≡ textOver t before → Put t before (Text n) after
 put-whole t before after n h l e =
-    record { answer = rw (le-leb (length t) (length before) h) (ap Text l); page = e ∙ sym (page-all t before h) }
+    record {
+      answer = rw (le-leb (length t) (length before) h);
+      line = refl;
+      size = l ∙ sym (wrote-all t before h);
+      page = e ∙ sym (page-all t before h);
+    }
 
 module _ (b : List ℕ) (rival : Rival) (before : List ℕ) where
   pub invalid-told : (ValidBytes b → ⊥) → Reported b rival before (Refused (InvalidState 0)) before
-  invalid-told f = record { fine = λ v. absurd (f v); invalid = λ g. (refl, refl) }
+  invalid-told f = record { fine = λ v. absurd (f v); invalid = λ g. (refl, refl, refl) }
 
   pub fine-told :
       (r : Written) (after : List ℕ) → ValidBytes b → Put (reportOf (view (cacheOf b)) rival) before r after → Reported b rival before r after

@@ -1,3 +1,5 @@
 -- The laws of the report's text, and the proofs of the functions. Assumes nothing.
 pub mod Laws
+pub mod Answers
+mod Sides
 pub mod Longest

@@ -1,25 +1,27 @@
 -- No report is longer than `longest`, and no output of a refused input. Assumes nothing.
 use mathlib.Core.Path.{_≡_, refl, ap}
 use mathlib.Core.List.{List, [], _∷_}
-use Prim.Native.Nat.{ℕ, zero, suc, _+_, _*_, _^_, _≤_, _<_}
+use Prim.Native.Nat.{ℕ, zero, suc, _+_, _*_, _-_, _^_, _≤_, _<_}
 use native.Mathlib.Nat.{le-refl}
 use native.Mathlib.Omega.{arith}
 use lib.ListN.{length, drop, length-append}
 use Rattle.decimal.specs.Decimal.{digitsOf}
 use Rattle.decimal.proofs.Laws.{digits-length}
 use Rattle.landlord.specs.declared.Refusal.{Refusal}
-use Rattle.landlord.specs.declared.Refusal.the-variants.{Malformed, Heading, OutOfRange, OutOfSequence, PlanTooLarge, UnknownItem, ItemTooLarge, LogFull, Closed, ActOutOfOrder, NotHeld, AlreadyHeld, OverCapacity, RequestNotHeld, ShortBuffer, InputTooLong, InvalidState}
 use Rattle.landlord.specs.Types.{refusalNumber, refusalLine}
 use Rattle.landlord.specs.Rule.{size}
-use Rattle.landlord.specs.Figures.{Use, useAt}
+use Rattle.landlord.specs.Figures.{Use, useAt, totalCost, leftSide, rightSide}
 use Rattle.landlord.proofs.Sums.{sum-term}
 use Rattle.cache_state.specs.Cache.{Cache}
 use Rattle.cache_state.specs.View.{usageOf, usesOf, stateOf, figuresOf, view}
 use Rattle.cache_state.specs.Valid.{Valid}
 use Rattle.cache_state.proofs.Views.{size-is, use-is}
 use Rattle.report.specs.declared.Rival.{Rival}
-use Rattle.report.specs.declared.Rival.the-variants.{Absent, Priced}
-use Rattle.report.specs.Report.{separator, lineOf, itemNumbers, itemLines, rivalNumbers, totalNames, totalNumbers, reportOf, refusalText, longest, RivalFits}
+use Rattle.report.specs.declared.Rival.the-variants.{Absent, Against}
+use Rattle.report.specs.Report.{separator, lineOf, itemNumbers, itemLines, rivalNumbers, totalNames, totalNumbers, reportOf, refusalText, longest}
+use Rattle.report.specs.Inner.{RivalOk}
+use Rattle.report.proofs.Answers.{refusal-range}
+use Rattle.report.proofs.Sides.{few-blocks, left-fits, right-fits}
 use Rattle.report.proofs.Laws.{items-count, items-end, names-alone-count, names-priced-count, totals-count, report-count, refusal-count}
 
 -- a number of at most w digits in front of a line makes it longer by at most w + 1
@@ -81,21 +83,23 @@ items-longest c v = omega (arith, rest-longest c v (c .n) 0 (omega arith), v .fi
 
 -- ## The totals
 
-rival-longest : (rival : Rival) → RivalFits rival → length (totalNames rival) + length (lineOf (rivalNumbers rival)) ≤ 144
-rival-longest Absent f = omega (arith, names-alone-count, none-longest)
-rival-longest (Priced cost left right) f =
-    let line : length (lineOf (cost ∷ left ∷ right ∷ [])) ≤ 63 =
-    cons-longest cost 20 42 _ (omega arith) (omega arith)
-    (cons-longest left 20 21 _ (omega arith) (omega arith)
-    (cons-longest right 20 0 _ (omega arith) (omega arith) none-longest)) in
-    omega (arith, names-priced-count cost left right)
+rival-longest :
+    (c : Cache) (rival : Rival) → Valid c → RivalOk (view c) rival →
+    length (totalNames rival) + length (lineOf (rivalNumbers (view c) rival)) ≤ 144
+rival-longest c Absent v f = omega (arith, names-alone-count, none-longest)
+rival-longest c (Against h cost) v f =
+    let line : length (lineOf (rivalNumbers (view c) (Against h cost))) ≤ 63 =
+    cons-longest cost 20 42 _ (omega (arith, f .2)) (omega arith)
+    (cons-longest (leftSide (c .k) h (totalCost (figuresOf c))) 20 21 _ (omega (arith, left-fits c v (c .k - h + 1) (omega (arith, few-blocks c v, f .0, f .1)))) (omega arith)
+    (cons-longest (rightSide (c .k) cost) 20 0 _ (omega (arith, right-fits c v cost (f .2))) (omega arith) none-longest)) in
+    omega (arith, names-priced-count h cost)
 
 -- the eight totals and the bytes behind them, in front of a rival's numbers
 totals-longest :
-    (c : Cache) (rival : Rival) → Valid c → length (lineOf (totalNumbers (view c) rival)) ≤ 77 + length (lineOf (rivalNumbers rival))
+    (c : Cache) (rival : Rival) → Valid c → length (lineOf (totalNumbers (view c) rival)) ≤ 77 + length (lineOf (rivalNumbers (view c) rival))
 totals-longest c rival v =
     let r = v .rule in
-    let m = length (lineOf (rivalNumbers rival)) in
+    let m = length (lineOf (rivalNumbers (view c) rival)) in
     cons-longest (c .hits) 7 (69 + m) _ (omega arith) (omega arith)
     (cons-longest (c .loads) 7 (61 + m) _ (omega arith) (omega arith)
     (cons-longest (c .loadcost) 11 (49 + m) _ (omega arith) (omega arith)
@@ -103,36 +107,17 @@ totals-longest c rival v =
     (cons-longest (c .dirtyevictions) 7 (33 + m) _ (omega arith) (omega arith)
     (cons-longest (c .writebacks) 7 (25 + m) _ (omega arith) (omega arith)
     (cons-longest (c .writecost) 11 (13 + m) _ (omega arith) (omega arith)
-    (cons-longest (c .loadcost + c .writecost) 12 m (rivalNumbers rival) (omega arith) (omega arith) (le-refl m))))))))
+    (cons-longest (c .loadcost + c .writecost) 12 m (rivalNumbers (view c) rival) (omega arith) (omega arith) (le-refl m))))))))
 
-pub no-longer : (c : Cache) (rival : Rival) → Valid c → RivalFits rival → length (reportOf (view c) rival) ≤ longest
+pub no-longer : (c : Cache) (rival : Rival) → Valid c → RivalOk (view c) rival → length (reportOf (view c) rival) ≤ longest
 no-longer c rival v f =
-    omega (arith, report-count (view c) rival, totals-count (view c) rival, items-longest c v, rival-longest rival f, totals-longest c rival v)
+    omega (arith, report-count (view c) rival, totals-count (view c) rival, items-longest c v, rival-longest c rival v f, totals-longest c rival v)
 
 -- ## A refusal
-
-few-refusals : (r : Refusal) → refusalNumber r ≤ 17
-few-refusals (Malformed l) = omega arith
-few-refusals (Heading l) = omega arith
-few-refusals (OutOfRange l) = omega arith
-few-refusals (OutOfSequence l) = omega arith
-few-refusals (PlanTooLarge l) = omega arith
-few-refusals (UnknownItem l) = omega arith
-few-refusals (ItemTooLarge l) = omega arith
-few-refusals (LogFull l) = omega arith
-few-refusals (Closed l) = omega arith
-few-refusals (ActOutOfOrder l) = omega arith
-few-refusals (NotHeld l) = omega arith
-few-refusals (AlreadyHeld l) = omega arith
-few-refusals (OverCapacity l) = omega arith
-few-refusals (RequestNotHeld l) = omega arith
-few-refusals (ShortBuffer l) = omega arith
-few-refusals (InputTooLong l) = omega arith
-few-refusals (InvalidState l) = omega arith
 
 pub refusal-no-longer : (r : Refusal) → refusalLine r < 2 ^ 32 → length (refusalText r) ≤ longest
 refusal-no-longer r h =
     let line : length (lineOf (refusalNumber r ∷ refusalLine r ∷ [])) ≤ 14 =
-    cons-longest (refusalNumber r) 2 11 _ (omega (arith, few-refusals r)) (omega arith)
+    cons-longest (refusalNumber r) 2 11 _ (omega (arith, refusal-range r .1)) (omega arith)
     (cons-longest (refusalLine r) 10 0 _ (omega arith) (omega arith) none-longest) in
     omega (arith, refusal-count r)

@@ -3,18 +3,16 @@
 use mathlib.Core.Path.{_≡_}
 use mathlib.Core.Bool.{cond}
 use mathlib.Core.List.{List, [], _∷_, _++_}
-use Prim.Native.Nat.{ℕ, suc, _^_, _<_}
-use lib.ListN.{length}
-use Rattle.decimal.specs.Decimal.{digitsOf, fits, pageOf}
+use Prim.Native.Nat.{ℕ, suc}
+use Rattle.decimal.specs.Decimal.{digitsOf, fits, wroteOf, pageOf}
 use Rattle.landlord.specs.declared.Refusal.{Refusal}
-use Rattle.landlord.specs.declared.Refusal.the-variants.{ShortBuffer, InvalidState}
 use Rattle.landlord.specs.Types.{refusalNumber, refusalLine}
-use Rattle.landlord.specs.Figures.{Use, Standing, totalCost}
+use Rattle.landlord.specs.Figures.{Use, Standing, totalCost, leftSide, rightSide}
 use Rattle.cache_state.specs.View.{view}
 use Rattle.layout.specs.Layout.{cacheOf}
-use Rattle.layout.specs.Stands.{ValidBytes}
+use Rattle.layout.specs.Valid.{ValidBytes}
 use Rattle.report.specs.declared.Rival.{Rival}
-use Rattle.report.specs.declared.Rival.the-variants.{Absent, Priced}
+use Rattle.report.specs.declared.Rival.the-variants.{Absent, Against}
 use Rattle.report.specs.declared.Written.{Written}
 use Rattle.report.specs.declared.Written.the-variants.{Text, Refused}
 use Rattle.report.specs.Words.{sailWord, tenthsWord, loadsWord, writebacksWord, hitsWord, loadcostWord, dropsWord, dirtydropsWord, writecostWord, totalWord, rivalWord, leftWord, rightWord, refusalWord, lineWord, namesOf}
@@ -41,23 +39,31 @@ itemLines i (u ∷ uses) = lineOf (itemNumbers i u) ++ itemLines (suc i) uses
 -- "A report called on a state alone ends its last two lines at `total`"; with a rival's figures they go on.
 abbrev pub rivalNames : Rival → List (List ℕ)
 rivalNames Absent = []
-rivalNames (Priced cost left right) = rivalWord ∷ leftWord ∷ rightWord ∷ []
+rivalNames (Against h cost) = rivalWord ∷ leftWord ∷ rightWord ∷ []
 
-abbrev pub rivalNumbers : Rival → List ℕ
-rivalNumbers Absent = []
-rivalNumbers (Priced cost left right) = cost ∷ left ∷ right ∷ []
+-- a plan of h blocks: its cost, and both sides of the bound
+abbrev pub rivalNumbers : Standing → Rival → List ℕ
+rivalNumbers v Absent = []
+rivalNumbers v (Against h cost) = cost ∷ leftSide (v .k) h (totalCost (v .figures)) ∷ rightSide (v .k) cost ∷ []
 
+-- the names above the items' lines
 abbrev pub itemNames : List ℕ
 itemNames = namesOf (sailWord ∷ tenthsWord ∷ loadsWord ∷ writebacksWord ∷ [])
 
+-- and those above the totals
 abbrev pub totalNames : Rival → List ℕ
 totalNames rival =
     namesOf (hitsWord ∷ loadsWord ∷ loadcostWord ∷ dropsWord ∷ dirtydropsWord ∷ writebacksWord ∷ writecostWord ∷ totalWord ∷ rivalNames rival)
 
-abbrev pub totalNumbers : Standing → Rival → List ℕ
-totalNumbers v rival =
+-- the eight totals, with these numbers behind them
+abbrev pub totalsThen : Standing → List ℕ → List ℕ
+totalsThen v more =
     let t = v .figures .totals in
-    t .hits ∷ t .loads ∷ t .loadCost ∷ t .evictions ∷ t .dirtyEvictions ∷ t .writebacks ∷ t .writeCost ∷ totalCost (v .figures) ∷ rivalNumbers rival
+    t .hits ∷ t .loads ∷ t .loadCost ∷ t .evictions ∷ t .dirtyEvictions ∷ t .writebacks ∷ t .writeCost ∷ totalCost (v .figures) ∷ more
+
+-- the numbers of the last line: the totals, and those of a rival
+abbrev pub totalNumbers : Standing → Rival → List ℕ
+totalNumbers v rival = totalsThen v (rivalNumbers v rival)
 
 -- the totals: a line of names and a line of numbers
 unfoldable pub totalLines : Standing → Rival → List ℕ
@@ -71,29 +77,38 @@ reportOf v rival = itemNames ++ (itemLines 0 (v .figures .uses) ++ (10 ∷ total
 abbrev pub refusalNames : List ℕ
 refusalNames = namesOf (refusalWord ∷ lineWord ∷ [])
 
+-- both lines of it
 unfoldable pub refusalText : Refusal → List ℕ
 refusalText r = refusalNames ++ lineOf (refusalNumber r ∷ refusalLine r ∷ [])
 
--- what writing a text on a page answers: its length, or 15
-unfoldable pub wrote : List ℕ → List ℕ → Written
-wrote t page = cond (fits t page) (Text (length t)) (Refused (ShortBuffer 0))
+-- an answer's number in paper 01's table: 0, or that of the refusal
+abbrev pub writtenNumber : Written → ℕ
+writtenNumber (Text n) = 0
+writtenNumber (Refused r) = refusalNumber r
 
--- A text put on a page: "Bytes past the text keep their contents"; a page too short for all of it is as before.
+-- the line that a refusal names; 0 where nothing is refused
+abbrev pub writtenLine : Written → ℕ
+writtenLine (Text n) = 0
+writtenLine (Refused r) = refusalLine r
+
+-- how many bytes were written
+abbrev pub writtenLength : Written → ℕ
+writtenLength (Text n) = n
+writtenLength (Refused r) = 0
+
+-- A text put on a page: "Bytes past the text keep their contents"; a page too short for all of it is told (15) and is as before.
 pub record Put (t before : List ℕ) (r : Written) (after : List ℕ) : Type 0 where
-  pub answer : r ≡ wrote t before
+  pub answer : writtenNumber r ≡ cond (fits t before) 0 15
+  pub line : writtenLine r ≡ 0
+  pub size : writtenLength r ≡ wroteOf t before
   pub page : after ≡ pageOf t before
 
 -- "a report 17, 15"
 pub record Reported (b : List ℕ) (rival : Rival) (before : List ℕ) (r : Written) (after : List ℕ) : Type 0 where
   pub fine : ValidBytes b → Put (reportOf (view (cacheOf b)) rival) before r after
-  pub invalid : (ValidBytes b → ⊥) → (r ≡ Refused (InvalidState 0)) × (after ≡ before)
+  pub invalid : (ValidBytes b → ⊥) → (writtenNumber r ≡ 17) × (writtenLine r ≡ 0) × (after ≡ before)
 
 -- The bytes of the longest report there can be: 29 and 1 of item names and blank line, 256 item lines of at most 30, 81 of names,
 -- 8 totals of at most 69 digits together, 3 figures of a rival of at most 20 each, and 11 bytes behind these numbers.
 abbrev pub longest : ℕ
 longest = 7931
-
--- figures of a rival that the code's words hold
-abbrev pub RivalFits : Rival → Type 0
-RivalFits Absent = Unit {0}
-RivalFits (Priced cost left right) = (cost < 2 ^ 64) × (left < 2 ^ 64) × (right < 2 ^ 64)

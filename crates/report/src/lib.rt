@@ -2,35 +2,36 @@
 // written, so a page that is too short is left as it was; then each line is written into what remains of the page.
 ghost use mathlib.Core.Path.{_≡_};
 ghost use mathlib.Core.List.{_++_};
-ghost use Prim.Native.Nat.{_≤_, _<_};
+ghost use Prim.Native.Nat.{_+_, _≤_, _<_};
 ghost use lib.ListN.{length, take};
-ghost use Rattle.cache_state.specs.View.{view, usageOf, usesOf};
+ghost use Rattle.cache_state.specs.View.{view, usageOf, usesOf, figuresOf};
+ghost use Rattle.landlord.specs.Figures.{totalCost, leftSide, rightSide};
 ghost use Rattle.layout.specs.Layout.{stateBytes, cacheOf};
-ghost use Rattle.layout.specs.Stands.{ValidBytes};
-ghost use Rattle.report.specs.Report.{lineOf, itemNumbers, itemLines, totalNumbers, totalLines, reportOf, refusalText, Put, Reported, longest};
-ghost use Rattle.report.specs.Lines.{over, TextFits, figureCount};
+ghost use Rattle.layout.specs.Valid.{ValidBytes};
+ghost use Rattle.report.specs.Report.{lineOf, itemNumbers, itemLines, rivalNumbers, totalNumbers, totalLines, reportOf, refusalText, Put, Reported, longest};
+ghost use Rattle.report.specs.Inner.{textOver, RivalOk, Comparable, TextFits, rivalCount};
 use landlord::Refusal;
 
 // The bytes of the longest report there can be, with or without a rival's figures.
-pub const LONGEST: usize = 7931;
+const LONGEST: usize = 7931;
 
-// That constant, for callers outside Rattle: a page of so many bytes has room for every report.
-pub fn longest_length() -> usize
-    ensures { λ r. ⌜ r ≡ longest ⌝ }
-{
-    LONGEST
-}
-
-// What the last two lines say of a rival plan: nothing, or its cost and the two sides of the bound.
+// What the last two lines say of a rival plan: nothing; or, of a plan of so many blocks, its cost and the two sides of the bound.
 pub enum Rival {
     Absent,
-    Priced { cost: u64, left: u64, right: u64 },
+    Against { blocks: u32, cost: u64 },
 }
 
 // What writing on a page answers: the length of the text, or why nothing was written.
 pub enum Written {
     Text(usize),
     Refused(Refusal),
+}
+
+// A page with room for every report.
+pub fn longest_page() -> [u8; LONGEST]
+    ensures { λ r. ⌜ length r ≡ longest ⌝ }
+{
+    [0; LONGEST]
 }
 
 // How many bytes a line of numbers has: its digits, and one byte behind each number.
@@ -52,7 +53,7 @@ fn line_length(numbers: &[u64]) -> usize
 fn put_line(page: &mut [u8], numbers: &[u64]) -> usize
     requires { ⌜ length (lineOf (now numbers)) ≤ length (now page) ⌝ }
     ensures { λ r. ⌜ r ≡ length (lineOf (now (numbers .entry))) ⌝ }
-    ensures { λ r. ⌜ now (page .exit) ≡ over (lineOf (now (numbers .entry))) (now (page .entry)) ⌝ }
+    ensures { λ r. ⌜ now (page .exit) ≡ textOver (lineOf (now (numbers .entry))) (now (page .entry)) ⌝ }
 {
     let mut at = 0;
     let mut i = 0;
@@ -70,7 +71,7 @@ fn put_line(page: &mut [u8], numbers: &[u64]) -> usize
 fn put_text(page: &mut [u8], text: &[u8]) -> usize
     requires { ⌜ length (now text) ≤ length (now page) ⌝ }
     ensures { λ r. ⌜ r ≡ length (now (text .entry)) ⌝ }
-    ensures { λ r. ⌜ now (page .exit) ≡ over (now (text .entry)) (now (page .entry)) ⌝ }
+    ensures { λ r. ⌜ now (page .exit) ≡ textOver (now (text .entry)) (now (page .entry)) ⌝ }
 {
     let mut i = 0;
     while i < text.len() {
@@ -83,7 +84,7 @@ fn put_text(page: &mut [u8], text: &[u8]) -> usize
 // Writes a line of names and a line of numbers at the start of the page, which has room for both.
 fn put_table(page: &mut [u8], names: &[u8], numbers: &[u64])
     requires { ⌜ length (now names ++ lineOf (now numbers)) ≤ length (now page) ⌝ }
-    ensures { λ _. ⌜ now (page .exit) ≡ over (now (names .entry) ++ lineOf (now (numbers .entry))) (now (page .entry)) ⌝ }
+    ensures { λ _. ⌜ now (page .exit) ≡ textOver (now (names .entry) ++ lineOf (now (numbers .entry))) (now (page .entry)) ⌝ }
 {
     let at = put_text(page, names);
     put_line(&mut page[at..], numbers);
@@ -126,9 +127,9 @@ fn items_length(b: &[u8]) -> usize
 
 // Writes the items' lines at the start of the page, which has room for them.
 fn put_items(page: &mut [u8], b: &[u8]) -> usize
-    requires { ⌜ TextFits (now b) (itemLines 0 (usesOf (cacheOf (now b)))) (now page) ⌝ }
+    requires { ⌜ ValidBytes (now b) × (length (itemLines 0 (usesOf (cacheOf (now b)))) ≤ length (now page)) ⌝ }
     ensures { λ r. ⌜ r ≡ length (itemLines 0 (usesOf (cacheOf (now (b .entry))))) ⌝ }
-    ensures { λ r. ⌜ now (page .exit) ≡ over (itemLines 0 (usesOf (cacheOf (now (b .entry))))) (now (page .entry)) ⌝ }
+    ensures { λ r. ⌜ now (page .exit) ≡ textOver (itemLines 0 (usesOf (cacheOf (now (b .entry))))) (now (page .entry)) ⌝ }
 {
     let n = layout::count(b);
     let mut at = 0;
@@ -141,26 +142,56 @@ fn put_items(page: &mut [u8], b: &[u8]) -> usize
     at
 }
 
-// The numbers of the last line, eight and three; without a rival the last three are not printed.
-fn figures(b: &[u8], rival: Rival) -> [u64; 11]
+// What the season has cost.
+fn total_cost(b: &[u8]) -> u64
     requires { ⌜ ValidBytes (now b) ⌝ }
-    ensures { λ r. ⌜ take (figureCount rival) r ≡ totalNumbers (view (cacheOf (now (b .entry)))) rival ⌝ }
+    ensures { λ r. ⌜ r ≡ totalCost (figuresOf (cacheOf (now (b .entry)))) ⌝ }
 {
-    let mut cost: u64 = 0;
-    let mut left: u64 = 0;
-    let mut right: u64 = 0;
-    if let Rival::Priced {
-        cost: a,
-        left: d,
-        right: e,
-    } = rival {
-        cost = a;
-        left = d;
-        right = e;
-    }
     let load = layout::load_cost(b);
     let write = layout::write_cost(b);
-    let total = load + write;
+    load + write
+}
+
+// The bound's left side, for a plan of `h` blocks.
+fn left_side(b: &[u8], h: u32) -> u64
+    requires { ⌜ ValidBytes (now b) × (1 ≤ h) × (h ≤ cacheOf (now b) .k) ⌝ }
+    ensures { λ r. ⌜ r ≡ leftSide (cacheOf (now (b .entry)) .k) h (totalCost (figuresOf (cacheOf (now (b .entry))))) ⌝ }
+{
+    let total = total_cost(b);
+    let k = layout::capacity(b);
+    let factor = wide(k - h + 1);
+    factor * total
+}
+
+// And its right side, for a plan that costs so much.
+fn right_side(b: &[u8], cost: u64) -> u64
+    requires { ⌜ ValidBytes (now b) × (cost ≤ 1000000000000) ⌝ }
+    ensures { λ r. ⌜ r ≡ rightSide (cacheOf (now (b .entry)) .k) cost ⌝ }
+{
+    let k = wide(layout::capacity(b));
+    k * cost
+}
+
+// The rival's numbers; without a rival three that are not printed.
+fn rival_numbers(b: &[u8], rival: Rival) -> [u64; 3]
+    requires { ⌜ Comparable (now b) rival ⌝ }
+    ensures { λ r. ⌜ take (rivalCount rival) r ≡ rivalNumbers (view (cacheOf (now (b .entry)))) rival ⌝ }
+{
+    match rival {
+        Rival::Absent => [0, 0, 0],
+        Rival::Against { blocks: h, cost: a } => [a, left_side(b, h), right_side(b, a)],
+    }
+}
+
+// The numbers of the last line, eight and the rival's.
+fn figures(b: &[u8], rival: Rival) -> [u64; 11]
+    requires { ⌜ Comparable (now b) rival ⌝ }
+    ensures { λ r. ⌜ take (8 + rivalCount rival) r ≡ totalNumbers (view (cacheOf (now (b .entry)))) rival ⌝ }
+{
+    let more = rival_numbers(b, rival);
+    let load = layout::load_cost(b);
+    let write = layout::write_cost(b);
+    let total = total_cost(b);
     [
         wide(layout::hits(b)),
         wide(layout::loads(b)),
@@ -170,33 +201,29 @@ fn figures(b: &[u8], rival: Rival) -> [u64; 11]
         wide(layout::writebacks(b)),
         write,
         total,
-        cost,
-        left,
-        right,
+        more[0],
+        more[1],
+        more[2],
     ]
 }
 
 // How many bytes the last two lines have: the names, and the numbers.
 fn totals_length(b: &[u8], rival: Rival) -> usize
-    requires { ⌜ ValidBytes (now b) ⌝ }
+    requires { ⌜ Comparable (now b) rival ⌝ }
     ensures { λ r. ⌜ r ≡ length (totalLines (view (cacheOf (now (b .entry)))) rival) ⌝ }
     ensures { λ r. ⌜ r ≤ 312 ⌝ }
 {
     let numbers = figures(b, rival);
     match rival {
         Rival::Absent => 64 + line_length(&numbers[..8]),
-        Rival::Priced {
-            cost: _,
-            left: _,
-            right: _,
-        } => 81 + line_length(&numbers),
+        Rival::Against { blocks: _, cost: _ } => 81 + line_length(&numbers),
     }
 }
 
 // Writes the last two lines at the start of the page, which has room for them.
 fn put_totals(page: &mut [u8], b: &[u8], rival: Rival)
-    requires { ⌜ TextFits (now b) (totalLines (view (cacheOf (now b))) rival) (now page) ⌝ }
-    ensures { λ _. ⌜ now (page .exit) ≡ over (totalLines (view (cacheOf (now (b .entry)))) rival) (now (page .entry)) ⌝ }
+    requires { ⌜ TextFits (now b) rival (totalLines (view (cacheOf (now b))) rival) (now page) ⌝ }
+    ensures { λ _. ⌜ now (page .exit) ≡ textOver (totalLines (view (cacheOf (now (b .entry)))) rival) (now (page .entry)) ⌝ }
 {
     let numbers = figures(b, rival);
     match rival {
@@ -205,11 +232,7 @@ fn put_totals(page: &mut [u8], b: &[u8], rival: Rival)
             b"hits loads loadcost drops dirtydrops writebacks writecost total\n",
             &numbers[..8],
         ),
-        Rival::Priced {
-            cost: _,
-            left: _,
-            right: _,
-        } => put_table(
+        Rival::Against { blocks: _, cost: _ } => put_table(
             page,
             b"hits loads loadcost drops dirtydrops writebacks writecost total rival left right\n",
             &numbers,
@@ -219,7 +242,7 @@ fn put_totals(page: &mut [u8], b: &[u8], rival: Rival)
 
 // How many bytes the report of a valid state has.
 fn report_length(b: &[u8], rival: Rival) -> usize
-    requires { ⌜ ValidBytes (now b) ⌝ }
+    requires { ⌜ Comparable (now b) rival ⌝ }
     ensures { λ r. ⌜ r ≡ length (reportOf (view (cacheOf (now (b .entry)))) rival) ⌝ }
 {
     30 + items_length(b) + totals_length(b, rival)
@@ -227,8 +250,8 @@ fn report_length(b: &[u8], rival: Rival) -> usize
 
 // Writes the report of a valid state at the start of the page, which has room for it.
 fn put_report(page: &mut [u8], b: &[u8], rival: Rival)
-    requires { ⌜ TextFits (now b) (reportOf (view (cacheOf (now b))) rival) (now page) ⌝ }
-    ensures { λ _. ⌜ now (page .exit) ≡ over (reportOf (view (cacheOf (now (b .entry)))) rival) (now (page .entry)) ⌝ }
+    requires { ⌜ TextFits (now b) rival (reportOf (view (cacheOf (now b))) rival) (now page) ⌝ }
+    ensures { λ _. ⌜ now (page .exit) ≡ textOver (reportOf (view (cacheOf (now (b .entry)))) rival) (now (page .entry)) ⌝ }
 {
     let mut at = put_text(page, b"sail tenths loads writebacks\n");
     at += put_items(&mut page[at..], b);
@@ -237,8 +260,9 @@ fn put_report(page: &mut [u8], b: &[u8], rival: Rival)
 }
 
 // The report of a state, open or closed: 17 if the bytes are no valid state, 15 if the page is too short, else the text at the start
-// of the page.
+// of the page. A rival is asked to be in range for the state.
 pub fn report(b: &[u8], rival: Rival, page: &mut [u8]) -> Written
+    requires { ⌜ (ValidBytes (now b) → RivalOk (view (cacheOf (now b))) rival) ⌝ }
     ensures { λ r. ⌜ Reported (now (b .entry)) rival (now (page .entry)) r (now (page .exit)) ⌝ }
 {
     if !cache_check::valid(b) {
@@ -256,7 +280,9 @@ pub fn report(b: &[u8], rival: Rival, page: &mut [u8]) -> Written
 pub fn refused(r: Refusal, page: &mut [u8]) -> Written
     ensures { λ w. ⌜ Put (refusalText r) (now (page .entry)) w (now (page .exit)) ⌝ }
 {
-    let line = [wide(r.number()), wide(r.line())];
+    let number = wide(r.number());
+    let at = wide(r.line());
+    let line = [number, at];
     let length = 13 + line_length(&line);
     if page.len() < length {
         return Written::Refused(Refusal::ShortBuffer { line: 0 });

@@ -16,13 +16,15 @@ use Rattle.decimal.specs.Decimal.{shaped, valueOf, readOf}
 use Rattle.landlord.specs.declared.Step.the-variants.{Read, Write, Flush}
 use Rattle.landlord.specs.declared.Act.the-variants.{Evict, Fetch}
 use Rattle.landlord.specs.declared.Refusal.the-variants.{Malformed, OutOfRange}
-use Rattle.landlord.specs.Calls.{inRange, stepOf, itemInRange}
+use Rattle.landlord.specs.Calls.{inRange, stepOf}
+use Rattle.landlord.specs.Catalog.{capacityInRange, itemInRange}
 use Rattle.season_lines.specs.declared.Field.{Field}
 use Rattle.season_lines.specs.declared.Field.the-variants.{Number, Letter, Dash, Other}
 use Rattle.season_lines.specs.declared.Line.{Line}
 use Rattle.season_lines.specs.declared.Line.the-variants.{Sizes, Item as ItemLine, Step, Act as Placed, Refused}
-use Rattle.season_lines.specs.Fields.{before, beyond, markOf, fieldOf, fieldAt, isNumber, isDash, isLetter, valueIn}
-use Rattle.season_lines.specs.Lines.{judged, sizeInRange, sizesLine, itemFrom, itemLine, isEither, stepShape, stepLine, isActKind, actOf, actLine, lineIn}
+use Rattle.season_lines.specs.Fields.{markOf, fieldOf, fieldAt, isNumber, isDash, isLetter, valueIn}
+use Rattle.season_lines.specs.Lines.{shapeThenRange, sizesLine, itemFrom, itemLine, isEither, stepShape, stepLine, isActKind, actOf, actLine, lineIn}
+use Rattle.season_lines.specs.Inner.{before, beyond, heldField}
 
 -- ## Tests
 
@@ -105,29 +107,35 @@ mark-high b n h = rw (ne-eqb b 45 n, lt-leb b 90 h, and-false (leb 65 b))
 pub mark-low : (b : ℕ) → (b ≡ 45 → ⊥) → b < 65 → Other ≡ markOf b
 mark-low b n h = rw (ne-eqb b 45 n, lt-leb 65 b h)
 
-pub field-number : (s : List ℕ) (v : ℕ) → Value v ≡ readOf s beyond → Number v ≡ fieldOf s
+pub field-number : (s : List ℕ) (v : ℕ) → Value v ≡ readOf s beyond → Number v ≡ heldField (fieldOf s)
 unfolding readOf fieldOf
-field-number s v e = go (shaped s) (leb (valueOf s) beyond) e
+field-number s v e = go (shaped s) e
   where
-    go :
-        (p q : Bool) →
-        Value v ≡ cond p (cond q (Value (valueOf s)) Above) NoNumber →
-        Number v ≡ cond p (Number (cond q (valueOf s) beyond)) (cond (eqb (length s) 1) (markOf (getD s 0 0)) Other)
-    go true true e = cc
-    go true false e = cc
-    go false q e = cc
+    within : (q : Bool) → Value v ≡ cond q (Value (valueOf s)) Above → Number v ≡ Number (cond q (valueOf s) beyond)
+    within true e = cc
+    within false e = cc
 
-pub field-beyond : (s : List ℕ) → Above ≡ readOf s beyond → Number beyond ≡ fieldOf s
-unfolding readOf fieldOf
-field-beyond s e = go (shaped s) (leb (valueOf s) beyond) e
-  where
     go :
-        (p q : Bool) →
-        Above ≡ cond p (cond q (Value (valueOf s)) Above) NoNumber →
-        Number beyond ≡ cond p (Number (cond q (valueOf s) beyond)) (cond (eqb (length s) 1) (markOf (getD s 0 0)) Other)
-    go true true e = cc
-    go true false e = refl
-    go false q e = cc
+        (p : Bool) →
+        Value v ≡ cond p (cond (leb (valueOf s) beyond) (Value (valueOf s)) Above) NoNumber →
+        Number v ≡ heldField (cond p (Number (valueOf s)) (cond (eqb (length s) 1) (markOf (getD s 0 0)) Other))
+    go true e = within (leb (valueOf s) beyond) e
+    go false e = cc
+
+pub field-beyond : (s : List ℕ) → Above ≡ readOf s beyond → Number beyond ≡ heldField (fieldOf s)
+unfolding readOf fieldOf
+field-beyond s e = go (shaped s) e
+  where
+    above : (q : Bool) → Above ≡ cond q (Value (valueOf s)) Above → Number beyond ≡ Number (cond q (valueOf s) beyond)
+    above true e = cc
+    above false e = refl
+
+    go :
+        (p : Bool) →
+        Above ≡ cond p (cond (leb (valueOf s) beyond) (Value (valueOf s)) Above) NoNumber →
+        Number beyond ≡ heldField (cond p (Number (valueOf s)) (cond (eqb (length s) 1) (markOf (getD s 0 0)) Other))
+    go true e = above (leb (valueOf s) beyond) e
+    go false e = cc
 
 not-shaped : (s : List ℕ) → NoNumber ≡ readOf s beyond → shaped s ≡ false
 unfolding readOf
@@ -138,11 +146,20 @@ not-shaped s e = go (shaped s) (leb (valueOf s) beyond) e
     go true false e = cc
     go false q e = refl
 
-pub field-mark : (s : List ℕ) → NoNumber ≡ readOf s beyond → length s ≡ 1 → markOf (getD s 0 0) ≡ fieldOf s
-unfolding fieldOf
-field-mark s e h = rw (not-shaped s e, eq-eqb (length s) 1 h)
+-- a field of one byte is no number, and so is held as it is
+mark-held : (b : ℕ) → markOf b ≡ heldField (markOf b)
+mark-held b = go (eqb b 45) (leb 65 b && leb b 90)
+  where
+    go : (p q : Bool) → cond p Dash (cond q (Letter b) Other) ≡ heldField (cond p Dash (cond q (Letter b) Other))
+    go true q = refl
+    go false true = refl
+    go false false = refl
 
-pub field-other : (s : List ℕ) → NoNumber ≡ readOf s beyond → (length s ≡ 1 → ⊥) → Other ≡ fieldOf s
+pub field-mark : (s : List ℕ) → NoNumber ≡ readOf s beyond → length s ≡ 1 → markOf (getD s 0 0) ≡ heldField (fieldOf s)
+unfolding fieldOf
+field-mark s e h = rw (not-shaped s e, eq-eqb (length s) 1 h) (mark-held (getD s 0 0))
+
+pub field-other : (s : List ℕ) → NoNumber ≡ readOf s beyond → (length s ≡ 1 → ⊥) → Other ≡ heldField (fieldOf s)
 unfolding fieldOf
 field-other s e h = rw (not-shaped s e, ne-eqb (length s) 1 h)
 
@@ -237,7 +254,7 @@ actsShape count place kind letter item = eqb count 3 && isNumber place && isLett
 
 -- and its ranges, from its values
 abbrev pub sizesRange : ℕ → ℕ → Bool
-sizesRange k h = sizeInRange k && sizeInRange h
+sizesRange k h = capacityInRange k && capacityInRange h
 
 abbrev pub itemsRange : ℕ → ℕ → ℕ → ℕ → Bool
 itemsRange i b l w = leb i 255 && itemInRange (itemFrom b l w)
@@ -247,21 +264,21 @@ actsRange place kind item = leb place 999999 && isActKind kind && leb item 255
 
 -- what each line says, from those
 abbrev pub sizesBy : ℕ → Field → Field → ℕ → Line
-sizesBy count k h n = judged (sizesShape count k h) (sizesRange (valueIn k) (valueIn h)) (Sizes (valueIn k) (valueIn h)) n
+sizesBy count k h n = shapeThenRange (sizesShape count k h) (sizesRange (valueIn k) (valueIn h)) (Sizes (valueIn k) (valueIn h)) n
 
 abbrev pub itemBy : ℕ → Field → Field → Field → Field → ℕ → Line
 itemBy count i b l w n =
-    judged (itemShape count i b l w) (itemsRange (valueIn i) (valueIn b) (valueIn l) (valueIn w))
+    shapeThenRange (itemShape count i b l w) (itemsRange (valueIn i) (valueIn b) (valueIn l) (valueIn w))
     (ItemLine (valueIn i) (valueIn b) (valueIn l) (valueIn w)) n
 
 abbrev pub stepBy : ℕ → Field → Field → Field → ℕ → Line
 stepBy count kind item minutes n =
-    judged (stepsShape count kind (valueIn kind) item minutes) (inRange (valueIn kind) (valueIn item) (valueIn minutes))
+    shapeThenRange (stepsShape count kind (valueIn kind) item minutes) (inRange (valueIn kind) (valueIn item) (valueIn minutes))
     (Step (stepOf (valueIn kind) (valueIn item) (valueIn minutes))) n
 
 abbrev pub actBy : ℕ → Field → Field → Field → ℕ → Line
 actBy count place kind item n =
-    judged (actsShape count place kind (valueIn kind) item) (actsRange (valueIn place) (valueIn kind) (valueIn item))
+    shapeThenRange (actsShape count place kind (valueIn kind) item) (actsRange (valueIn place) (valueIn kind) (valueIn item))
     (Placed (valueIn place) (actOf (valueIn kind) (valueIn item))) n
 
 -- the line that the first `count` fields of an array make
@@ -331,34 +348,34 @@ module _ (fields : List Field) (count n : ℕ) (few : count ≤ length fields) w
           )
 
   -- a line that lacks its table's shape
-  pub sizes-torn :
+  pub sizes-malformed :
       (eqb count 2 ≡ false) ⊎ (isNumber (slot fields 0) ≡ false) ⊎ (isNumber (slot fields 1) ≡ false) →
       Refused (Malformed n) ≡ sizesLine (take count fields) n
-  sizes-torn e = rw (sizes-by, one-of-3 (eqb count 2) (isNumber (slot fields 0)) (isNumber (slot fields 1)) e)
+  sizes-malformed e = rw (sizes-by, one-of-3 (eqb count 2) (isNumber (slot fields 0)) (isNumber (slot fields 1)) e)
 
-  pub item-torn :
+  pub item-malformed :
       (eqb count 4 ≡ false)
       ⊎ (isNumber (slot fields 0) ≡ false)
       ⊎ (isNumber (slot fields 1) ≡ false)
       ⊎ (isNumber (slot fields 2) ≡ false)
       ⊎ (isNumber (slot fields 3) ≡ false) →
       Refused (Malformed n) ≡ itemLine (take count fields) n
-  item-torn e =
+  item-malformed e =
       rw (
         item-by,
         one-of-5 (eqb count 4) (isNumber (slot fields 0)) (isNumber (slot fields 1)) (isNumber (slot fields 2)) (isNumber (slot fields 3)) e,
       )
 
-  pub step-torn :
+  pub step-malformed :
       (letter : ℕ) →
       letter ≡ valueIn (slot fields 0) →
       (eqb count 3 ≡ false) ⊎ (isLetter (slot fields 0) ≡ false) ⊎ (stepShape letter (slot fields 1) (slot fields 2) ≡ false) →
       Refused (Malformed n) ≡ stepLine (take count fields) n
-  step-torn letter h e =
+  step-malformed letter h e =
       rw
       (step-by, ← h, one-of-3 (eqb count 3) (isLetter (slot fields 0)) (stepShape letter (slot fields 1) (slot fields 2)) e)
 
-  pub act-torn :
+  pub act-malformed :
       (letter : ℕ) →
       letter ≡ valueIn (slot fields 1) →
       (eqb count 3 ≡ false)
@@ -366,7 +383,7 @@ module _ (fields : List Field) (count n : ℕ) (few : count ≤ length fields) w
       ⊎ (isLetter (slot fields 1) ≡ false)
       ⊎ (actShape letter (slot fields 2) ≡ false) →
       Refused (Malformed n) ≡ actLine (take count fields) n
-  act-torn letter h e =
+  act-malformed letter h e =
       rw (
         act-by,
         ← h,
@@ -377,8 +394,8 @@ module _ (fields : List Field) (count n : ℕ) (few : count ≤ length fields) w
   module _ (a b : ℕ) (ea : a ≡ valueIn (slot fields 0)) (eb : b ≡ valueIn (slot fields 1)) where
     module _ (s : sizesShape count (slot fields 0) (slot fields 1) ≡ true) where
       pub sizes-far :
-          (sizeInRange a ≡ false) ⊎ (sizeInRange b ≡ false) → Refused (OutOfRange n) ≡ sizesLine (take count fields) n
-      sizes-far r = rw (sizes-by, s, ← ea, ← eb, one-of-2 (sizeInRange a) (sizeInRange b) r)
+          (capacityInRange a ≡ false) ⊎ (capacityInRange b ≡ false) → Refused (OutOfRange n) ≡ sizesLine (take count fields) n
+      sizes-far r = rw (sizes-by, s, ← ea, ← eb, one-of-2 (capacityInRange a) (capacityInRange b) r)
 
       pub sizes-good : sizesRange a b ≡ true → Sizes a b ≡ sizesLine (take count fields) n
       sizes-good r = rw (sizes-by, s, ← ea, ← eb, r)

@@ -18,13 +18,15 @@ use Rattle.landlord.specs.declared.Refusal.the-variants.{Malformed, OutOfRange}
 use Rattle.landlord.specs.declared.Step.{Step as AStep}
 use Rattle.landlord.specs.declared.Step.the-variants.{Read, Write, Flush}
 use Rattle.landlord.specs.Types.{stepKind, stepItem, stepMinutes, actItem}
-use Rattle.landlord.specs.Calls.{inRange, stepOf, itemInRange}
+use Rattle.landlord.specs.Calls.{inRange, stepOf}
+use Rattle.landlord.specs.Catalog.{capacityInRange, itemInRange}
 use Rattle.season_lines.specs.declared.Field.{Field}
 use Rattle.season_lines.specs.declared.Field.the-variants.{Number, Letter, Dash, Other}
 use Rattle.season_lines.specs.declared.Line.{Line}
 use Rattle.season_lines.specs.declared.Line.the-variants.{Sizes, Item as ItemLine, Step, Act as Placed, Refused}
-use Rattle.season_lines.specs.Fields.{before, onto, split, fieldOf, allFields, fieldsOf, fieldAt, isNumber, isDash, isLetter, isOther, valueIn}
-use Rattle.season_lines.specs.Lines.{judged, sizeInRange, sizesLine, itemFrom, itemLine, isEither, stepShape, stepLine, isActKind, actOf, actLine, lineIn}
+use Rattle.season_lines.specs.Fields.{onto, split, fieldOf, allFields, fieldsOf, fieldAt, isNumber, isDash, isLetter, valueIn}
+use Rattle.season_lines.specs.Lines.{shapeThenRange, sizesLine, itemFrom, itemLine, isEither, stepShape, stepLine, isActKind, actOf, actLine, lineIn}
+use Rattle.season_lines.specs.Inner.{before, isOther}
 use Rattle.season_lines.proofs.Laws.{and-parts, one-of-3, one-of-4, one-of-5, equal-or-not, sizesShape, itemShape, stepsShape, actShape, actsShape, sizesRange, itemsRange, actsRange}
 
 -- ## A text and its first separator
@@ -165,8 +167,8 @@ module _ (fs : List Field) (n : ℕ) where
   unfolding actLine
   act-count h = rw (ne-eqb (length fs) 3 h)
 
-pub many-torn : (table : ℕ) (fs : List Field) (n : ℕ) → 4 < length fs → lineIn table fs n ≡ Refused (Malformed n)
-many-torn table fs n h =
+pub many-malformed : (table : ℕ) (fs : List Field) (n : ℕ) → 4 < length fs → lineIn table fs n ≡ Refused (Malformed n)
+many-malformed table fs n h =
     same-in-all table fs n (Refused (Malformed n)) (sizes-count fs n (λ e. omega arith)) (item-count fs n (λ e. omega arith))
     (step-count fs n (λ e. omega arith)) (act-count fs n (λ e. omega arith))
 
@@ -212,8 +214,8 @@ no-minutes kind item minutes o =
     go false false true = refl
     go false false false = refl
 
-no-sail : (kind : ℕ) (item : Field) → isOther item ≡ true → actShape kind item ≡ false
-no-sail kind item o = rw (no-number item o, no-dash item o) (go (isActKind kind))
+no-item-field : (kind : ℕ) (item : Field) → isOther item ≡ true → actShape kind item ≡ false
+no-item-field kind item o = rw (no-number item o, no-dash item o) (go (isActKind kind))
   where
     go : (p : Bool) → cond p false false ≡ false
     go true = refl
@@ -286,15 +288,15 @@ module _ (fs : List Field) (n : ℕ) where
           ⊎ (actShape (valueIn (fieldAt fs 1)) (fieldAt fs 2) ≡ false)
       which zero e h o = inr (inl (no-number (fieldAt fs 0) o))
       which (suc zero) e h o = inr (inr (inl (no-letter (fieldAt fs 1) o)))
-      which (suc (suc zero)) e h o = inr (inr (inr (no-sail (valueIn (fieldAt fs 1)) (fieldAt fs 2) o)))
+      which (suc (suc zero)) e h o = inr (inr (inr (no-item-field (valueIn (fieldAt fs 1)) (fieldAt fs 2) o)))
       which (suc (suc (suc j))) e h o = absurd (omega arith)
 
-pub other-torn :
+pub other-malformed :
     (table : ℕ) (fs : List Field) (j n : ℕ) →
     j < length fs →
     isOther (fieldAt fs j) ≡ true →
     lineIn table fs n ≡ Refused (Malformed n)
-other-torn table fs j n h o =
+other-malformed table fs j n h o =
     same-in-all table fs n (Refused (Malformed n)) (sizes-other fs n j h o) (item-other fs n j h o) (step-other fs n j h o)
     (act-other fs n j h o)
 
@@ -310,7 +312,7 @@ isRefused (Refused r) = true
 -- such a line has its table's shape, is in range, and says what stands in it
 judged-is :
     (shape range : Bool) (l m : Line) (n : ℕ) →
-    judged shape range l n ≡ m →
+    shapeThenRange shape range l n ≡ m →
     isRefused m ≡ false →
     (shape ≡ true) × (range ≡ true) × (l ≡ m)
 judged-is true true l m n e h = (refl, refl, e)
@@ -320,7 +322,7 @@ judged-is false range l m n e h = absurd (false≢true (sym (ap isRefused e ∙ 
 -- and one that is refused lacks the shape, or is out of range
 judged-no :
     (shape range : Bool) (l : Line) (r : Refusal) (n : ℕ) →
-    judged shape range l n ≡ Refused r →
+    shapeThenRange shape range l n ≡ Refused r →
     isRefused l ≡ false →
     (r ≡ Malformed n) ⊎ (r ≡ OutOfRange n)
 judged-no true true l r n e h = absurd (false≢true (sym (sym (ap isRefused e) ∙ h)))
@@ -366,7 +368,7 @@ sortOf (Placed p a) = 3
 sortOf (Refused r) = 4
 
 judged-sort :
-    (shape range : Bool) (l : Line) (n : ℕ) → (sortOf (judged shape range l n) ≡ sortOf l) ⊎ (sortOf (judged shape range l n) ≡ 4)
+    (shape range : Bool) (l : Line) (n : ℕ) → (sortOf (shapeThenRange shape range l n) ≡ sortOf l) ⊎ (sortOf (shapeThenRange shape range l n) ≡ 4)
 judged-sort true true l n = inl refl
 judged-sort true false l n = inr refl
 judged-sort false range l n = inr refl
@@ -547,14 +549,14 @@ act-item kind i = go (eqb kind 68)
     go false = refl
 
 -- the ranges of a line, number by number, and the count of its fields
-sizes-bounds : (k h : ℕ) → sizesRange k h ≡ true → (1 ≤ k) × (k ≤ 4096) × (1 ≤ h) × (h ≤ 4096)
+pub sizes-bounds : (k h : ℕ) → sizesRange k h ≡ true → (1 ≤ k) × (k ≤ 4096) × (1 ≤ h) × (h ≤ 4096)
 sizes-bounds k h e =
-    let both = and-parts (sizeInRange k) (sizeInRange h) e in
+    let both = and-parts (capacityInRange k) (capacityInRange h) e in
     let first = and-parts (leb 1 k) (leb k 4096) (both .0) in
     let second = and-parts (leb 1 h) (leb h 4096) (both .1) in
     (leb-true 1 k (first .0), leb-true k 4096 (first .1), leb-true 1 h (second .0), leb-true h 4096 (second .1))
 
-acts-bounds : (p kind i : ℕ) → actsRange p kind i ≡ true → (p ≤ 999999) × (i ≤ 255)
+pub acts-bounds : (p kind i : ℕ) → actsRange p kind i ≡ true → (p ≤ 999999) × (i ≤ 255)
 acts-bounds p kind i e =
     let both = and-parts (leb p 999999 && isActKind kind) (leb i 255) e in
     (leb-true p 999999 (and-parts (leb p 999999) (isActKind kind) (both .0) .0), leb-true i 255 (both .1))

@@ -8,11 +8,6 @@ use Rattle.decimal.specs.Decimal.{shaped, valueOf}
 use Rattle.season_lines.specs.declared.Field.{Field}
 use Rattle.season_lines.specs.declared.Field.the-variants.{Number, Letter, Dash, Other}
 
--- the bytes before the first b, or all of them
-unfoldable pub before : ℕ → List ℕ → List ℕ
-before b [] = []
-before b (x ∷ s) = cond (eqb x b) [] (x ∷ before b s)
-
 -- a byte in front of the first piece
 abbrev pub onto : ℕ → List (List ℕ) → List (List ℕ)
 onto x [] = (x ∷ []) ∷ []
@@ -23,20 +18,13 @@ unfoldable pub split : ℕ → List ℕ → List (List ℕ)
 split b [] = [] ∷ []
 split b (x ∷ s) = cond (eqb x b) ([] ∷ split b s) (onto x (split b s))
 
--- Every range of the tables ends far below this, so a number above it is read as this one.
-abbrev pub beyond : ℕ
-beyond = 4294967295
-
-abbrev pub clipped : ℕ → ℕ
-clipped v = cond (leb v beyond) v beyond
-
 -- "A kind is one capital letter"; `-` is 45
 abbrev pub markOf : ℕ → Field
 markOf b = cond (eqb b 45) Dash (cond (leb 65 b && leb b 90) (Letter b) Other)
 
 -- what a field is: a number of any size, a capital letter, `-`, or something else
 unfoldable pub fieldOf : List ℕ → Field
-fieldOf s = cond (shaped s) (Number (clipped (valueOf s))) (cond (eqb (length s) 1) (markOf (getD s 0 0)) Other)
+fieldOf s = cond (shaped s) (Number (valueOf s)) (cond (eqb (length s) 1) (markOf (getD s 0 0)) Other)
 
 unfoldable pub allFields : List (List ℕ) → List Field
 allFields [] = []
@@ -67,13 +55,6 @@ isLetter (Number v) = false
 isLetter (Letter b) = true
 isLetter Dash = false
 isLetter Other = false
-
--- neither a number nor a letter nor `-`: no line has such a field
-abbrev pub isOther : Field → Bool
-isOther (Number v) = false
-isOther (Letter b) = false
-isOther Dash = false
-isOther Other = true
 
 -- the number that a field is, or the code of its letter; `-` has none, and it is not looked at
 abbrev pub valueIn : Field → ℕ

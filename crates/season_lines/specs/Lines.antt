@@ -8,27 +8,24 @@ use lib.Dec.{leb, eqb}
 use Rattle.landlord.specs.declared.Act.{Act}
 use Rattle.landlord.specs.declared.Act.the-variants.{Evict, Fetch}
 use Rattle.landlord.specs.declared.Refusal.the-variants.{Malformed, OutOfRange}
-use Rattle.landlord.specs.Catalog.{Item}
-use Rattle.landlord.specs.Calls.{inRange, stepOf, itemInRange}
+use Rattle.landlord.specs.Catalog.{Item, itemInRange, capacityInRange}
+use Rattle.landlord.specs.Calls.{inRange, stepOf}
 use Rattle.season_lines.specs.declared.Field.{Field}
 use Rattle.season_lines.specs.declared.Line.{Line}
 use Rattle.season_lines.specs.declared.Line.the-variants.{Sizes, Item as ItemLine, Step, Act as Placed, Refused}
 use Rattle.season_lines.specs.Fields.{fieldAt, isNumber, isDash, isLetter, valueIn}
 
 -- "in the order .. shape, 3": a line that has its table's shape and is in range says what stands in it
-abbrev pub judged : Bool → Bool → Line → ℕ → Line
-judged shape range l n = cond shape (cond range l (Refused (OutOfRange n))) (Refused (Malformed n))
+abbrev pub shapeThenRange : Bool → Bool → Line → ℕ → Line
+shapeThenRange shape range l n = cond shape (cond range l (Refused (OutOfRange n))) (Refused (Malformed n))
 
 -- `locker rival`: "k and h, each 1 to 4,096"
-abbrev pub sizeInRange : ℕ → Bool
-sizeInRange x = leb 1 x && leb x 4096
-
 unfoldable pub sizesLine : List Field → ℕ → Line
 sizesLine fs n =
     let k = fieldAt fs 0 in
     let h = fieldAt fs 1 in
-    judged (eqb (length fs) 2 && isNumber k && isNumber h)
-    (sizeInRange (valueIn k) && sizeInRange (valueIn h))
+    shapeThenRange (eqb (length fs) 2 && isNumber k && isNumber h)
+    (capacityInRange (valueIn k) && capacityInRange (valueIn h))
     (Sizes (valueIn k) (valueIn h)) n
 
 abbrev pub itemFrom : ℕ → ℕ → ℕ → Item
@@ -41,7 +38,7 @@ itemLine fs n =
     let b = fieldAt fs 1 in
     let l = fieldAt fs 2 in
     let w = fieldAt fs 3 in
-    judged (eqb (length fs) 4 && isNumber i && isNumber b && isNumber l && isNumber w)
+    shapeThenRange (eqb (length fs) 4 && isNumber i && isNumber b && isNumber l && isNumber w)
     (leb (valueIn i) 255 && itemInRange (itemFrom (valueIn b) (valueIn l) (valueIn w)))
     (ItemLine (valueIn i) (valueIn b) (valueIn l) (valueIn w)) n
 
@@ -63,7 +60,7 @@ stepLine fs n =
     let kind = fieldAt fs 0 in
     let item = fieldAt fs 1 in
     let minutes = fieldAt fs 2 in
-    judged (eqb (length fs) 3 && isLetter kind && stepShape (valueIn kind) item minutes)
+    shapeThenRange (eqb (length fs) 3 && isLetter kind && stepShape (valueIn kind) item minutes)
     (inRange (valueIn kind) (valueIn item) (valueIn minutes))
     (Step (stepOf (valueIn kind) (valueIn item) (valueIn minutes))) n
 
@@ -80,7 +77,7 @@ actLine fs n =
     let place = fieldAt fs 0 in
     let kind = fieldAt fs 1 in
     let item = fieldAt fs 2 in
-    judged (eqb (length fs) 3 && isNumber place && isLetter kind && cond (isActKind (valueIn kind)) (isNumber item) (isEither item))
+    shapeThenRange (eqb (length fs) 3 && isNumber place && isLetter kind && cond (isActKind (valueIn kind)) (isNumber item) (isEither item))
     (leb (valueIn place) 999999 && isActKind (valueIn kind) && leb (valueIn item) 255)
     (Placed (valueIn place) (actOf (valueIn kind) (valueIn item))) n
 

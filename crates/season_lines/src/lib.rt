@@ -4,14 +4,16 @@ ghost use mathlib.Core.Path.{_≡_};
 ghost use mathlib.Core.Bool.{cond};
 ghost use Prim.Native.Nat.{_≤_};
 ghost use lib.ListN.{length, take};
-ghost use Rattle.landlord.specs.Calls.{stepOf, itemInRange};
-ghost use Rattle.season_lines.specs.Fields.{before, fieldOf, markOf, isNumber, isDash, isLetter, isOther, valueIn};
-ghost use Rattle.season_lines.specs.Lines.{sizeInRange, itemFrom, isEither, stepShape, isActKind, actOf, sizesLine, itemLine, stepLine, actLine, lineIn};
+ghost use Rattle.landlord.specs.Catalog.{itemInRange, capacityInRange};
+ghost use Rattle.landlord.specs.Calls.{stepOf};
+ghost use Rattle.season_lines.specs.Fields.{fieldOf, markOf, isNumber, isDash, isLetter, valueIn};
+ghost use Rattle.season_lines.specs.Lines.{itemFrom, isEither, stepShape, isActKind, actOf, sizesLine, itemLine, stepLine, actLine, lineIn};
+ghost use Rattle.season_lines.specs.Inner.{before, isOther, heldField};
 use landlord::Act;
 use landlord::Refusal;
 use landlord::Step;
 
-// What a field is. A number above 4,294,967,295 counts as that one, which is outside every range too.
+// What a field is, as the program holds it: a number above 4,294,967,295 counts as that one, which is outside every range too.
 pub enum Field {
     Number(u32),
     Letter(u8),
@@ -69,7 +71,7 @@ fn mark_of(b: u8) -> Field
 }
 
 pub fn field_of(s: &[u8]) -> Field
-    ensures { λ r. ⌜ r ≡ fieldOf (now (s .entry)) ⌝ }
+    ensures { λ r. ⌜ r ≡ heldField (fieldOf (now (s .entry))) ⌝ }
 {
     match decimal::read(s, 4294967295) {
         decimal::Number::Value(v) => Field::Number(v as u32),
@@ -83,7 +85,7 @@ pub fn field_of(s: &[u8]) -> Field
     }
 }
 
-pub fn is_number(f: Field) -> bool
+fn is_number(f: Field) -> bool
     ensures { λ r. ⌜ r ≡ isNumber f ⌝ }
 {
     match f {
@@ -94,7 +96,7 @@ pub fn is_number(f: Field) -> bool
     }
 }
 
-pub fn is_letter(f: Field) -> bool
+fn is_letter(f: Field) -> bool
     ensures { λ r. ⌜ r ≡ isLetter f ⌝ }
 {
     match f {
@@ -105,7 +107,7 @@ pub fn is_letter(f: Field) -> bool
     }
 }
 
-pub fn is_dash(f: Field) -> bool
+fn is_dash(f: Field) -> bool
     ensures { λ r. ⌜ r ≡ isDash f ⌝ }
 {
     match f {
@@ -129,7 +131,7 @@ pub fn is_other(f: Field) -> bool
 }
 
 // The number that a field is, or the code of its letter; 0 if it is neither.
-pub fn value_in(f: Field) -> u32
+fn value_in(f: Field) -> u32
     ensures { λ r. ⌜ r ≡ valueIn f ⌝ }
 {
     match f {
@@ -141,7 +143,7 @@ pub fn value_in(f: Field) -> u32
 }
 
 fn is_size(x: u32) -> bool
-    ensures { λ r. ⌜ r ≡ sizeInRange x ⌝ }
+    ensures { λ r. ⌜ r ≡ capacityInRange x ⌝ }
 {
     1 <= x && x <= 4096
 }
@@ -255,7 +257,7 @@ fn step_line(fields: [Field; 4], count: usize, line: u32) -> Line
     }
     let i = value_in(item);
     let m = value_in(minutes);
-    if !cache::in_range(letter, i, m) {
+    if !landlord::in_range(letter, i, m) {
         return Line::Refused(Refusal::OutOfRange { line: line });
     }
     Line::Step(step_of(letter, i, m))

@@ -17,13 +17,13 @@ use Rattle.catalog_bytes.specs.Catalogs.{catalogIn}
 use Rattle.catalog_bytes.proofs.Laws.{length-catalogIn}
 use Rattle.season_tables.specs.declared.Seen.{Seen}
 use Rattle.season_tables.specs.Tables.{Sofar}
-use Rattle.season_tables.specs.Holds.{Holds}
-use Rattle.season_tables.specs.Sound.{Sound, placedAt}
+use Rattle.season_tables.specs.Inner.{Holds}
+use Rattle.season_tables.specs.InnerSound.{Sound, placedAt}
 use Rattle.season_plan.specs.declared.Copies.{Copies}
 use Rattle.season_plan.specs.declared.Did.{Did}
 use Rattle.season_plan.specs.declared.Acted.{Acted}
 use Rattle.season_plan.specs.Plans.{actsAt, actsBefore}
-use Rattle.season_plan.specs.Copies.{copiesOf, Stands, Does, Ready, Known, Acts, faultAct, ActsDone, most, Actable, RunsActs}
+use Rattle.season_plan.specs.Inner.{copiesOf, HoldsCopies, Does, PlanReady, Known, Acts, faultAct, ActsDone, most, Actable, RunsActs}
 use Rattle.season_plan.proofs.Places.{catalog-is, count-is, noted-act, act-again, sound-ordered, parted, parted-is, at-skip, at-here, at-none}
 use Rattle.season_plan.proofs.Costs.{Cheap, Faults, ofAct, fault-some, act-cheap, act-faults}
 
@@ -52,7 +52,7 @@ pub record Acting (x : Seen) (xs acts : List ℕ) (p : Copies) (first s : ℕ) (
 -- what was paid before counts, whatever follows
 and-done : (v : Sofar) (s : ℕ) (d : Done) (c before : ℕ) (r : Acted) → ActsDone v s d (before + c) r → ActsDone v s (andPaid c d) before r
 and-done v s (done q b) c before r h =
-    (h .0, subst (λ (t : ℕ). Stands (v .catalog) (r .copies) q t) (add-assoc before c b) (h .1), h .2)
+    (h .0, subst (λ (t : ℕ). HoldsCopies (v .catalog) (r .copies) q t) (add-assoc before c b) (h .1), h .2)
 and-done v s (faulty f) c before r h = h
 
 -- an act that was done, and then the others
@@ -97,7 +97,7 @@ did-ready xs (faulty f) m before r did cheap e = absurd (fault-some f (sym did �
 pub stands-ready :
     (xs : List ℕ) (p : Copies) →
     p .used ≡ planUsed (catalogIn xs) (copiesIn xs p) →
-    Stands (catalogIn xs) p (copiesIn xs p) (p .paid)
+    HoldsCopies (catalogIn xs) p (copiesIn xs p) (p .paid)
 stands-ready xs p used = record { copies = ap (λ t. copiesOf t (p .marks)) (length-catalogIn xs); used = used; sum = refl }
 
 module _ (x : Seen) (xs acts : List ℕ) (p : Copies) (first s : ℕ) (pre : Actable x xs p acts first s) where
@@ -123,7 +123,7 @@ module _ (x : Seen) (xs acts : List ℕ) (p : Copies) (first s : ℕ) (pre : Act
       Holds x xs calls acts v →
       Sound v →
       first ≡ actsBefore s (v .acts) →
-      Stands (v .catalog) p o paid →
+      HoldsCopies (v .catalog) p o paid →
       Left v s 0 first (copiesIn xs p) (p .paid) t →
       ActsDone v s (allActs (v .catalog) s 0 (actsAt s (v .acts)) o) paid t
   whole calls v t paid o h sound begins st so =
@@ -141,7 +141,7 @@ module _ (x : Seen) (xs acts : List ℕ) (p : Copies) (first s : ℕ) (pre : Act
     pub acting-low : q .paid ≤ 900000000000
     acting-low = omega (arith, so .low, so .within, pre .inside, pre .priceable .fewActs, pre .priceable .fewSteps)
 
-    pub acting-ready : Ready xs q
+    pub acting-ready : PlanReady xs q
     acting-ready =
         record { few = pre .ready .few; catalog = pre .ready .catalog; used = so .used; low = omega (arith, acting-low) }
 
@@ -241,9 +241,9 @@ module _ (x : Seen) (xs acts : List ℕ) (p : Copies) (first s : ℕ) (pre : Act
           subst (λ (u : List Act). ActsDone v s (allActs (v .catalog) s (a - first) u (copiesIn xs q)) (q .paid) t)
           (sym (at-none s a (v .acts) (λ i l b e. let z = past i l b in omega arith))) (
             number,
-            subst (λ (c : Copies). Stands (v .catalog) c (copiesIn xs q) (q .paid + 0)) (sym same)
-                (subst (λ (c : Catalog). Stands c q (copiesIn xs q) (q .paid + 0)) (catalog-is x xs calls acts v h (pre .priceable .items))
-                (subst (λ (n : ℕ). Stands (catalogIn xs) q (copiesIn xs q) n) (sym (add-zero (q .paid))) (stands-ready xs q (so .used)))),
+            subst (λ (c : Copies). HoldsCopies (v .catalog) c (copiesIn xs q) (q .paid + 0)) (sym same)
+                (subst (λ (c : Catalog). HoldsCopies c q (copiesIn xs q) (q .paid + 0)) (catalog-is x xs calls acts v h (pre .priceable .items))
+                (subst (λ (n : ℕ). HoldsCopies (catalogIn xs) q (copiesIn xs q) n) (sym (add-zero (q .paid))) (stands-ready xs q (so .used)))),
             next ∙ sym (parted-is (suc s) (v .acts) a (record { within = omega (arith, so .within, h .actCount); below = low; above = past })),
           )
         where

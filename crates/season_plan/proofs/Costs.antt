@@ -15,7 +15,8 @@ use Rattle.landlord.specs.declared.Act.the-variants.{Evict, Fetch}
 use Rattle.landlord.specs.Catalog.{Catalog, CatalogOk, itemAt}
 use Rattle.landlord.specs.Plan.{Copy, has, isChanged, copyAt, planUsed, owed, Fault, unknownItem, notHeld, alreadyHeld, requestNotHeld, overCapacity, faultNumber, Done, done, faulty, planActs, andPaid, andThen, allActs, planServes}
 use Rattle.landlord.proofs.Folds.{either}
-use Rattle.season_plan.specs.Copies.{faultAct}
+use Rattle.landlord.proofs.Ranges.{catalog-facts}
+use Rattle.season_plan.specs.Inner.{faultAct}
 use Rattle.season_plan.proofs.Marks.{cond-most, sum-most}
 
 -- a part of a plan costs at most so much
@@ -58,12 +59,12 @@ module _ (cat : Catalog) (ok : CatalogOk cat) where
   act-cheap s a (Evict i) q =
       either (Cheap 65535) (ltb i (length cat)) _ _
       (λ l. either (Cheap 65535) (has (copyAt q i)) _ _
-      (λ h. cond-most (isChanged (copyAt q i)) (itemAt cat i .write) 65535 (ok .each i (ltb-true i (length cat) l) .write))
+      (λ h. cond-most (isChanged (copyAt q i)) (itemAt cat i .write) 65535 (catalog-facts cat ok .each i (ltb-true i (length cat) l) .write))
       (λ h. tt))
       (λ l. tt)
   act-cheap s a (Fetch i) q =
       either (Cheap 65535) (ltb i (length cat)) _ _
-      (λ l. either (Cheap 65535) (has (copyAt q i)) _ _ (λ h. tt) (λ h. ok .each i (ltb-true i (length cat) l) .load))
+      (λ l. either (Cheap 65535) (has (copyAt q i)) _ _ (λ h. tt) (λ h. catalog-facts cat ok .each i (ltb-true i (length cat) l) .load))
       (λ l. tt)
 
   -- a flush at most all write costs
@@ -72,9 +73,9 @@ module _ (cat : Catalog) (ok : CatalogOk cat) where
   owed-most q =
       omega (
         arith,
-        ok .few,
+        catalog-facts cat ok .few,
         sum-most (length cat) 65535 (λ i. cond (isChanged (copyAt q i)) (itemAt cat i .write) 0)
-            (λ i l. cond-most (isChanged (copyAt q i)) (itemAt cat i .write) 65535 (ok .each i l .write)),
+            (λ i l. cond-most (isChanged (copyAt q i)) (itemAt cat i .write) 65535 (catalog-facts cat ok .each i l .write)),
       )
 
   pub serve-cheap : (h s : ℕ) (st : Step) (q : List Copy) → Cheap 16776960 (planServes cat h s st q)

@@ -13,11 +13,12 @@ use Rattle.landlord.specs.declared.Act.the-variants.{Evict, Fetch}
 use Rattle.landlord.specs.Catalog.{Catalog, itemAt}
 use Rattle.landlord.specs.Plan.{Copy, noCopy, cleanCopy, dirtyCopy, has, isChanged, copyAt, planUsed, done, faulty, unknownItem, notHeld, alreadyHeld, planEvicts, planFetches, planActs}
 use Rattle.landlord.proofs.Sums.{sum-term}
+use Rattle.landlord.proofs.Ranges.{catalog-facts}
 use Rattle.catalog_bytes.specs.Catalogs.{itemIn, catalogIn}
 use Rattle.catalog_bytes.proofs.Laws.{length-catalogIn}
 use Rattle.season_plan.specs.declared.Copies.{Copies}
 use Rattle.season_plan.specs.declared.Did.{Did}
-use Rattle.season_plan.specs.Copies.{copyFrom, copiesOf, Stands, Does, Ready, Evicts, Fetches, Acts}
+use Rattle.season_plan.specs.Inner.{copyFrom, copiesOf, HoldsCopies, Does, PlanReady, Evicts, Fetches, Acts}
 use Rattle.season_plan.proofs.Marks.{blocks-at, load-at, write-at, copy-none, copy-clean, copy-dirty, copy-at, copies-length, copies-set, used-set, cond-most, sum-most}
 
 -- the copy of an item whose mark is not 0 is held
@@ -31,7 +32,7 @@ held-mark m e = by-mark (ℕ-discrete m 1)
 -- the copy of an item, by its mark
 pub copy-of :
     (cat : Catalog) (p : Copies) (q : List Copy) (paid i : ℕ) →
-    Stands cat p q paid →
+    HoldsCopies cat p q paid →
     i < length cat →
     copyAt q i ≡ copyFrom (getD (p .marks) i 0)
 copy-of cat p q paid i st l = ap (λ t. copyAt t i) (sym (st .copies)) ∙ copy-at (length cat) (p .marks) i l
@@ -39,13 +40,13 @@ copy-of cat p q paid i st l = ap (λ t. copyAt t i) (sym (st .copies)) ∙ copy-
 -- a mark is stored, and the sums follow it
 pub stored :
     (cat : Catalog) (p r : Copies) (q : List Copy) (paid i m c : ℕ) →
-    Stands cat p q paid →
+    HoldsCopies cat p q paid →
     i < length cat →
     i < length (p .marks) →
     r .marks ≡ set (p .marks) i m →
     r .used + cond (has (copyAt q i)) (itemAt cat i .blocks) 0 ≡ p .used + cond (has (copyFrom m)) (itemAt cat i .blocks) 0 →
     r .paid ≡ p .paid + c →
-    Stands cat r (set q i (copyFrom m)) (paid + c)
+    HoldsCopies cat r (set q i (copyFrom m)) (paid + c)
 stored cat p r q paid i m c st l b marks used sum =
     let n : length q ≡ length cat = ap length (sym (st .copies)) ∙ copies-length (length cat) (p .marks) in
     record {
@@ -62,7 +63,7 @@ module _ (xs : List ℕ) (p : Copies) (i : ℕ) (l : i < length xs / 5) (b : i <
   below = omega (arith, length-catalogIn xs)
 
   -- a held item's blocks are among those that are used
-  pub used-some : Ready xs p → getD (p .marks) i 0 ≢ 0 → itemIn xs i .blocks ≤ p .used
+  pub used-some : PlanReady xs p → getD (p .marks) i 0 ≢ 0 → itemIn xs i .blocks ≤ p .used
   unfolding planUsed
   used-some ready m =
       let cat = catalogIn xs in
@@ -74,7 +75,7 @@ module _ (xs : List ℕ) (p : Copies) (i : ℕ) (l : i < length xs / 5) (b : i <
       in
       omega (arith, sum-term (length cat) i (λ j. cond (has (copyAt q j)) (itemAt cat j .blocks) 0) below, ready .used)
 
-  holds-not : (q : List Copy) (paid : ℕ) → Stands (catalogIn xs) p q paid → getD (p .marks) i 0 ≡ 0 → has (copyAt q i) ≡ false
+  holds-not : (q : List Copy) (paid : ℕ) → HoldsCopies (catalogIn xs) p q paid → getD (p .marks) i 0 ≡ 0 → has (copyAt q i) ≡ false
   holds-not q paid st m = ap has (copy-of (catalogIn xs) p q paid i st below ∙ copy-none (getD (p .marks) i 0) m)
 
   -- 11
@@ -105,7 +106,7 @@ module _ (xs : List ℕ) (p : Copies) (i : ℕ) (l : i < length xs / 5) (b : i <
       (λ (t : Bool). Does (catalogIn xs) (cond t (done (set q i noCopy) (cond (isChanged a) (itemAt (catalogIn xs) i .write) 0)) (faulty (notHeld s j i))) paid r)
       (sym held) (
         number,
-        subst (λ (t : ℕ). Stands (catalogIn xs) (r .copies) (set q i noCopy) (paid + t)) (sym cost)
+        subst (λ (t : ℕ). HoldsCopies (catalogIn xs) (r .copies) (set q i noCopy) (paid + t)) (sym cost)
             (stored (catalogIn xs) p (r .copies) q paid i 0 c st below b marks
             (ap (λ t. r .copies .used + cond (has t) (itemAt (catalogIn xs) i .blocks) 0) is
             ∙ ap (λ t. r .copies .used + cond t (itemAt (catalogIn xs) i .blocks) 0) held
@@ -116,7 +117,7 @@ module _ (xs : List ℕ) (p : Copies) (i : ℕ) (l : i < length xs / 5) (b : i <
   -- a clean copy costs nothing
   pub evict-clean :
       (r : Did) →
-      Ready xs p →
+      PlanReady xs p →
       getD (p .marks) i 0 ≡ 1 →
       r .number ≡ 0 →
       r .copies .marks ≡ set (p .marks) i 0 →
@@ -129,7 +130,7 @@ module _ (xs : List ℕ) (p : Copies) (i : ℕ) (l : i < length xs / 5) (b : i <
   -- a dirty one its write cost
   pub evict-dirty :
       (r : Did) →
-      Ready xs p →
+      PlanReady xs p →
       1 < getD (p .marks) i 0 →
       r .number ≡ 0 →
       r .copies .marks ≡ set (p .marks) i 0 →
@@ -161,14 +162,14 @@ module _ (xs : List ℕ) (p : Copies) (i : ℕ) (l : i < length xs / 5) (b : i <
       (λ (t : Bool). Does (catalogIn xs) (cond t (faulty (alreadyHeld s j i)) (done (set q i cleanCopy) (itemAt (catalogIn xs) i .load))) paid r)
       (sym none) (
         number,
-        subst (λ (t : ℕ). Stands (catalogIn xs) (r .copies) (set q i cleanCopy) (paid + t)) (sym (load-at xs i l))
+        subst (λ (t : ℕ). HoldsCopies (catalogIn xs) (r .copies) (set q i cleanCopy) (paid + t)) (sym (load-at xs i l))
             (stored (catalogIn xs) p (r .copies) q paid i 1 (itemIn xs i .load) st below b marks
             (ap (λ t. r .copies .used + cond t (itemAt (catalogIn xs) i .blocks) 0) none ∙ omega (arith, blocks-at xs i l))
             sum),
       )
 
 -- all blocks that can be used
-pub used-most : (xs : List ℕ) (p : Copies) → Ready xs p → p .used ≤ 4096
+pub used-most : (xs : List ℕ) (p : Copies) → PlanReady xs p → p .used ≤ 4096
 unfolding planUsed
 used-most xs p ready =
     omega (
@@ -177,7 +178,7 @@ used-most xs p ready =
       ready .few,
       length-catalogIn xs,
       sum-most (length (catalogIn xs)) 16 (λ j. cond (has (copyAt (copiesOf (length xs / 5) (p .marks)) j)) (itemAt (catalogIn xs) j .blocks) 0)
-          (λ j b. cond-most (has (copyAt (copiesOf (length xs / 5) (p .marks)) j)) (itemAt (catalogIn xs) j .blocks) 16 (ready .catalog .each j b .small)),
+          (λ j b. cond-most (has (copyAt (copiesOf (length xs / 5) (p .marks)) j)) (itemAt (catalogIn xs) j .blocks) 16 (catalog-facts (catalogIn xs) (ready .catalog) .each j b .small)),
     )
 
 -- an act is D or F, of a known item

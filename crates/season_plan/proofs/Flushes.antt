@@ -15,7 +15,7 @@ use Rattle.landlord.proofs.Folds.{tab-eq}
 use Rattle.catalog_bytes.specs.Catalogs.{itemIn, catalogIn}
 use Rattle.catalog_bytes.proofs.Laws.{length-catalogIn}
 use Rattle.season_plan.specs.declared.Copies.{Copies}
-use Rattle.season_plan.specs.Copies.{copyFrom, copiesOf, Cleans}
+use Rattle.season_plan.specs.Inner.{copyFrom, copiesOf, Cleans}
 use Rattle.season_plan.proofs.Marks.{write-at, copy-none, copy-clean, copy-dirty, copy-at}
 
 -- what item i adds to what is owed

@@ -7,3 +7,4 @@ pub mod Places
 pub mod Costs
 pub mod Acting
 pub mod Pricing
+pub mod FaultLines

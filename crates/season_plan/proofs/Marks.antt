@@ -15,7 +15,7 @@ use Rattle.landlord.proofs.Folds.{tab-length, tab-at, tab-set}
 use Rattle.landlord.proofs.Sums.{sum-change}
 use Rattle.catalog_bytes.specs.Catalogs.{itemIn, catalogIn}
 use Rattle.catalog_bytes.proofs.Laws.{item-at}
-use Rattle.season_plan.specs.Copies.{copyFrom, copiesOf}
+use Rattle.season_plan.specs.Inner.{copyFrom, copiesOf}
 
 -- control came one way or the other
 pub by-cases : {A B C : Type 0} → A ⊎ B → (A → C) → (B → C) → C

@@ -19,8 +19,8 @@ use Rattle.season_lines.specs.Lines.{actOf}
 use Rattle.catalog_bytes.specs.Catalogs.{catalogIn}
 use Rattle.season_tables.specs.declared.Seen.{Seen}
 use Rattle.season_tables.specs.Tables.{Placed, Sofar}
-use Rattle.season_tables.specs.Holds.{Holds, callNumbers, actNumbers}
-use Rattle.season_tables.specs.Sound.{Sound, placedAt}
+use Rattle.season_tables.specs.Inner.{Holds, callNumbers, actNumbers}
+use Rattle.season_tables.specs.InnerSound.{Sound, placedAt}
 use Rattle.season_plan.specs.Plans.{actsAt, actsBefore}
 
 -- step s of a log

@@ -9,6 +9,7 @@ use native.Mathlib.Numerals.{add-one}
 use native.Mathlib.Omega.{arith}
 use lib.ListN.{length, getD, drop, replicate, getD-replicate, drop-of-length-le}
 use lib.Seq.{drop-cons}
+use Rattle.landlord.specs.declared.Refusal.{Refusal}
 use Rattle.landlord.specs.declared.Step.{Step}
 use Rattle.landlord.specs.declared.Step.the-variants.{Read, Write, Flush}
 use Rattle.landlord.specs.Types.{stepKind, stepItem, stepMinutes}
@@ -24,15 +25,16 @@ use Rattle.catalog_bytes.specs.Catalogs.{catalogIn}
 use Rattle.catalog_bytes.proofs.Laws.{length-catalogIn}
 use Rattle.season_tables.specs.declared.Seen.{Seen}
 use Rattle.season_tables.specs.Tables.{Sofar}
-use Rattle.season_tables.specs.Holds.{Holds}
-use Rattle.season_tables.specs.Sound.{Sound}
+use Rattle.season_tables.specs.Inner.{Holds}
+use Rattle.season_tables.specs.InnerSound.{Sound}
 use Rattle.season_plan.specs.declared.Copies.{Copies}
 use Rattle.season_plan.specs.declared.Did.{Did}
 use Rattle.season_plan.specs.declared.Acted.{Acted}
 use Rattle.season_plan.specs.declared.Price.the-variants.{Cost, Refused}
-use Rattle.season_plan.specs.Plans.{actsBefore, planOf, faultLine, faultRefusal, priceOf, answerTo}
-use Rattle.season_plan.specs.Copies.{copyFrom, copiesOf, Stands, Does, Ready, Servable, Serves, faultAct, ActsDone, refusalFor, Priceable, most, Actable, RunsActs, ActsWithin, PricedAs}
+use Rattle.season_plan.specs.Plans.{actsBefore, planOf, faultLine, priceOf, PricedBy}
+use Rattle.season_plan.specs.Inner.{copyFrom, copiesOf, HoldsCopies, Does, PlanReady, PlanServable, Serves, faultAct, ActsDone, FaultNumber, Told, Priceable, most, Actable, RunsActs, ActsWithin, PricedAs}
 use Rattle.landlord.proofs.Calls.{same-step}
+use Rattle.landlord.proofs.Ranges.{catalog-facts}
 use Rattle.season_plan.proofs.Marks.{copy-at, copy-none}
 use Rattle.season_plan.proofs.Places.{stepAt, catalog-is, count-is, noted-step, step-kind, parted-is}
 use Rattle.season_plan.proofs.Costs.{Faults, ofAct, ofStep, fault-some, serve-cheap, acts-fault, serve-fault}
@@ -75,7 +77,7 @@ turn :
     (v : Sofar) (s : ℕ) (d : Done) (serves : List Copy → Done) (next : List Copy → Priced) (paid : ℕ) (b : Acted) (r : Did) →
     ActsDone v s d paid b →
     b .number ≡ 0 →
-    ((q : List Copy) (c : ℕ) → Stands (v .catalog) (b .copies) q c → Does (v .catalog) (serves q) c r) →
+    ((q : List Copy) (c : ℕ) → HoldsCopies (v .catalog) (b .copies) q c → Does (v .catalog) (serves q) c r) →
     r .number ≡ 0 →
     pricedWith (r .copies .paid) (next (copiesOf (length (v .catalog)) (r .copies .marks))) ≡ pricedWith paid (priceThen (andThen d serves) next)
 turn v s (done q c) serves next paid b r did e served f = go (serves q) (served q (paid + c) (did .1))
@@ -88,63 +90,74 @@ turn v s (done q c) serves next paid b r did e served f = go (serves q) (served 
     go (faulty w) number = absurd (fault-some w (sym number ∙ f))
 turn v s (faulty w) serves next paid b r did e served f = absurd (fault-some w (sym (did .0) ∙ e))
 
--- an act is at fault: its number on its line
-act-refused :
-    (v : Sofar) (s : ℕ) (f : Fault) (number line next : ℕ) →
+-- a fault's number
+fault-number : (f : Fault) {n : ℕ} → n ≡ faultNumber f → FaultNumber n
+fault-number (unknownItem t a i) e = record { last = λ p q r s. e }
+fault-number (notHeld t a i) e = record { last = λ p q r s. absurd (p e) }
+fault-number (alreadyHeld t a i) e = record { last = λ p q r s. absurd (q e) }
+fault-number (requestNotHeld t i) e = record { last = λ p q r s. absurd (s e) }
+fault-number (overCapacity t) e = record { last = λ p q r s. absurd (r e) }
+
+acts-number : (v : Sofar) (s : ℕ) (d : Done) (paid : ℕ) (b : Acted) → ActsDone v s d paid b → b .number ≢ 0 → FaultNumber (b .number)
+acts-number v s (done q c) paid b did e = absurd (e (did .0))
+acts-number v s (faulty f) paid b did e = fault-number f (did .0)
+
+does-number : (cat : Catalog) (d : Done) (paid : ℕ) (r : Did) → Does cat d paid r → r .number ≢ 0 → FaultNumber (r .number)
+does-number cat (done q c) paid r did e = absurd (e (did .0))
+does-number cat (faulty f) paid r did e = fault-number f did
+
+-- an act's fault is told on the act's line
+act-line :
+    (v : Sofar) (s : ℕ) (f : Fault) (line next : ℕ) →
     ofAct s f →
-    number ≡ faultNumber f →
     next ≡ actsBefore s (v .acts) + faultAct f →
     line ≡ 9 + length (v .catalog) + length (v .steps) + next →
-    refusalFor number line ≡ faultRefusal f (faultLine v f)
-unfolding refusalFor
-act-refused v s (unknownItem t a i) number line next of e m l =
-    ap (λ u. refusalFor u line) e ∙ ap (refusalFor 6) (omega (arith, ap (λ u. actsBefore u (v .acts)) of))
-act-refused v s (notHeld t a i) number line next of e m l =
-    ap (λ u. refusalFor u line) e ∙ ap (refusalFor 11) (omega (arith, ap (λ u. actsBefore u (v .acts)) of))
-act-refused v s (alreadyHeld t a i) number line next of e m l =
-    ap (λ u. refusalFor u line) e ∙ ap (refusalFor 12) (omega (arith, ap (λ u. actsBefore u (v .acts)) of))
-act-refused v s (requestNotHeld t i) number line next of e m l = absurd of
-act-refused v s (overCapacity t) number line next of e m l = absurd of
+    line ≡ faultLine v f
+act-line v s (unknownItem t a i) line next of m l = omega (arith, ap (λ u. actsBefore u (v .acts)) of)
+act-line v s (notHeld t a i) line next of m l = omega (arith, ap (λ u. actsBefore u (v .acts)) of)
+act-line v s (alreadyHeld t a i) line next of m l = omega (arith, ap (λ u. actsBefore u (v .acts)) of)
+act-line v s (requestNotHeld t i) line next of m l = absurd of
+act-line v s (overCapacity t) line next of m l = absurd of
 
--- a step is at fault
-step-refused :
-    (v : Sofar) (s : ℕ) (f : Fault) (number line : ℕ) →
-    ofStep s f →
-    number ≡ faultNumber f →
-    line ≡ 7 + length (v .catalog) + s →
-    refusalFor number line ≡ faultRefusal f (faultLine v f)
-unfolding refusalFor
-step-refused v s (unknownItem t a i) number line of e l = absurd of
-step-refused v s (notHeld t a i) number line of e l = absurd of
-step-refused v s (alreadyHeld t a i) number line of e l = absurd of
-step-refused v s (requestNotHeld t i) number line of e l = ap (λ u. refusalFor u line) e ∙ ap (refusalFor 14) (omega arith)
-step-refused v s (overCapacity t) number line of e l = ap (λ u. refusalFor u line) e ∙ ap (refusalFor 13) (omega arith)
+-- a step's fault on the step's
+step-line : (v : Sofar) (s : ℕ) (f : Fault) (line : ℕ) → ofStep s f → line ≡ 7 + length (v .catalog) + s → line ≡ faultLine v f
+step-line v s (unknownItem t a i) line of l = absurd of
+step-line v s (notHeld t a i) line of l = absurd of
+step-line v s (alreadyHeld t a i) line of l = absurd of
+step-line v s (requestNotHeld t i) line of l = omega arith
+step-line v s (overCapacity t) line of l = omega arith
+
+-- a refusal with a fault's number and line is the answer to it
+faulted : (v : Sofar) (f : Fault) {number line : ℕ} {y : Refusal} → Told number line y → number ≡ faultNumber f → line ≡ faultLine v f → PricedBy v (fault f) (Refused y)
+faulted v f told e l = record { number = told .number ∙ e; line = told .line ∙ l; cost = refl }
 
 act-faulty :
-    (v : Sofar) (s : ℕ) (d : Done) (serves : List Copy → Done) (next : List Copy → Priced) (paid line : ℕ) (b : Acted) →
+    (v : Sofar) (s : ℕ) (d : Done) (serves : List Copy → Done) (next : List Copy → Priced) (paid line : ℕ) (b : Acted) (y : Refusal) →
+    Told (b .number) line y →
     ActsDone v s d paid b →
     b .number ≢ 0 →
     Faults (ofAct s) d →
     line ≡ 9 + length (v .catalog) + length (v .steps) + b .next →
-    Refused (refusalFor (b .number) line) ≡ answerTo v (pricedWith paid (priceThen (andThen d serves) next))
-act-faulty v s (done q c) serves next paid line b did e of l = absurd (e (did .0))
-act-faulty v s (faulty f) serves next paid line b did e of l = ap Refused (act-refused v s f (b .number) line (b .next) of (did .0) (did .1) l)
+    PricedBy v (pricedWith paid (priceThen (andThen d serves) next)) (Refused y)
+act-faulty v s (done q c) serves next paid line b y told did e of l = absurd (e (did .0))
+act-faulty v s (faulty f) serves next paid line b y told did e of l = faulted v f told (did .0) (act-line v s f line (b .next) of (did .1) l)
 
 step-faulty :
-    (v : Sofar) (s : ℕ) (d : Done) (serves : List Copy → Done) (next : List Copy → Priced) (paid line : ℕ) (b : Acted) (r : Did) →
+    (v : Sofar) (s : ℕ) (d : Done) (serves : List Copy → Done) (next : List Copy → Priced) (paid line : ℕ) (b : Acted) (r : Did) (y : Refusal) →
+    Told (r .number) line y →
     ActsDone v s d paid b →
     b .number ≡ 0 →
-    ((q : List Copy) (c : ℕ) → Stands (v .catalog) (b .copies) q c → Does (v .catalog) (serves q) c r) →
+    ((q : List Copy) (c : ℕ) → HoldsCopies (v .catalog) (b .copies) q c → Does (v .catalog) (serves q) c r) →
     r .number ≢ 0 →
     ((q : List Copy) → Faults (ofStep s) (serves q)) →
     line ≡ 7 + length (v .catalog) + s →
-    Refused (refusalFor (r .number) line) ≡ answerTo v (pricedWith paid (priceThen (andThen d serves) next))
-step-faulty v s (done q c) serves next paid line b r did e served f of l = go (serves q) (served q (paid + c) (did .1)) (of q)
+    PricedBy v (pricedWith paid (priceThen (andThen d serves) next)) (Refused y)
+step-faulty v s (done q c) serves next paid line b r y told did e served f of l = go (serves q) (served q (paid + c) (did .1)) (of q)
   where
-    go : (t : Done) → Does (v .catalog) t (paid + c) r → Faults (ofStep s) t → Refused (refusalFor (r .number) line) ≡ answerTo v (pricedWith paid (priceThen (andPaid c t) next))
+    go : (t : Done) → Does (v .catalog) t (paid + c) r → Faults (ofStep s) t → PricedBy v (pricedWith paid (priceThen (andPaid c t) next)) (Refused y)
     go (done o k) (number, st) here = absurd (f number)
-    go (faulty w) number here = ap Refused (step-refused v s w (r .number) line here number l)
-step-faulty v s (faulty w) serves next paid line b r did e served f of l = absurd (fault-some w (sym (did .0) ∙ e))
+    go (faulty w) number here = faulted v w told number (step-line v s w line here l)
+step-faulty v s (faulty w) serves next paid line b r y told did e served f of l = absurd (fault-some w (sym (did .0) ∙ e))
 
 -- what the acts leave, if they are done
 acts-next : (v : Sofar) (s : ℕ) (d : Done) (paid : ℕ) (b : Acted) → ActsDone v s d paid b → b .number ≡ 0 → b .next ≡ actsBefore (suc s) (v .acts)
@@ -162,8 +175,8 @@ item-known k cat (Write i m) served e = served .0
 item-known k cat Flush served e = absurd (e refl)
 
 item-place : (k : ℕ) (cat : Catalog) (st : Step) → CatalogOk cat → Served k cat st → stepItem st < 256
-item-place k cat (Read i) ok served = omega (arith, served .0, ok .few)
-item-place k cat (Write i m) ok served = omega (arith, served .0, ok .few)
+item-place k cat (Read i) ok served = omega (arith, served .0, catalog-facts cat ok .few)
+item-place k cat (Write i m) ok served = omega (arith, served .0, catalog-facts cat ok .few)
 item-place k cat Flush ok served = omega arith
 
 module _ (x : Seen) (xs calls acts : List ℕ) (pre : Priceable x xs calls acts) where
@@ -204,13 +217,13 @@ module _ (x : Seen) (xs calls acts : List ℕ) (pre : Priceable x xs calls acts)
     pub pricing-low : p .paid ≤ 900000000000
     pricing-low = omega (arith, so .low, so .within, so .next, pre .fewActs, pre .fewSteps)
 
-    pub pricing-ready : Ready xs p
+    pub pricing-ready : PlanReady xs p
     pricing-ready =
         record { few = omega (arith, pre .items, pre .holds .few); catalog = catalog-ok; used = so .used; low = omega (arith, pricing-low) }
 
     -- the program stands at these copies of the text's catalog
-    stands : (v : Sofar) → Holds x xs calls acts v → Stands (v .catalog) p (copiesIn xs p) (p .paid)
-    stands v h = subst (λ (c : Catalog). Stands c p (copiesIn xs p) (p .paid)) (catalog-is x xs calls acts v h (pre .items)) (stands-ready xs p (so .used))
+    stands : (v : Sofar) → Holds x xs calls acts v → HoldsCopies (v .catalog) p (copiesIn xs p) (p .paid)
+    stands v h = subst (λ (c : Catalog). HoldsCopies c p (copiesIn xs p) (p .paid)) (catalog-is x xs calls acts v h (pre .items)) (stands-ready xs p (so .used))
 
     module _ (l : s < x .steps) where
       pub pricing-acts : Actable x xs p acts a s
@@ -241,13 +254,17 @@ module _ (x : Seen) (xs calls acts : List ℕ) (pre : Priceable x xs calls acts)
             (sym (drop-cons (v .steps) s Flush (omega (arith, h .stepCount))))
             ∙ so .leads v h sound
 
+        pub pricing-act-number : b .number ≢ 0 → FaultNumber (b .number)
+        pricing-act-number e = acts-number (pre .text) s (actsOf (pre .text) s (copiesIn xs p)) (p .paid) b (did (pre .text) (pre .holds) (pre .sound)) e
+
         -- 11 or 12, with the act's line
-        pub pricing-act-fails : (line : ℕ) → b .number ≢ 0 → line ≡ 9 + x .n + x .steps + b .next → PricedAs x xs calls acts (Refused (refusalFor (b .number) line))
-        pricing-act-fails line e at v h sound =
-            act-faulty v s (actsOf v s (copiesIn xs p)) (stepOn v s)
-            (logFrom v (suc s)) (p .paid) line b (did v h sound) e
-            (acts-fault (v .catalog) s 0 (planOf (v .acts) s) (copiesIn xs p)) (omega (arith, h .itemCount, h .stepCount))
-            ∙ ap (answerTo v) (unrolled v h sound)
+        pub pricing-act-fails :
+            (line : ℕ) (y : Refusal) → Told (b .number) line y → b .number ≢ 0 → line ≡ 9 + x .n + x .steps + b .next → PricedAs x xs calls acts (Refused y)
+        pricing-act-fails line y told e at v h sound =
+            subst (λ (z : Priced). PricedBy v z (Refused y)) (unrolled v h sound)
+            (act-faulty v s (actsOf v s (copiesIn xs p)) (stepOn v s)
+            (logFrom v (suc s)) (p .paid) line b y told (did v h sound) e
+            (acts-fault (v .catalog) s 0 (planOf (v .acts) s) (copiesIn xs p)) (omega (arith, h .itemCount, h .stepCount)))
 
         module _ (e : b .number ≡ 0) where
           pub before-used : b .copies .used ≡ planUsed (catalogIn xs) (copiesIn xs (b .copies))
@@ -258,7 +275,7 @@ module _ (x : Seen) (xs calls acts : List ℕ) (pre : Priceable x xs calls acts)
               (subst (λ (c : Catalog). b .copies .used ≡ planUsed c (copiesOf (length c) (b .copies .marks))) (sym (catalog-is x xs calls acts v h (pre .items)))
               (acts-used v s (actsOf v s (copiesIn xs p)) (p .paid) b (did v h (pre .sound)) e))
 
-          pub pricing-serves : Servable xs (b .copies) (getD calls (4 * s + 1) 0) (getD calls (4 * s + 2) 0)
+          pub pricing-serves : PlanServable xs (b .copies) (getD calls (4 * s + 1) 0) (getD calls (4 * s + 2) 0)
           pricing-serves =
               let v = pre .text in
               let h = pre .holds in
@@ -278,7 +295,7 @@ module _ (x : Seen) (xs calls acts : List ℕ) (pre : Priceable x xs calls acts)
 
           module _ (r : Did) (served : Serves xs (x .h) (b .copies) (getD calls (4 * s + 1) 0) (getD calls (4 * s + 2) 0) r) where
             -- the step as the definition serves it, for a text that the slices hold
-            serves : (v : Sofar) → Holds x xs calls acts v → (q : List Copy) (c : ℕ) → Stands (v .catalog) (b .copies) q c → Does (v .catalog) (stepOn v s q) c r
+            serves : (v : Sofar) → Holds x xs calls acts v → (q : List Copy) (c : ℕ) → HoldsCopies (v .catalog) (b .copies) q c → Does (v .catalog) (stepOn v s q) c r
             serves v h q c =
                 let st = stepAt (v .steps) s in
                 let noted = noted-step x xs calls acts v h s l in
@@ -287,18 +304,23 @@ module _ (x : Seen) (xs calls acts : List ℕ) (pre : Priceable x xs calls acts)
                 ∙ ap (λ t. stepOf (stepKind st) t (stepMinutes st)) (noted .item)
                 ∙ same-step st
                 in
-                subst (λ (n : ℕ). Stands (v .catalog) (b .copies) q c → Does (v .catalog) (planServes (v .catalog) n s st q) c r) (h .h)
-                (subst (λ (k : Catalog). Stands k (b .copies) q c → Does k (planServes k (x .h) s st q) c r) (catalog-is x xs calls acts v h (pre .items))
-                (subst (λ (t : Step). Stands (catalogIn xs) (b .copies) q c → Does (catalogIn xs) (planServes (catalogIn xs) (x .h) s t q) c r) same
+                subst (λ (n : ℕ). HoldsCopies (v .catalog) (b .copies) q c → Does (v .catalog) (planServes (v .catalog) n s st q) c r) (h .h)
+                (subst (λ (k : Catalog). HoldsCopies k (b .copies) q c → Does k (planServes k (x .h) s st q) c r) (catalog-is x xs calls acts v h (pre .items))
+                (subst (λ (t : Step). HoldsCopies (catalogIn xs) (b .copies) q c → Does (catalogIn xs) (planServes (catalogIn xs) (x .h) s t q) c r) same
                 (served s (stepMinutes st) c q)))
 
+            pub pricing-step-number : r .number ≢ 0 → FaultNumber (r .number)
+            pricing-step-number f =
+                does-number (catalogIn xs) (planServes (catalogIn xs) (x .h) s (stepOf (getD calls (4 * s + 1) 0) (getD calls (4 * s + 2) 0) 0) (copiesIn xs (b .copies))) (b .copies .paid) r
+                (served s 0 (b .copies .paid) (copiesIn xs (b .copies)) (stands-ready xs (b .copies) before-used)) f
+
             -- 14 or 13, with the step's line
-            pub pricing-step-fails : (line : ℕ) → r .number ≢ 0 → line ≡ 7 + x .n + s → PricedAs x xs calls acts (Refused (refusalFor (r .number) line))
-            pricing-step-fails line f at v h sound =
-                step-faulty v s (actsOf v s (copiesIn xs p)) (stepOn v s)
-                (logFrom v (suc s)) (p .paid) line b r (did v h sound) e (serves v h) f
-                (serve-fault (v .catalog) (v .h) s (stepAt (v .steps) s)) (omega (arith, h .itemCount))
-                ∙ ap (answerTo v) (unrolled v h sound)
+            pub pricing-step-fails : (line : ℕ) (y : Refusal) → Told (r .number) line y → r .number ≢ 0 → line ≡ 7 + x .n + s → PricedAs x xs calls acts (Refused y)
+            pricing-step-fails line y told f at v h sound =
+                subst (λ (z : Priced). PricedBy v z (Refused y)) (unrolled v h sound)
+                (step-faulty v s (actsOf v s (copiesIn xs p)) (stepOn v s)
+                (logFrom v (suc s)) (p .paid) line b r y told (did v h sound) e (serves v h) f
+                (serve-fault (v .catalog) (v .h) s (stepAt (v .steps) s)) (omega (arith, h .itemCount)))
 
             -- the step is served
             pub pricing-turn : r .number ≡ 0 → Pricing x xs calls acts (r .copies) (b .next) (s + 1)
@@ -333,9 +355,12 @@ module _ (x : Seen) (xs calls acts : List ℕ) (pre : Priceable x xs calls acts)
     pub pricing-ends : (o total : ℕ) → x .steps ≤ s → o ≡ owed (catalogIn xs) (copiesIn xs p) → total ≡ p .paid + o → PricedAs x xs calls acts (Cost total)
     unfolding priceFrom
     pricing-ends o total l e is v h sound =
-        ap Cost is
-        ∙ ap (λ t. Cost (p .paid + t)) (e ∙ ap (λ (c : Catalog). owed c (copiesIn xs p)) (catalog-is x xs calls acts v h (pre .items)))
-        ∙ ap (answerTo v)
+        subst (λ (z : Priced). PricedBy v z (Cost total))
         (ap (λ t. pricedWith (p .paid) (priceFrom (v .catalog) (v .h) (planOf (v .acts)) s t (copiesIn xs p)))
         (sym (drop-of-length-le (v .steps) (let z : length (v .steps) ≤ s = omega (arith, h .stepCount) in z)))
         ∙ so .leads v h sound)
+        (record {
+          number = refl;
+          line = refl;
+          cost = is ∙ ap (λ t. p .paid + t) (e ∙ ap (λ (c : Catalog). owed c (copiesIn xs p)) (catalog-is x xs calls acts v h (pre .items)));
+        })

@@ -21,7 +21,7 @@ use Rattle.catalog_bytes.specs.Catalogs.{catalogIn}
 use Rattle.catalog_bytes.proofs.Laws.{length-catalogIn}
 use Rattle.season_plan.specs.declared.Copies.{Copies}
 use Rattle.season_plan.specs.declared.Did.{Did}
-use Rattle.season_plan.specs.Copies.{copiesOf, Stands, Does, Cleans, lacking, Serves}
+use Rattle.season_plan.specs.Inner.{copiesOf, HoldsCopies, Does, Cleans, lacking, Serves}
 use Rattle.season_plan.proofs.Marks.{by-cases, copy-none}
 use Rattle.season_plan.proofs.Deeds.{copy-of, stored, held-mark}
 
@@ -71,13 +71,13 @@ module _ (xs : List ℕ) (h : ℕ) (p : Copies) (kind i : ℕ) (known : kind ≢
   has-an-item : (m : ℕ) → kind ≢ 76 → lacking kind m ≡ eqb m 0
   has-an-item m e = ap (λ t. cond t false (eqb m 0)) (ne-eqb kind 76 e)
 
-  not-held : (q : List Copy) (paid : ℕ) → Stands (catalogIn xs) p q paid → kind ≢ 76 → lacking kind (getD (p .marks) i 0) ≡ true → has (copyAt q i) ≡ false
+  not-held : (q : List Copy) (paid : ℕ) → HoldsCopies (catalogIn xs) p q paid → kind ≢ 76 → lacking kind (getD (p .marks) i 0) ≡ true → has (copyAt q i) ≡ false
   not-held q paid st e m =
       ap has
       (copy-of (catalogIn xs) p q paid i st (below e)
       ∙ copy-none (getD (p .marks) i 0) (eqb-true (getD (p .marks) i 0) 0 (sym (has-an-item (getD (p .marks) i 0) e) ∙ m)))
 
-  is-held : (q : List Copy) (paid : ℕ) → Stands (catalogIn xs) p q paid → kind ≢ 76 → lacking kind (getD (p .marks) i 0) ≡ false → has (copyAt q i) ≡ true
+  is-held : (q : List Copy) (paid : ℕ) → HoldsCopies (catalogIn xs) p q paid → kind ≢ 76 → lacking kind (getD (p .marks) i 0) ≡ false → has (copyAt q i) ≡ true
   is-held q paid st e m =
       ap has (copy-of (catalogIn xs) p q paid i st (below e))
       ∙ held-mark (getD (p .marks) i 0) (eqb-false (getD (p .marks) i 0) 0 (sym (has-an-item (getD (p .marks) i 0) e) ∙ m))
@@ -86,11 +86,11 @@ module _ (xs : List ℕ) (h : ℕ) (p : Copies) (kind i : ℕ) (known : kind ≢
   abbrev Held : Did → (ℕ → List Copy → Done) → Type 0
   Held r d =
       (s paid : ℕ) (q : List Copy) →
-      Stands (catalogIn xs) p q paid →
+      HoldsCopies (catalogIn xs) p q paid →
       Does (catalogIn xs) (cond (leb (planUsed (catalogIn xs) q) h) (d s q) (faulty (overCapacity s))) paid r
 
   -- within the capacity or not, by the blocks that the program counts
-  capacity : (q : List Copy) (paid : ℕ) (t : Bool) → Stands (catalogIn xs) p q paid → leb (p .used) h ≡ t → t ≡ leb (planUsed (catalogIn xs) q) h
+  capacity : (q : List Copy) (paid : ℕ) (t : Bool) → HoldsCopies (catalogIn xs) p q paid → leb (p .used) h ≡ t → t ≡ leb (planUsed (catalogIn xs) q) h
   capacity q paid t st e = sym e ∙ ap (λ u. leb u h) (st .used)
 
   over-held : (r : Did) (d : ℕ → List Copy → Done) → leb (p .used) h ≡ false → r .number ≡ 13 → Held r d
@@ -100,7 +100,7 @@ module _ (xs : List ℕ) (h : ℕ) (p : Copies) (kind i : ℕ) (known : kind ≢
   fits-held :
       (r : Did) (d : ℕ → List Copy → Done) →
       leb (p .used) h ≡ true →
-      ((s paid : ℕ) (q : List Copy) → Stands (catalogIn xs) p q paid → Does (catalogIn xs) (d s q) paid r) →
+      ((s paid : ℕ) (q : List Copy) → HoldsCopies (catalogIn xs) p q paid → Does (catalogIn xs) (d s q) paid r) →
       Held r d
   fits-held r d e does s paid q st =
       subst (λ (t : Bool). Does (catalogIn xs) (cond t (d s q) (faulty (overCapacity s))) paid r) (capacity q paid true st e) (does s paid q st)
@@ -169,7 +169,7 @@ module _ (xs : List ℕ) (h : ℕ) (p : Copies) (kind i : ℕ) (known : kind ≢
   serve-read r m e u w number same =
       by-step r m
       (λ k. fits-held r (λ s q. done q 0) e
-      (λ s paid q st. (number, subst (λ (t : Copies). Stands (catalogIn xs) t q (paid + 0)) (sym same) (subst (λ (t : ℕ). Stands (catalogIn xs) p q t) (sym (add-zero paid)) st))))
+      (λ s paid q st. (number, subst (λ (t : Copies). HoldsCopies (catalogIn xs) t q (paid + 0)) (sym same) (subst (λ (t : ℕ). HoldsCopies (catalogIn xs) p q t) (sym (add-zero paid)) st))))
       (λ k. absurd (u k))
       (λ k. absurd (w k))
 
@@ -219,7 +219,7 @@ module _ (xs : List ℕ) (h : ℕ) (p : Copies) (kind i : ℕ) (known : kind ≢
       cat : Catalog
       cat = catalogIn xs
 
-      clean-stands : (paid : ℕ) (q : List Copy) → Stands cat p q paid → Stands cat (r .copies) (tab (length cat) (λ j. cleaned (copyAt q j))) (paid + owed cat q)
+      clean-stands : (paid : ℕ) (q : List Copy) → HoldsCopies cat p q paid → HoldsCopies cat (r .copies) (tab (length cat) (λ j. cleaned (copyAt q j))) (paid + owed cat q)
       clean-stands paid q st =
           let these : copiesOf (length xs / 5) (p .marks) ≡ q = ap (λ t. copiesOf t (p .marks)) (sym (length-catalogIn xs)) ∙ st .copies in
           record {

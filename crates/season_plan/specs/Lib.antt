@@ -1,3 +1,3 @@
 -- The definitions that the contracts of `season_plan` cite. Assumes nothing.
 pub mod Plans
-pub mod Copies
+pub mod Inner

@@ -1,14 +1,14 @@
 -- The plan of a text, priced by the definition that the wear bound cites, and the line of its first fault. Paper 01, 'The rival
 -- plan' and 'When the library says no'. Assumes nothing.
+use mathlib.Core.Path.{_≡_}
 use mathlib.Core.Bool.{cond}
 use mathlib.Core.List.{List, [], _∷_}
 use Prim.Native.Nat.{ℕ, suc, _+_}
 use lib.ListN.{length}
 use lib.Dec.{ltb, eqb}
 use Rattle.landlord.specs.declared.Act.{Act}
-use Rattle.landlord.specs.declared.Refusal.{Refusal}
-use Rattle.landlord.specs.declared.Refusal.the-variants.{UnknownItem, NotHeld, AlreadyHeld, OverCapacity, RequestNotHeld}
-use Rattle.landlord.specs.Plan.{Plan, Fault, unknownItem, notHeld, alreadyHeld, requestNotHeld, overCapacity, Priced, costs, fault, price}
+use Rattle.landlord.specs.Types.{refusalNumber, refusalLine}
+use Rattle.landlord.specs.Plan.{Plan, Fault, unknownItem, notHeld, alreadyHeld, requestNotHeld, overCapacity, faultNumber, Priced, costs, fault, price}
 use Rattle.season_tables.specs.Tables.{Placed, Sofar}
 use Rattle.season_plan.specs.declared.Price.{Price}
 use Rattle.season_plan.specs.declared.Price.the-variants.{Cost, Refused}
@@ -44,18 +44,43 @@ faultLine v (alreadyHeld s a i) = lineOfAct v (actsBefore s (v .acts) + a)
 faultLine v (requestNotHeld s i) = lineOfStep v s
 faultLine v (overCapacity s) = lineOfStep v s
 
-abbrev pub faultRefusal : Fault → ℕ → Refusal
-faultRefusal (unknownItem s a i) n = UnknownItem n
-faultRefusal (notHeld s a i) n = NotHeld n
-faultRefusal (alreadyHeld s a i) n = AlreadyHeld n
-faultRefusal (requestNotHeld s i) n = RequestNotHeld n
-faultRefusal (overCapacity s) n = OverCapacity n
-
 -- the price of the text's plan over its steps
 abbrev pub priceOf : Sofar → Priced
 priceOf v = price (v .catalog) (v .h) (planOf (v .acts)) (v .steps)
 
--- "the plan runs; its first fault decides"
-abbrev pub answerTo : Sofar → Priced → Price
-answerTo v (costs c) = Cost c
-answerTo v (fault f) = Refused (faultRefusal f (faultLine v f))
+-- what the table says to a plan that is priced so, in the text v: 0 or its first fault's number, and that fault's line
+abbrev pub pricedNumber : Priced → ℕ
+pricedNumber (costs c) = 0
+pricedNumber (fault f) = faultNumber f
+
+abbrev pub pricedLine : Sofar → Priced → ℕ
+pricedLine v (costs c) = 0
+pricedLine v (fault f) = faultLine v f
+
+-- and what it costs; a refused one has no cost
+abbrev pub pricedCost : Priced → ℕ
+pricedCost (costs c) = c
+pricedCost (fault f) = 0
+
+-- ---- the answer
+
+-- paper 01's number for an answer: 0 if the plan was priced
+abbrev pub priceNumber : Price → ℕ
+priceNumber (Cost c) = 0
+priceNumber (Refused r) = refusalNumber r
+
+-- the line that an answer names
+abbrev pub priceLine : Price → ℕ
+priceLine (Cost c) = 0
+priceLine (Refused r) = refusalLine r
+
+-- the cost that it tells
+abbrev pub priceCost : Price → ℕ
+priceCost (Cost c) = c
+priceCost (Refused r) = 0
+
+-- "the plan runs; its first fault decides": the answer has its number, its line and its cost
+pub record PricedBy (v : Sofar) (p : Priced) (r : Price) : Type 0 where
+  pub number : priceNumber r ≡ pricedNumber p
+  pub line : priceLine r ≡ pricedLine v p
+  pub cost : priceCost r ≡ pricedCost p

@@ -2,7 +2,7 @@
 ghost use mathlib.Core.Path.{_≡_};
 ghost use Prim.Native.Nat.{_≤_};
 ghost use lib.Dec.{leb};
-ghost use Rattle.season_plan.specs.Copies.{Ready, Known, Evicts, Fetches, Acts, Owes, Cleans, lacking, Servable, Serves, Actable, RunsActs, ActsWithin, refusalFor, Priceable, PricedAs, PriceSmall};
+ghost use Rattle.season_plan.specs.Inner.{PlanReady, Known, Evicts, Fetches, Acts, Owes, Cleans, lacking, PlanServable, Serves, Actable, RunsActs, ActsWithin, FaultNumber, Told, Priceable, PricedAs, PriceSmall};
 use landlord::Refusal;
 use season_tables::Seen;
 
@@ -135,7 +135,7 @@ fn acts_before(
 
 // The write costs that a flush makes the plan pay.
 fn owed(catalog: &[u8], p: Copies) -> u64
-    requires { ⌜ Ready (now catalog) p ⌝ }
+    requires { ⌜ PlanReady (now catalog) p ⌝ }
     ensures { λ r. ⌜ Owes (now (catalog .entry)) p r ⌝ }
 {
     let n = catalog.len() / 5;
@@ -185,7 +185,7 @@ fn within(used: u32, h: u32) -> bool
 
 // The step is served: its item is held (14), the plan is within its capacity (13); a write makes the item dirty, a flush cleans.
 fn serve(catalog: &[u8], h: u32, p: Copies, kind: u32, item: usize) -> Did
-    requires { ⌜ Servable (now catalog) p kind item ⌝ }
+    requires { ⌜ PlanServable (now catalog) p kind item ⌝ }
     ensures { λ r. ⌜ Serves (now (catalog .entry)) h p kind item r ⌝ }
 {
     let missing = lacks(kind, p.marks[item]);
@@ -209,7 +209,8 @@ fn serve(catalog: &[u8], h: u32, p: Copies, kind: u32, item: usize) -> Did
 
 // The refusal of a fault's number, told on a line.
 fn refusal_for(number: u32, line: u32) -> Refusal
-    ensures { λ r. ⌜ r ≡ refusalFor number line ⌝ }
+    requires { ⌜ FaultNumber number ⌝ }
+    ensures { λ r. ⌜ Told number line r ⌝ }
 {
     if number == 11 {
         return Refusal::NotHeld { line: line };

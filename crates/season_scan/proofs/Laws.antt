@@ -19,10 +19,12 @@ use Rattle.landlord.specs.Calls.{itemRefusal}
 use Rattle.season_lines.specs.declared.Field.{Field}
 use Rattle.season_lines.specs.declared.Line.{Line}
 use Rattle.season_lines.specs.declared.Line.the-variants.{Sizes, Item as ItemLine, Step as StepLine, Act as ActLine, Refused}
-use Rattle.season_lines.specs.Fields.{before, split, fieldOf, fieldsOf}
-use Rattle.season_lines.specs.Lines.{lineIn}
+use Rattle.season_lines.specs.Fields.{split, fieldOf, fieldsOf}
+use Rattle.season_lines.specs.Lines.{itemFrom, lineIn}
+use Rattle.season_lines.specs.Inner.{before}
 use Rattle.season_tables.specs.Tables.{Sofar, on, stop, heading, sameBytes, isBlank, isSized, mayEnd, mustEnd, nowNamed, nextTable, withSizes, withItem, withStep, withAct, inTurn, takes, leads, atEnd, goesOn, readFrom}
-use Rattle.season_tables.specs.Holds.{wantsValues}
+use Rattle.season_tables.specs.Inner.{wantsValues}
+use Rattle.season_scan.specs.Inner.{onward, readUntil}
 use Rattle.season_tables.proofs.Leads.{leads-values}
 use Rattle.season_lines.proofs.Pieces.{before-le, before-take, split-last, split-more, split-some, fields-last, fields-more, line-step, line-act}
 
@@ -36,6 +38,14 @@ pub line-first :
 unfolding readFrom
 line-first n s v h = rw (split-more 10 s h, split-some 10 (drop (length (before 10 s) + 1) s) .1)
 
+pub until-first :
+    (n : ℕ) (s : List ℕ) (v : Sofar) →
+    length (before 10 s) < length s →
+    readUntil n (split 10 s) v
+    ≡ onward v (leads v (before 10 s) n) (readUntil (suc n) (split 10 (drop (length (before 10 s) + 1) s)))
+unfolding readUntil
+until-first n s v h = rw (split-more 10 s h, split-some 10 (drop (length (before 10 s) + 1) s) .1)
+
 -- where the first line ends, as it is found: in the part of the text from byte `at` up to the text's end
 pub line-end :
     (s : List ℕ) (at m : ℕ) →
@@ -48,6 +58,10 @@ pub nothing-left : (n at : ℕ) (s : List ℕ) (v : Sofar) → length s ≤ at �
 unfolding readFrom split
 nothing-left n at s v h = rw (drop-of-length-le s {i = at} h)
 
+pub until-end : (n at : ℕ) (s : List ℕ) (v : Sofar) → length s ≤ at → readUntil n (split 10 (drop at s)) v ≡ v
+unfolding readUntil split
+until-end n at s v h = rw (drop-of-length-le s {i = at} h)
+
 -- bytes without a line feed are left
 pub no-feed :
     (n : ℕ) (s : List ℕ) (v : Sofar) →
@@ -57,6 +71,10 @@ pub no-feed :
 unfolding readFrom
 no-feed n s v p h = rw (split-last 10 s h, ne-eqb (length (before 10 s)) 0 (λ e. omega arith))
 
+pub until-no-feed : (n : ℕ) (s : List ℕ) (v : Sofar) → length s ≤ length (before 10 s) → readUntil n (split 10 s) v ≡ v
+unfolding readUntil
+until-no-feed n s v h = rw (split-last 10 s h)
+
 -- ## Where a line leads
 
 -- whether a line's fields are looked at, by what has been read
@@ -64,13 +82,13 @@ abbrev pub wantsHere : Sofar → List ℕ → Bool
 wantsHere v l = wantsValues (v .named) (v .table) (v .k) (length l)
 
 -- a line that is torn by its fields alone
-pub torn-line :
+pub malformed-line :
     (v : Sofar) (l : List ℕ) (n : ℕ) →
     wantsHere v l ≡ true →
     lineIn (v .table) (fieldsOf l) n ≡ Refused (Malformed n) →
     leads v l n ≡ stop (Malformed n)
 unfolding takes
-torn-line v l n h e = leads-values v l n h ∙ rw e
+malformed-line v l n h e = leads-values v l n h ∙ rw e
 
 -- ## What a line that leads on adds
 
@@ -80,6 +98,7 @@ Adds a b wants fields = (b ≡ a) ⊎ ((b ≡ a + 1) × (wants ≡ true) × (fie
 
 pub record Grows (v w : Sofar) (wants : Bool) (fields : ℕ) : Type 0 where
   pub table : v .table ≤ 3 → w .table ≤ 3
+  pub items : length (v .catalog) ≤ length (w .catalog)
   pub steps : Adds (length (v .steps)) (length (w .steps)) wants fields
   pub acts : Adds (length (v .acts)) (length (w .acts)) wants fields
 
@@ -106,17 +125,18 @@ grown-by v w table fs n e = go (lineIn table fs n) refl e
     go : (line : Line) → lineIn table fs n ≡ line → takes v line n ≡ on w → Grows v w true (length fs)
     go (Sizes k h) l e =
         grows-to v (withSizes v k h) w true (length fs) (if-on (leb h k) (withSizes v k h) w (PlanTooLarge n) e)
-        (record { table = λ t. t; steps = inl refl; acts = inl refl })
+        (record { table = λ t. t; items = omega arith; steps = inl refl; acts = inl refl })
     go (ItemLine i k l m) q e =
         grows-to v (withItem v k l m) w true (length fs)
         (if-on (eqb i (length (v .catalog))) (withItem v k l m) w (OutOfSequence n) e)
-        (record { table = λ t. t; steps = inl refl; acts = inl refl })
+        (record { table = λ t. t; items = omega (arith, length-append (v .catalog) (itemFrom k l m ∷ [])); steps = inl refl; acts = inl refl })
     go (StepLine s) l e =
         let number = itemRefusal (v .k) (v .catalog) s in
         grows-to v (withStep v s) w true (length fs)
         (if-on (eqb number 0) (withStep v s) w (cond (eqb number 6) (UnknownItem n) (ItemTooLarge n)) e)
         (record {
           table = λ t. t;
+          items = omega arith;
           steps = inr (length-append (v .steps) (s ∷ []), refl, line-step table fs n s l .0);
           acts = inl refl;
         })
@@ -126,6 +146,7 @@ grown-by v w table fs n e = go (lineIn table fs n) refl e
         (ActOutOfOrder n) e)
         (record {
           table = λ t. t;
+          items = omega arith;
           steps = inl refl;
           acts = inr (length-append (v .acts) _, refl, line-act table fs n place act l .0);
         })
@@ -155,11 +176,11 @@ grown v w l n e =
         Grows v w (cond a (cond p false (not m)) false) (length (fieldsOf l))
     go true true m d below e =
         grows-to v (nextTable v) w false (length (fieldsOf l)) (cc)
-        (record { table = λ t. below refl; steps = inl refl; acts = inl refl })
+        (record { table = λ t. below refl; items = omega arith; steps = inl refl; acts = inl refl })
     go true false true d below e = absurd (no-on (Malformed n) w e)
     go true false false d below e = grown-by v w (v .table) (fieldsOf l) n e
     go false p m true below e =
-        grows-to v (nowNamed v) w false (length (fieldsOf l)) (cc) (record { table = λ t. t; steps = inl refl; acts = inl refl })
+        grows-to v (nowNamed v) w false (length (fieldsOf l)) (cc) (record { table = λ t. t; items = omega arith; steps = inl refl; acts = inl refl })
     go false p m false below e = absurd (no-on (Heading n) w e)
 
 -- ## The first field of what is left of a line

@@ -1,2 +1,2 @@
 -- The definitions that the contract of `season_scan` cites. Assumes nothing.
-pub mod Few
+pub mod Inner

@@ -1,7 +1,7 @@
 // The text input's four tables: the search for the first faulty line.
 ghost use Rattle.season_tables.specs.Tables.{readingOf};
-ghost use Rattle.season_tables.specs.Holds.{Leads, Roomy, Scannable};
-ghost use Rattle.season_scan.specs.Few.{Few};
+ghost use Rattle.season_tables.specs.Inner.{Leads, Scannable};
+ghost use Rattle.season_scan.specs.Inner.{Few, Leaves};
 use landlord::Refusal;
 use season_lines::Field;
 use season_tables::Scanned;
@@ -13,7 +13,7 @@ pub fn scan(s: &[u8], catalog: &mut [u8], calls: &mut [u32], acts: &mut [u32]) -
     requires { ⌜ Scannable (now s) (now catalog) (now calls) (now acts) ⌝ }
     ensures { λ r. ⌜ Leads (readingOf (now (s .entry))) r (now (catalog .exit)) (now (calls .exit)) (now (acts .exit)) ⌝ }
     ensures { λ r. ⌜ Few (readingOf (now (s .entry))) r ⌝ }
-    ensures { λ _. ⌜ Roomy (now (catalog .exit)) (now (calls .exit)) (now (acts .exit)) ⌝ }
+    ensures { λ r. ⌜ Leaves (now (s .entry)) (now (catalog .entry)) (now (calls .entry)) (now (acts .entry)) r (now (catalog .exit)) (now (calls .exit)) (now (acts .exit)) ⌝ }
 {
     let mut seen = season_tables::at_start();
     let mut at = 0;

@@ -6,7 +6,7 @@ use Prim.Native.Nat.{ℕ}
 use borrow.Author.Tests.{eq-eqb, ne-eqb}
 use Rattle.report.specs.Words.{lockerWord, rivalWord, sailWord, blocksWord, loadWord, writeWord, stepWord, minutesWord, atWord, actWord, wordsOf}
 use Rattle.season_tables.specs.Tables.{heading, sameBytes, mayEnd, mustEnd}
-use Rattle.season_tables.specs.Holds.{wantsValues}
+use Rattle.season_tables.specs.Inner.{wantsValues}
 
 -- a line compared with the names of each table
 module _ (table : ℕ) (line : List ℕ) (r : Bool) where

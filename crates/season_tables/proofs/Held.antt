@@ -6,7 +6,7 @@ use mathlib.Core.List.{List, [], _∷_, _++_}
 use Prim.Native.Nat.{ℕ, suc, _+_, _*_, _≤_, _<_}
 use native.Mathlib.Omega.{arith}
 use native.Mathlib.Numerals.{add-one}
-use lib.ListN.{length, take, length-append}
+use lib.ListN.{length, take, drop, length-append}
 use lib.Seq.{sets}
 use lib.Dec.{eqb, leb, ltb}
 use borrow.Author.Tests.{lt-ltb, le-ltb, le-leb, lt-leb, eq-eqb, ne-eqb}
@@ -18,7 +18,7 @@ use Rattle.landlord.specs.Types.{actItem}
 use Rattle.landlord.specs.Fold.{fold}
 use Rattle.landlord.specs.Calls.{itemRefusal}
 use Rattle.landlord.proofs.Folds.{fold-append}
-use Rattle.catalog_bytes.specs.Catalogs.{catalogOfFirst, itemBytes}
+use Rattle.catalog_bytes.specs.Inner.{catalogOfFirst, itemBytes}
 use Rattle.catalog_bytes.proofs.Laws.{none-first, one-more}
 use Rattle.season_lines.specs.declared.Line.{Line}
 use Rattle.season_lines.specs.declared.Line.the-variants.{Sizes, Item as ItemLine, Step as StepLine, Act as ActLine, Refused as RefusedLine}
@@ -26,9 +26,10 @@ use Rattle.season_lines.specs.Lines.{itemFrom}
 use Rattle.season_tables.specs.declared.Seen.{Seen}
 use Rattle.season_tables.specs.declared.Scanned.{Scanned}
 use Rattle.season_tables.specs.declared.Verdict.the-variants.{Taken, Refused}
-use Rattle.season_tables.specs.Tables.{Placed, Sofar, on, stop, nowNamed, nextTable, lastPlace, takes, atEnd}
-use Rattle.season_tables.specs.Holds.{Holds, Begins, LeadsFrom, LeadsBy, NotesItem, NotesStep, NotesAct, callNumbers, actNumbers, putAt, Numbered}
-use Rattle.season_tables.proofs.Notes.{noted-more, calls-more, acts-more}
+use Rattle.season_tables.specs.Tables.{Placed, Sofar, on, stop, atStart, nowNamed, nextTable, lastPlace, takes, atEnd}
+use Rattle.season_tables.specs.Inner.{Holds, nothingRead, endVerdict, Leads, LeadsFrom, LeadsBy, NotesItem, NotesStep, NotesAct, KeepsPast, callNumbers, actNumbers, putAt, ItemPlaced}
+use Rattle.season_tables.proofs.Notes.{put-sets, noted-more, noted-past, calls-more, acts-more}
+use Rattle.season_tables.proofs.Keeps.{taken-past}
 
 -- a line is taken, with what the struct holds then
 goes : (r : Scanned) (q : Seen) (catalog calls acts : List ℕ) (v : Sofar) → r .verdict ≡ Taken → r .seen ≡ q → Holds q catalog calls acts v → (r .verdict ≡ Taken) × Holds (r .seen) catalog calls acts v
@@ -38,21 +39,8 @@ goes r q catalog calls acts v t e h = (t, subst (λ (s : Seen). Holds s catalog 
 pub count-is : (q : Seen) (catalog calls acts : List ℕ) (v : Sofar) → Holds q catalog calls acts v → length (v .catalog) ≡ q .n
 count-is q catalog calls acts v h = sym (h .itemCount)
 
--- the struct before the first line
-abbrev empty : Seen
-empty =
-    record {
-      table = 0;
-      named = false;
-      k = 0;
-      h = 0;
-      n = 0;
-      steps = 0;
-      acts = 0;
-      last = 0;
-    }
-
-pub begins : Begins empty
+-- nothing is read, whatever the slices hold
+pub begins : (catalog calls acts : List ℕ) → Holds nothingRead catalog calls acts atStart
 unfolding fold callNumbers actNumbers
 begins catalog calls acts =
     record {
@@ -203,7 +191,7 @@ one-longer n xs x e = rw (length-append xs (x ∷ [])) (omega arith)
 module _ (q : Seen) (catalog : List ℕ) (i b l w at : ℕ) (r : Scanned) where
   pub item-next :
       (after : List ℕ) →
-      length catalog ≡ 1280 →
+      1280 ≤ length catalog →
       i ≤ 255 →
       i ≡ q .n →
       r .verdict ≡ Taken →
@@ -232,6 +220,22 @@ module _ (q : Seen) (catalog : List ℕ) (i b l w at : ℕ) (r : Scanned) where
         stepsNoted = h .stepsNoted;
         actsNoted = h .actsNoted;
       }))
+
+  pub item-past :
+      (after : List ℕ) →
+      1280 ≤ length catalog →
+      i ≤ 255 →
+      r .verdict ≡ Taken →
+      r .seen ≡ listed q i →
+      after ≡ sets catalog (5 * i) (itemBytes (itemFrom b l w)) →
+      KeepsPast (5 * r .seen .n) q catalog r after
+  item-past after long few t s put =
+      let room : 5 * i + 5 ≤ length catalog = omega arith in
+      taken-past (5 * r .seen .n) q catalog r after t
+      (ap (λ (z : Seen). drop (5 * z .n) after) s
+      ∙ ap (drop (5 * (i + 1))) (put ∙ put-sets catalog (5 * i) (itemBytes (itemFrom b l w)) room)
+      ∙ noted-past 5 i catalog (itemBytes (itemFrom b l w)) refl room
+      ∙ ap (λ (z : Seen). drop (5 * z .n) catalog) (sym s))
 
   pub item-skipped : (i ≡ q .n → ⊥) → r .verdict ≡ Refused (OutOfSequence at) → NotesItem q catalog (λ v. takes v (ItemLine i b l w) at) r catalog
   unfolding takes
@@ -297,6 +301,20 @@ module _ (q : Seen) (catalog calls : List ℕ) (s : Step) (at number : ℕ) (r :
             ∙ sym (calls-more (v .steps) s);
         actsNoted = h .actsNoted;
       }))
+
+  pub step-past :
+      (after : List ℕ) →
+      4 * q .steps + 4 ≤ length calls →
+      r .verdict ≡ Taken →
+      r .seen ≡ stepped q →
+      after ≡ putAt calls (4 * q .steps) (callNumbers (s ∷ [])) →
+      KeepsPast (4 * r .seen .steps) q calls r after
+  step-past after room t g put =
+      taken-past (4 * r .seen .steps) q calls r after t
+      (ap (λ (z : Seen). drop (4 * z .steps) after) g
+      ∙ ap (drop (4 * (q .steps + 1))) put
+      ∙ noted-past 4 (q .steps) calls (callNumbers (s ∷ [])) (unfold callNumbers in refl) room
+      ∙ ap (λ (z : Seen). drop (4 * z .steps) calls) (sym g))
 
 -- an act's line
 abbrev acted : Seen → ℕ → Seen
@@ -367,18 +385,31 @@ module _ (q : Seen) (acts : List ℕ) (place : ℕ) (act : Act) (at : ℕ) (r : 
             ∙ sym (acts-more (v .acts) (placed place act));
       }))
 
+  pub act-past :
+      (after : List ℕ) →
+      3 * q .acts + 3 ≤ length acts →
+      r .verdict ≡ Taken →
+      r .seen ≡ acted q place →
+      after ≡ putAt acts (3 * q .acts) (actNumbers (placed place act ∷ [])) →
+      KeepsPast (3 * r .seen .acts) q acts r after
+  act-past after room t s put =
+      taken-past (3 * r .seen .acts) q acts r after t
+      (ap (λ (z : Seen). drop (3 * z .acts) after) s
+      ∙ ap (drop (3 * (q .acts + 1))) put
+      ∙ noted-past 3 (q .acts) acts (actNumbers (placed place act ∷ [])) (unfold actNumbers in refl) room
+      ∙ ap (λ (z : Seen). drop (3 * z .acts) acts) (sym s))
+
 -- the input's end
-module _ (q : Seen) (at : ℕ) (r : Scanned) where
-  pub end-due : q .named ≡ true → q .table ≡ 3 → r .verdict ≡ Taken → r .seen ≡ q → LeadsBy q (λ v. atEnd v at) r
-  end-due e f t s catalog calls acts v h =
-      let b : v .named && eqb (v .table) 3 ≡ true = rw (sym (h .named) ∙ e, sym (h .table) ∙ f) in
-      rw b (goes r q catalog calls acts v t s h)
+pub end-leads :
+    (q : Seen) (at : ℕ) (r : Scanned) → r .verdict ≡ endVerdict q at → r .seen ≡ q → LeadsBy q (λ v. atEnd v at) r
+end-leads q at r t s catalog calls acts v h = go (v .named && eqb (v .table) 3) (t ∙ same)
+  where
+    same : endVerdict q at ≡ cond (v .named && eqb (v .table) 3) Taken (Refused (Heading at))
+    same = rw (h .named, h .table)
 
-  pub end-unnamed : q .named ≡ false → r .verdict ≡ Refused (Heading at) → LeadsBy q (λ v. atEnd v at) r
-  end-unnamed e t catalog calls acts v h = rw (sym (h .named) ∙ e) t
-
-  pub end-early : q .named ≡ true → (q .table ≡ 3 → ⊥) → r .verdict ≡ Refused (Heading at) → LeadsBy q (λ v. atEnd v at) r
-  end-early e f t catalog calls acts v h = rw (sym (h .named) ∙ e, ne-eqb (v .table) 3 (λ g. f (h .table ∙ g))) t
+    go : (b : Bool) → r .verdict ≡ cond b Taken (Refused (Heading at)) → Leads (cond b (on v) (stop (Heading at))) r catalog calls acts
+    go true e = goes r q catalog calls acts v e s h
+    go false e = e
 
 -- A line that is known to say so: the case of a match on it.
 pub line-says :
@@ -395,5 +426,5 @@ pub line-refused :
 unfolding takes
 line-refused q x at r catalog calls acts t v h = t
 
-pub line-number : (line : Line) (i b l w : ℕ) → line ≡ ItemLine i b l w → Numbered line → i ≤ 255
-line-number line i b l w e h = subst Numbered e h
+pub line-number : (line : Line) (i b l w : ℕ) → line ≡ ItemLine i b l w → ItemPlaced line → i ≤ 255
+line-number line i b l w e h = subst ItemPlaced e h

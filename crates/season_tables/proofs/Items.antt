@@ -6,7 +6,8 @@ use lib.ListN.{length}
 use borrow.Author.Tests.{lt-ltb, le-ltb, le-leb, lt-leb}
 use Rattle.landlord.specs.declared.Step.the-variants.{Read}
 use Rattle.landlord.specs.Calls.{itemRefusal}
-use Rattle.catalog_bytes.specs.Catalogs.{itemIn, catalogOfFirst}
+use Rattle.catalog_bytes.specs.Catalogs.{itemIn}
+use Rattle.catalog_bytes.specs.Inner.{catalogOfFirst}
 use Rattle.catalog_bytes.proofs.Laws.{first-length, first-at}
 
 -- 6, 7 or 0

@@ -13,10 +13,11 @@ use Rattle.season_lines.specs.declared.Line.the-variants.{Sizes, Item as ItemLi
 use Rattle.season_lines.specs.Fields.{fieldsOf}
 use Rattle.season_lines.specs.Lines.{lineIn}
 use Rattle.season_lines.proofs.Pieces.{line-item}
+use Rattle.season_lines.proofs.Held.{held-line}
 use Rattle.season_tables.specs.declared.Seen.{Seen}
 use Rattle.season_tables.specs.declared.Scanned.{Scanned}
 use Rattle.season_tables.specs.Tables.{Sofar, Led, on, stop, nowNamed, nextTable, heading, sameBytes, mayEnd, mustEnd, takes, leads}
-use Rattle.season_tables.specs.Holds.{Holds, Leads, LeadsFrom, LeadsBy, LineLeads, Numbered, wantsValues}
+use Rattle.season_tables.specs.Inner.{Holds, Leads, LeadsFrom, LeadsBy, Looked, ItemPlaced, wantsValues}
 
 unnamed : {A : Type 0} (t : Bool) (x y : A) → t ≡ false → cond t x y ≡ y
 unnamed true x y e = absurd (false≢true (sym e))
@@ -68,7 +69,7 @@ module _ (v : Sofar) (l : List ℕ) (n : ℕ) where
       blank (v .named) (eqb (length l) 0) (mayEnd (v .table) (v .k)) (mustEnd (v .table) (v .k)) _ _ _ _ (must-may (v .table) (v .k)) e f
 
 -- an item's line has a number that has a place
-pub line-numbered : (table : ℕ) (fs : List Field) (n : ℕ) (line : Line) → line ≡ lineIn table fs n → Numbered line
+pub line-numbered : (table : ℕ) (fs : List Field) (n : ℕ) (line : Line) → line ≡ lineIn table fs n → ItemPlaced line
 line-numbered table fs n (Sizes k h) e = tt
 line-numbered table fs n (ItemLine i b l w) e = line-item table fs n i b l w (sym e) .0
 line-numbered table fs n (StepLine s) e = tt
@@ -76,14 +77,14 @@ line-numbered table fs n (ActLine place act) e = tt
 line-numbered table fs n (RefusedLine r) e = tt
 
 -- and so for the struct
-module _ (q : Seen) (catalog calls acts l : List ℕ) (fs : List Field) (n : ℕ) (r : Scanned) where
+module _ (q : Seen) (catalog calls acts l : List ℕ) (n : ℕ) (r : Scanned) where
   pub lead-names :
       (right : Bool) →
       q .named ≡ false →
       right ≡ sameBytes l (heading (q .table)) →
       LeadsBy q (λ v. cond right (on (nowNamed v)) (stop (Heading n))) r →
-      LineLeads q catalog calls acts l fs n r catalog calls acts
-  lead-names right e f led v h looked =
+      LeadsFrom q catalog calls acts (λ v. leads v l n) r catalog calls acts
+  lead-names right e f led v h =
       let same : right ≡ sameBytes l (heading (v .table)) = f ∙ ap (λ (t : ℕ). sameBytes l (heading t)) (h .table) in
       subst (λ (x : Led). Leads x r catalog calls acts)
       (ap (λ (t : Bool). cond t (on (nowNamed v)) (stop (Heading n))) same ∙ sym (leads-names v l n (sym (h .named) ∙ e)))
@@ -93,25 +94,27 @@ module _ (q : Seen) (catalog calls acts l : List ℕ) (fs : List Field) (n : ℕ
   same-wants v h e = λ i. wantsValues ((sym (h .named) ∙ e) i) (sym (h .table) i) (sym (h .k) i) (length l)
 
   pub lead-values :
-      (line : Line) (catalog-after calls-after acts-after : List ℕ) →
+      (fs : List Field) (line : Line) (catalog-after calls-after acts-after : List ℕ) →
       q .named ≡ true →
       wantsValues true (q .table) (q .k) (length l) ≡ true →
+      Looked q l fs →
       line ≡ lineIn (q .table) fs n →
       LeadsFrom q catalog calls acts (λ v. takes v line n) r catalog-after calls-after acts-after →
-      LineLeads q catalog calls acts l fs n r catalog-after calls-after acts-after
-  lead-values line catalog-after calls-after acts-after e f g led v h looked =
-      let wants = same-wants v h e ∙ f in
-      let same : line ≡ lineIn (v .table) (fieldsOf l) n = g ∙ (λ i. lineIn (h .table i) (looked wants i) n) in
+      LeadsFrom q catalog calls acts (λ v. leads v l n) r catalog-after calls-after acts-after
+  lead-values fs line catalog-after calls-after acts-after e f looked g led v h =
+      let due : wantsValues (q .named) (q .table) (q .k) (length l) ≡ true = ap (λ (b : Bool). wantsValues b (q .table) (q .k) (length l)) e ∙ f in
+      let same : line ≡ lineIn (v .table) (fieldsOf l) n =
+      g ∙ (λ i. lineIn (h .table i) (looked due i) n) ∙ held-line (v .table) (fieldsOf l) n in
       subst (λ (x : Led). Leads x r catalog-after calls-after acts-after)
-      (ap (λ (x : Line). takes v x n) same ∙ sym (leads-values v l n wants))
+      (ap (λ (x : Line). takes v x n) same ∙ sym (leads-values v l n (same-wants v h e ∙ f)))
       (led v h)
 
   pub lead-blank :
       q .named ≡ true →
       wantsValues true (q .table) (q .k) (length l) ≡ false →
       LeadsBy q (λ v. cond (eqb (length l) 0) (on (nextTable v)) (stop (Malformed n))) r →
-      LineLeads q catalog calls acts l fs n r catalog calls acts
-  lead-blank e f led v h looked =
+      LeadsFrom q catalog calls acts (λ v. leads v l n) r catalog calls acts
+  lead-blank e f led v h =
       subst (λ (x : Led). Leads x r catalog calls acts)
       (sym (leads-blank v l n (sym (h .named) ∙ e) (same-wants v h e ∙ f)))
       (led catalog calls acts v h)

@@ -1,7 +1,9 @@
 pub mod Bytes
 pub mod Notes
 pub mod Items
+pub mod Keeps
 pub mod Held
 pub mod Due
 pub mod Leads
 pub mod Sound
+pub mod LineNumbers

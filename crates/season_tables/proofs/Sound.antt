@@ -1,4 +1,4 @@
--- What an accepted text keeps (specs/Sound.antt), where its reading ends, and that it has no more steps and acts than bytes. What is
+-- What an accepted text keeps (specs/InnerSound.antt), where its reading ends, and that it has no more steps and acts than bytes. What is
 -- claimed after i lines (After) holds before the first line, and each line that leads on keeps it. Assumes nothing.
 use mathlib.Core.Path.{_≡_, refl, subst}
 use mathlib.Core.Bool.{Bool, true, false, cond, _&&_, false≢true}
@@ -16,10 +16,11 @@ use Rattle.landlord.specs.declared.Act.{Act}
 use Rattle.landlord.specs.declared.Act.the-variants.{Fetch}
 use Rattle.landlord.specs.Types.{stepKind, stepItem, stepMinutes, actItem}
 use Rattle.landlord.specs.Fold.{fold}
-use Rattle.landlord.specs.Catalog.{Catalog, ItemOk, CatalogOk, noItem}
-use Rattle.landlord.specs.Calls.{callOf, stepOf, itemInRange, inRange, itemRefusal, refusalAt}
+use Rattle.landlord.specs.Catalog.{Catalog, noItem, itemInRange}
+use Rattle.landlord.specs.Calls.{callOf, stepOf, inRange, itemRefusal, refusalAt}
+use Rattle.landlord.specs.Inner.{ItemFacts, CatalogFacts}
 use Rattle.landlord.proofs.Folds.{either, fold-append}
-use Rattle.landlord.proofs.Calls.{item-in-range}
+use Rattle.landlord.proofs.Ranges.{item-facts, catalog-ok, capacity-ok}
 use Rattle.season_lines.specs.declared.Field.{Field}
 use Rattle.season_lines.specs.declared.Line.{Line}
 use Rattle.season_lines.specs.declared.Line.the-variants.{Sizes, Item as ItemLine, Step as StepLine, Act as ActLine, Refused}
@@ -28,7 +29,7 @@ use Rattle.season_lines.specs.Lines.{itemFrom, lineIn}
 use Rattle.season_lines.proofs.Laws.{and-parts}
 use Rattle.season_lines.proofs.Pieces.{line-sizes, line-item, line-step, table-sizes, table-item, table-step, table-act}
 use Rattle.season_tables.specs.Tables.{Placed, Sofar, Led, on, stop, atStart, nowNamed, nextTable, withSizes, withItem, withStep, withAct, lastPlace, inTurn, takes, mayEnd, mustEnd, isBlank, heading, sameBytes, leads, atEnd, goesOn, readFrom, readingOf}
-use Rattle.season_tables.specs.Sound.{placedAt, Sound}
+use Rattle.season_tables.specs.InnerSound.{placedAt, Sound}
 
 -- what is claimed of a reading where it leads on
 abbrev Leading : (Sofar → Type 0) → Led → Type 0
@@ -77,7 +78,7 @@ record Partial (v : Sofar) : Type 0 where
   noSteps : v .table ≤ 1 → length (v .steps) ≡ 0
   noActs : v .table ≤ 2 → length (v .acts) ≡ 0
   sizes : SizesFit (v .k) (v .h)
-  catalog : CatalogOk (v .catalog)
+  catalog : CatalogFacts (v .catalog)
   steps : (j : ℕ) → j < length (v .steps) → StepFits (v .k) (v .catalog) (getD (v .steps) j Flush)
   acts : (j : ℕ) → j < length (v .acts) → ActFits v (placedAt (v .acts) j)
   inOrder : (i j : ℕ) → i ≤ j → j < length (v .acts) → placedAt (v .acts) i .place ≤ placedAt (v .acts) j .place
@@ -232,7 +233,7 @@ item-after i v number b l w p s e =
             catalog =
                 record {
                   few = omega (arith, length-append (v .catalog) (itemFrom b l w ∷ []));
-                  each = each-more ItemOk noItem (v .catalog) (itemFrom b l w) (q .catalog .each) (item-in-range (itemFrom b l w) (s .2));
+                  each = each-more ItemFacts noItem (v .catalog) (itemFrom b l w) (q .catalog .each) (item-facts (itemFrom b l w) (s .2));
                 };
             steps = λ j l. none _ j noSteps l;
             acts = λ j l. none _ j noActs l;
@@ -391,7 +392,7 @@ read-after i b n (x ∷ y ∷ rest) v l p =
     (λ w q. read-after (suc i) b (suc n) (y ∷ rest) w (omega arith) q)
 
 -- a text has at most one piece more than bytes
-split-few : (b : ℕ) (s : List ℕ) → length (split b s) ≤ suc (length s)
+pub split-few : (b : ℕ) (s : List ℕ) → length (split b s) ≤ suc (length s)
 unfolding split
 split-few b [] = omega arith
 split-few b (x ∷ s) =
@@ -429,10 +430,10 @@ accepted-sound s v l e =
     let p = a .so in
     let k : 1 ≤ v .k = p .sized (omega arith) in
     record {
-      capacity = record { low = k; high = p .sizes .high };
+      capacity = capacity-ok (v .k) (record { low = k; high = p .sizes .high });
       rivalLow = p .sizes .rivalLow k;
       rivalHigh = p .sizes .rivalHigh;
-      catalog = p .catalog;
+      catalog = catalog-ok (v .catalog) (p .catalog);
       allowed = record { each = λ j b. let-through (v .k) (v .catalog) j (getD (v .steps) j Flush) (omega arith) (p .steps j b) };
       each =
           λ j b.

@@ -1,4 +1,4 @@
 -- The definitions that the contracts of `season_tables` cite. Assumes nothing.
 pub mod Tables
-pub mod Holds
-pub mod Sound
+pub mod Inner
+pub mod InnerSound

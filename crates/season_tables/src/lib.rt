@@ -3,16 +3,16 @@ ghost use mathlib.Core.Path.{_≡_};
 ghost use mathlib.Core.Bool.{cond};
 ghost use mathlib.Core.List.{[], _∷_};
 ghost use Prim.Native.Nat.{_+_, _*_, _≤_};
-ghost use lib.ListN.{length, take};
+ghost use lib.ListN.{length};
 ghost use lib.Dec.{eqb};
 ghost use Rattle.landlord.specs.declared.Step.the-variants.{Read};
 ghost use Rattle.landlord.specs.declared.Refusal.the-variants.{Malformed, Heading};
 ghost use Rattle.landlord.specs.Calls.{itemRefusal};
-ghost use Rattle.catalog_bytes.specs.Catalogs.{catalogOfFirst};
+ghost use Rattle.catalog_bytes.specs.Inner.{catalogOfFirst};
 ghost use Rattle.season_lines.specs.declared.Line.the-variants.{Sizes, Item as ItemLine, Step as StepLine, Act as ActLine};
 ghost use Rattle.season_tables.specs.declared.Verdict.the-variants.{Taken, Refused};
-ghost use Rattle.season_tables.specs.Tables.{on, stop, heading, sameBytes, mayEnd, mustEnd, nowNamed, nextTable, takes, atEnd};
-ghost use Rattle.season_tables.specs.Holds.{Begins, LeadsFrom, LeadsBy, NotesItem, NotesStep, NotesAct, LineLeads, Roomy, Takeable, Leadable, wantsValues, callNumbers, actNumbers, putAt};
+ghost use Rattle.season_tables.specs.Tables.{on, stop, heading, sameBytes, mayEnd, mustEnd, nowNamed, nextTable, takes, leads, atEnd};
+ghost use Rattle.season_tables.specs.Inner.{nothingRead, endVerdict, LeadsFrom, LeadsBy, NotesItem, NotesStep, NotesAct, KeepsSeen, KeepsPast, Keeps, Takeable, Leadable, wantsValues, callNumbers, actNumbers, putAt};
 use landlord::Act;
 use landlord::Refusal;
 use landlord::Step;
@@ -112,7 +112,7 @@ pub fn wants_values(named: bool, table: u32, k: u32, bytes: usize) -> bool
 
 // Nothing is read.
 pub fn at_start() -> Seen
-    ensures { λ r. ⌜ Begins r ⌝ }
+    ensures { λ r. ⌜ r ≡ nothingRead ⌝ }
 {
     Seen {
         table: 0,
@@ -135,8 +135,9 @@ fn taken(seen: Seen) -> Scanned
     }
 }
 
+// A refusal, with what has been read before it.
 pub fn stopped(seen: Seen, r: Refusal) -> Scanned
-    ensures { λ a. ⌜ a .verdict ≡ Refused r ⌝ }
+    ensures { λ a. ⌜ (a .verdict ≡ Refused r) × (a .seen ≡ seen) ⌝ }
 {
     Scanned {
         verdict: Verdict::Refused(r),
@@ -147,6 +148,7 @@ pub fn stopped(seen: Seen, r: Refusal) -> Scanned
 // The line of names, right or not.
 fn take_names(seen: Seen, right: bool, at: u32) -> Scanned
     ensures { λ r. ⌜ LeadsBy seen (λ v. cond right (on (nowNamed v)) (stop (Heading at))) r ⌝ }
+    ensures { λ r. ⌜ KeepsSeen seen r ⌝ }
 {
     if !right {
         return stopped(seen, Refusal::Heading { line: at });
@@ -160,6 +162,7 @@ fn take_names(seen: Seen, right: bool, at: u32) -> Scanned
 fn take_blank(seen: Seen, bytes: usize, at: u32) -> Scanned
     requires { ⌜ seen .table ≤ 3 ⌝ }
     ensures { λ r. ⌜ LeadsBy seen (λ v. cond (eqb bytes 0) (on (nextTable v)) (stop (Malformed at))) r ⌝ }
+    ensures { λ r. ⌜ KeepsSeen seen r ⌝ }
 {
     if bytes != 0 {
         return stopped(seen, Refusal::Malformed { line: at });
@@ -172,6 +175,7 @@ fn take_blank(seen: Seen, bytes: usize, at: u32) -> Scanned
 
 fn take_sizes(seen: Seen, k: u32, h: u32, at: u32) -> Scanned
     ensures { λ r. ⌜ LeadsBy seen (λ v. takes v (Sizes k h) at) r ⌝ }
+    ensures { λ r. ⌜ KeepsSeen seen r ⌝ }
 {
     if k < h {
         return stopped(seen, Refusal::PlanTooLarge { line: at });
@@ -191,9 +195,9 @@ fn take_item(
     at: u32,
     catalog: &mut [u8],
 ) -> Scanned
-    requires { ⌜ (number ≤ 255) × (length (now catalog) ≡ 1280) ⌝ }
+    requires { ⌜ (number ≤ 255) × (1280 ≤ length (now catalog)) ⌝ }
     ensures { λ r. ⌜ NotesItem seen (now (catalog .entry)) (λ v. takes v (ItemLine number blocks load write) at) r (now (catalog .exit)) ⌝ }
-    ensures { λ _. ⌜ length (now (catalog .exit)) ≡ length (now (catalog .entry)) ⌝ }
+    ensures { λ r. ⌜ KeepsPast (5 * r .seen .n) seen (now (catalog .entry)) r (now (catalog .exit)) ⌝ }
 {
     let i = number as usize;
     if i != seen.n {
@@ -207,7 +211,7 @@ fn take_item(
 
 // The number that the table of refusals gives the item of a step: 6, 7, or 0.
 fn item_refused(seen: Seen, catalog: &[u8], item: u32) -> u32
-    requires { ⌜ (seen .n ≤ 256) × (length (now catalog) ≡ 1280) ⌝ }
+    requires { ⌜ (seen .n ≤ 256) × (1280 ≤ length (now catalog)) ⌝ }
     ensures { λ r. ⌜ r ≡ itemRefusal (seen .k) (catalogOfFirst (seen .n) (now (catalog .entry))) (Read item) ⌝ }
 {
     let i = item as usize;
@@ -222,7 +226,7 @@ fn item_refused(seen: Seen, catalog: &[u8], item: u32) -> u32
 
 // And a step: a flush has no item.
 fn step_refused(seen: Seen, catalog: &[u8], step: Step) -> u32
-    requires { ⌜ (seen .n ≤ 256) × (length (now catalog) ≡ 1280) ⌝ }
+    requires { ⌜ (seen .n ≤ 256) × (1280 ≤ length (now catalog)) ⌝ }
     ensures { λ r. ⌜ r ≡ itemRefusal (seen .k) (catalogOfFirst (seen .n) (now (catalog .entry))) step ⌝ }
 {
     match step {
@@ -244,9 +248,9 @@ fn put_step(calls: &mut [u32], i: usize, step: Step)
 }
 
 fn take_step(seen: Seen, step: Step, at: u32, catalog: &[u8], calls: &mut [u32]) -> Scanned
-    requires { ⌜ (seen .n ≤ 256) × (length (now catalog) ≡ 1280) × (4 * seen .steps ≤ 43688) × (length (now calls) ≡ 43692) ⌝ }
+    requires { ⌜ (seen .n ≤ 256) × (1280 ≤ length (now catalog)) × (4 * seen .steps ≤ 43688) × (43692 ≤ length (now calls)) ⌝ }
     ensures { λ r. ⌜ NotesStep seen (now (catalog .entry)) (now (calls .entry)) (λ v. takes v (StepLine step) at) r (now (calls .exit)) ⌝ }
-    ensures { λ _. ⌜ length (now (calls .exit)) ≡ length (now (calls .entry)) ⌝ }
+    ensures { λ r. ⌜ KeepsPast (4 * r .seen .steps) seen (now (calls .entry)) r (now (calls .exit)) ⌝ }
 {
     let number = step_refused(seen, catalog, step);
     if number == 6 {
@@ -273,9 +277,9 @@ fn put_act(acts: &mut [u32], i: usize, place: u32, act: Act)
 }
 
 fn take_act(seen: Seen, place: u32, act: Act, at: u32, acts: &mut [u32]) -> Scanned
-    requires { ⌜ (3 * seen .acts ≤ 32766) × (length (now acts) ≡ 32769) ⌝ }
+    requires { ⌜ (3 * seen .acts ≤ 32766) × (32769 ≤ length (now acts)) ⌝ }
     ensures { λ r. ⌜ NotesAct seen (now (acts .entry)) (λ v. takes v (ActLine place act) at) r (now (acts .exit)) ⌝ }
-    ensures { λ _. ⌜ length (now (acts .exit)) ≡ length (now (acts .entry)) ⌝ }
+    ensures { λ r. ⌜ KeepsPast (3 * r .seen .acts) seen (now (acts .entry)) r (now (acts .exit)) ⌝ }
 {
     let item = act.item() as usize;
     // It may not fall, and there is such a step.
@@ -304,7 +308,7 @@ fn take_line(
 ) -> Scanned
     requires { ⌜ Takeable seen line (now catalog) (now calls) (now acts) ⌝ }
     ensures { λ r. ⌜ LeadsFrom seen (now (catalog .entry)) (now (calls .entry)) (now (acts .entry)) (λ v. takes v line at) r (now (catalog .exit)) (now (calls .exit)) (now (acts .exit)) ⌝ }
-    ensures { λ _. ⌜ Roomy (now (catalog .exit)) (now (calls .exit)) (now (acts .exit)) ⌝ }
+    ensures { λ r. ⌜ Keeps seen (now (catalog .entry)) (now (calls .entry)) (now (acts .entry)) r (now (catalog .exit)) (now (calls .exit)) (now (acts .exit)) ⌝ }
 {
     match line {
         Line::Sizes { k, h } => take_sizes(seen, k, h, at),
@@ -331,9 +335,9 @@ pub fn lead(
     calls: &mut [u32],
     acts: &mut [u32],
 ) -> Scanned
-    requires { ⌜ Leadable seen count (now catalog) (now calls) (now acts) ⌝ }
-    ensures { λ r. ⌜ LineLeads seen (now (catalog .entry)) (now (calls .entry)) (now (acts .entry)) (now (text .entry)) (take count fields) at r (now (catalog .exit)) (now (calls .exit)) (now (acts .exit)) ⌝ }
-    ensures { λ _. ⌜ Roomy (now (catalog .exit)) (now (calls .exit)) (now (acts .exit)) ⌝ }
+    requires { ⌜ Leadable seen (now text) fields count (now catalog) (now calls) (now acts) ⌝ }
+    ensures { λ r. ⌜ LeadsFrom seen (now (catalog .entry)) (now (calls .entry)) (now (acts .entry)) (λ v. leads v (now (text .entry)) at) r (now (catalog .exit)) (now (calls .exit)) (now (acts .exit)) ⌝ }
+    ensures { λ r. ⌜ Keeps seen (now (catalog .entry)) (now (calls .entry)) (now (acts .entry)) r (now (catalog .exit)) (now (calls .exit)) (now (acts .exit)) ⌝ }
 {
     let table = seen.table;
     if !seen.named {
@@ -348,6 +352,7 @@ pub fn lead(
 
 // The input's end: all is read behind the names of the last table.
 pub fn ended(seen: Seen, at: u32) -> Scanned
+    ensures { λ r. ⌜ (r .verdict ≡ endVerdict seen at) × (r .seen ≡ seen) ⌝ }
     ensures { λ r. ⌜ LeadsBy seen (λ v. atEnd v at) r ⌝ }
 {
     if seen.named {

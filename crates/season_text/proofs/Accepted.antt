@@ -12,7 +12,7 @@ use Rattle.landlord.specs.Plan.{Priced, costs, fault}
 use Rattle.season_tables.specs.Tables.{Sofar, Led, on, stop, readingOf}
 use Rattle.season_tables.proofs.Sound.{accepted-sound}
 use Rattle.season_plan.specs.Plans.{priceOf}
-use Rattle.season_text.specs.Answer.{Outcome, refused, reported, priced, judged, outcomeOf}
+use Rattle.season_text.specs.Answer.{Outcome, refused, reported, priced, readingOutcome, outcomeOf}
 use Rattle.season_text.specs.Claims.{Accepted}
 use Rattle.season_text.proofs.Season.{calls-accepted, text-compared}
 
@@ -36,7 +36,7 @@ short false o t e = absurd (not-refused (InputTooLong 0) t e)
 pub report-accepted : (s t : List ℕ) → outcomeOf s ≡ reported t → Accepted s t
 unfolding outcomeOf
 report-accepted s t e =
-    let fits = short (leb (length s) 65536) (judged (readingOf s)) t e in
+    let fits = short (leb (length s) 65536) (readingOutcome (readingOf s)) t e in
     read (readingOf s) refl (leb-true (length s) 65536 (fits .0)) (fits .1)
   where
     price : (v : Sofar) → readingOf s ≡ on v → length s ≤ 65536 → (p : Priced) → priceOf v ≡ p → priced v p ≡ reported t → Accepted s t
@@ -53,6 +53,6 @@ report-accepted s t e =
         }
     price v is few (fault f) at h = absurd (not-refused _ t h)
 
-    read : (led : Led) → readingOf s ≡ led → length s ≤ 65536 → judged led ≡ reported t → Accepted s t
+    read : (led : Led) → readingOf s ≡ led → length s ≤ 65536 → readingOutcome led ≡ reported t → Accepted s t
     read (on v) is few h = price v is few (priceOf v) refl h
     read (stop r) is few h = absurd (not-refused r t h)

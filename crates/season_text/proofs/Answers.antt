@@ -1,41 +1,44 @@
 -- Laws of `answer` and `output`: what each way through them says of the text. Assumes nothing.
 use mathlib.Core.Path.{_≡_, refl, sym, ap, subst, _∙_}
 use mathlib.Core.List.{List}
-use Prim.Native.Nat.{ℕ, _+_, _*_, _-_, _≤_, _<_}
+use Prim.Native.Nat.{ℕ, _*_, _≤_, _<_}
 use lib.ListN.{length, take}
 use lib.Seq.{length-take-le, take-take}
 use native.Mathlib.Omega.{arith}
-use native.Mathlib.Nat.{mul-le-mul}
 use borrow.Author.Tests.{le-leb, lt-leb}
 use Rattle.landlord.specs.declared.Refusal.{Refusal}
 use Rattle.landlord.specs.declared.Refusal.the-variants.{InputTooLong}
-use Rattle.landlord.specs.Figures.{Standing, totalCost}
-use Rattle.landlord.specs.Plan.{Priced, costs, fault}
-use Rattle.cache_state.specs.Cache.{Cache}
+use Rattle.landlord.specs.Types.{refusalNumber, refusalLine}
+use Rattle.landlord.specs.Figures.{Standing}
+use Rattle.landlord.specs.Plan.{faultRefusal, Priced, costs, fault}
 use Rattle.cache_state.specs.View.{view}
 use Rattle.catalog_bytes.specs.Catalogs.{catalogIn}
 use Rattle.layout.specs.Layout.{cacheOf}
-use Rattle.report.specs.declared.Rival.{Rival}
-use Rattle.report.specs.declared.Rival.the-variants.{Priced as Against}
+use Rattle.report.specs.declared.Rival.the-variants.{Against}
 use Rattle.report.specs.declared.Written.{Written}
 use Rattle.report.specs.declared.Written.the-variants.{Refused}
-use Rattle.report.specs.Report.{reportOf, Put, RivalFits, longest}
+use Rattle.report.specs.Report.{reportOf, Put, longest}
+use Rattle.report.specs.Inner.{RivalOk}
 use Rattle.season_tables.specs.declared.Seen.{Seen}
 use Rattle.season_tables.specs.declared.Scanned.{Scanned}
 use Rattle.season_tables.specs.declared.Verdict.{Verdict}
 use Rattle.season_tables.specs.declared.Verdict.the-variants.{Taken, Refused as Stopped}
 use Rattle.season_tables.specs.Tables.{Sofar, Led, on, stop, readingOf}
-use Rattle.season_tables.specs.Holds.{Holds, Leads, Roomy}
-use Rattle.season_tables.specs.Sound.{Sound}
-use Rattle.season_scan.specs.Few.{Few}
+use Rattle.season_tables.specs.Inner.{Holds, Leads}
+use Rattle.season_tables.specs.InnerSound.{Sound}
+use Rattle.season_scan.specs.Inner.{Few}
 use Rattle.season_plan.specs.declared.Price.{Price}
 use Rattle.season_plan.specs.declared.Price.the-variants.{Cost, Refused as Faulty}
-use Rattle.season_plan.specs.Plans.{priceOf, answerTo}
-use Rattle.season_plan.specs.Copies.{Priceable, PricedAs}
-use Rattle.season_text.specs.Answer.{Outcome, refused, reported, closedSeason, leftOf, rightOf, reportAgainst, priced, judged, outcomeOf, answerOn, pageWith, Answered, ReportFits}
-use Rattle.season_text.specs.Runs.{ClosedAt, Closes, Comparable, Reportable, Reports, against}
+use Rattle.season_plan.specs.Plans.{faultLine, priceOf, PricedBy}
+use Rattle.season_plan.specs.Inner.{Priceable, PricedAs}
+use Rattle.season_text.specs.Answer.{Outcome, refused, reported, closedSeason, reportAgainst, priced, readingOutcome, outcomeOf, outcomeNumber, outcomeLine, outcomeLength, pageWith, TextAnswered, ReportFits}
+use Rattle.season_text.specs.Inner.{ClosedAt, Closes, Reportable, Reports}
 use Rattle.season_tables.proofs.Sound.{accepted-sound}
+use Rattle.season_plan.proofs.Costs.{fault-some}
+use Rattle.report.proofs.Answers.{refused-some}
 use Rattle.report.proofs.Longest.{no-longer}
+use Rattle.season_text.proofs.Season.{season-capacity}
+use Rattle.season_text.proofs.LineNumbers.{fault-told}
 
 -- an accepted text in the slices, of which the first has the bytes of its items alone
 pub record Reads (s : List ℕ) (x : Seen) (xs calls acts : List ℕ) : Type 0 where
@@ -49,7 +52,7 @@ pub record Reads (s : List ℕ) (x : Seen) (xs calls acts : List ℕ) : Type 0 w
   pub forSteps : length calls ≡ 43692
   pub forActs : length acts ≡ 32769
 
--- what a verdict or a price holds, told apart by its case
+-- what a verdict holds, told apart by its case
 abbrev stopOf : Verdict → Refusal
 stopOf Taken = InputTooLong 0
 stopOf (Stopped x) = x
@@ -58,23 +61,8 @@ abbrev isStopped : Verdict → Type 0
 isStopped Taken = ⊥
 isStopped (Stopped x) = Unit {0}
 
-abbrev faultOf : Price → Refusal
-faultOf (Cost c) = InputTooLong 0
-faultOf (Faulty x) = x
-
-abbrev costOf : Price → ℕ
-costOf (Cost c) = c
-costOf (Faulty x) = 0
-
-abbrev isFaulty : Price → Type 0
-isFaulty (Cost c) = ⊥
-isFaulty (Faulty x) = Unit {0}
-
 not-taken : (x : Refusal) → Stopped x ≡ Taken → ⊥
 not-taken x e = subst isStopped e tt
-
-not-cost : (x : Refusal) (c : ℕ) → Faulty x ≡ Cost c → ⊥
-not-cost x c e = subst isFaulty e tt
 
 -- what has been read is held in the bytes of the items read
 items-hold : (x : Seen) (catalog calls acts : List ℕ) (v : Sofar) → Holds x catalog calls acts v → Holds x (take (5 * x .n) catalog) calls acts v
@@ -105,10 +93,12 @@ pub taken-reads :
     length s ≤ 65536 →
     Leads (readingOf s) r catalog calls acts →
     Few (readingOf s) r →
-    Roomy catalog calls acts →
+    length catalog ≡ 1280 →
+    length calls ≡ 43692 →
+    length acts ≡ 32769 →
     r .verdict ≡ Taken →
     Reads s (r .seen) (take (5 * r .seen .n) catalog) calls acts
-taken-reads s r catalog calls acts short leads few roomy e = go (readingOf s) refl leads few
+taken-reads s r catalog calls acts short leads few forItems forSteps forActs e = go (readingOf s) refl leads few
   where
     go : (led : Led) → readingOf s ≡ led → Leads led r catalog calls acts → Few led r → Reads s (r .seen) (take (5 * r .seen .n) catalog) calls acts
     go (on v) is l f =
@@ -117,11 +107,11 @@ taken-reads s r catalog calls acts short leads few roomy e = go (readingOf s) re
           reads = is;
           holds = items-hold (r .seen) catalog calls acts v (l .1);
           sound = accepted-sound s v short is;
-          items = length-take-le (5 * r .seen .n) catalog (omega (arith, l .1 .few, roomy .forItems));
+          items = length-take-le (5 * r .seen .n) catalog (omega (arith, l .1 .few, forItems));
           fewSteps = f .0;
           fewActs = f .1;
-          forSteps = roomy .forSteps;
-          forActs = roomy .forActs;
+          forSteps = forSteps;
+          forActs = forActs;
         }
     go (stop x) is l f = absurd (not-taken x (sym l ∙ e))
 
@@ -153,28 +143,45 @@ reportable {acts = acts} r small =
 
 -- what `answer` ensures
 abbrev Tells : List ℕ → List ℕ → Written → List ℕ → Type 0
-Tells s page r after = Answered s page r after × ReportFits (outcomeOf s)
+Tells s page r after = TextAnswered s page r after × ReportFits (outcomeOf s)
 
--- it follows from the outcome
-answers :
-    (s page after : List ℕ) (r : Written) (o : Outcome) →
-    outcomeOf s ≡ o →
-    r ≡ answerOn o page →
-    after ≡ pageWith o page →
-    ReportFits o →
-    Tells s page r after
-answers s page after r o is e p f = (
-  record { answer = e ∙ ap (λ (z : Outcome). answerOn z page) (sym is); page = p ∙ ap (λ (z : Outcome). pageWith z page) (sym is) },
-  subst ReportFits (sym is) f,
+-- it follows from the outcome: a refusal that leaves the page as it was, or a report put on it
+tells-refusal :
+    (s page : List ℕ) (x y : Refusal) → outcomeOf s ≡ refused y → refusalNumber x ≡ refusalNumber y → refusalLine x ≡ refusalLine y →
+    Tells s page (Refused x) page
+tells-refusal s page x y is n l = (
+  record {
+    answer = n ∙ ap (λ (o : Outcome). outcomeNumber o page) (sym is);
+    line = l ∙ ap outcomeLine (sym is);
+    size = ap (λ (o : Outcome). outcomeLength o page) (sym is);
+    page = ap (λ (o : Outcome). pageWith o page) (sym is);
+  },
+  subst ReportFits (sym is) tt,
 )
+
+tells-report :
+    (s before after : List ℕ) (w : Written) (t : List ℕ) → outcomeOf s ≡ reported t → Put t before w after → length t ≤ longest → Tells s before w after
+tells-report s before after w t is put few = (
+  record {
+    answer = put .answer ∙ ap (λ (o : Outcome). outcomeNumber o before) (sym is);
+    line = put .line ∙ ap outcomeLine (sym is);
+    size = put .size ∙ ap (λ (o : Outcome). outcomeLength o before) (sym is);
+    page = put .page ∙ ap (λ (o : Outcome). pageWith o before) (sym is);
+  },
+  subst ReportFits (sym is) few,
+)
+
+long-outcome : (s : List ℕ) → 65536 < length s → outcomeOf s ≡ refused (InputTooLong 0)
+unfolding outcomeOf
+long-outcome s l = rw (lt-leb (length s) 65536 l)
 
 -- "16 first"
 pub too-long : (s page : List ℕ) → 65536 < length s → Tells s page (Refused (InputTooLong 0)) page
-too-long s page l = answers s page page (Refused (InputTooLong 0)) (refused (InputTooLong 0)) (unfold outcomeOf in rw (lt-leb (length s) 65536 l)) refl refl tt
+too-long s page l = tells-refusal s page (InputTooLong 0) (InputTooLong 0) (long-outcome s l) refl refl
 
-short-outcome : (s : List ℕ) (led : Led) → length s ≤ 65536 → readingOf s ≡ led → outcomeOf s ≡ judged led
+short-outcome : (s : List ℕ) (led : Led) → length s ≤ 65536 → readingOf s ≡ led → outcomeOf s ≡ readingOutcome led
 unfolding outcomeOf
-short-outcome s led l e = rw (le-leb (length s) 65536 l) (ap judged e)
+short-outcome s led l e = rw (le-leb (length s) 65536 l) (ap readingOutcome e)
 
 -- the first faulty line decides
 pub line-refused :
@@ -188,7 +195,16 @@ line-refused s page r catalog calls acts x short leads e = go (readingOf s) refl
     go : (led : Led) → readingOf s ≡ led → Leads led r catalog calls acts → Tells s page (Refused x) page
     go (on v) is l = absurd (not-taken x (sym e ∙ l .0))
     go (stop y) is l =
-        answers s page page (Refused x) (refused y) (short-outcome s (stop y) short is) (ap (λ (z : Verdict). Refused (stopOf z)) (sym e ∙ l)) refl tt
+        let same : x ≡ y = ap stopOf (sym e ∙ l) in
+        tells-refusal s page x y (short-outcome s (stop y) short is) (ap refusalNumber same) (ap refusalLine same)
+
+-- the price of the plan of the text that the slices hold, for an answer that is known to be q
+priced-as :
+    {s : List ℕ} {x : Seen} {xs calls acts : List ℕ} {p q : Price} (r : Reads s x xs calls acts) →
+    PricedAs x xs calls acts p →
+    p ≡ q →
+    PricedBy (r .text) (priceOf (r .text)) q
+priced-as r h e = subst (PricedBy (r .text) (priceOf (r .text))) e (h (r .text) (r .holds) (r .sound))
 
 -- then the plan's first fault
 pub plan-refused :
@@ -198,12 +214,14 @@ pub plan-refused :
     PricedAs x xs calls acts p →
     p ≡ Faulty y →
     Tells s page (Refused y) page
-plan-refused {s = s} page y short r h told = go (priceOf (r .text)) refl (sym told ∙ h (r .text) (r .holds) (r .sound))
+plan-refused {s = s} page y short r h told = go (priceOf (r .text)) refl (priced-as r h told)
   where
-    go : (p : Priced) → priceOf (r .text) ≡ p → Faulty y ≡ answerTo (r .text) p → Tells s page (Refused y) page
-    go (costs c) is e = absurd (not-cost y c e)
-    go (fault f) is e =
-        answers s page page (Refused y) (priced (r .text) (fault f)) (short-outcome s (on (r .text)) short (r .reads) ∙ ap (priced (r .text)) is) (ap (λ (z : Price). Refused (faultOf z)) e) refl tt
+    go : (p : Priced) → priceOf (r .text) ≡ p → PricedBy (r .text) p (Faulty y) → Tells s page (Refused y) page
+    go (costs c) is by = absurd (refused-some y (by .number))
+    go (fault f) is by =
+        let n : ℕ = faultLine (r .text) f in
+        tells-refusal s page y (faultRefusal f n) (short-outcome s (on (r .text)) short (r .reads) ∙ ap (priced (r .text)) is)
+        (by .number ∙ fault-told f n .0) (by .line ∙ fault-told f n .1)
 
 -- else the report
 pub season-reported :
@@ -214,72 +232,47 @@ pub season-reported :
     p ≡ Cost cost →
     Reports x xs calls cost before w after →
     Tells s before w after
-season-reported {s = s} {before = before} {acts = acts} {cost = cost} {w = w} {after = after} short r h told put = go (priceOf (r .text)) refl (sym told ∙ h (r .text) (r .holds) (r .sound))
+season-reported {s = s} {before = before} {acts = acts} {cost = cost} {w = w} {after = after} short r h told put =
+    go (priceOf (r .text)) refl (priced-as r h told)
   where
-    go : (p : Priced) → priceOf (r .text) ≡ p → Cost cost ≡ answerTo (r .text) p → Tells s before w after
-    go (costs c) is e =
+    go : (p : Priced) → priceOf (r .text) ≡ p → PricedBy (r .text) p (Cost cost) → Tells s before w after
+    go (costs c) is by =
         let q : Put (reportAgainst (r .text) c) before w after × (length (reportAgainst (r .text) c) ≤ longest) =
-        subst (λ (z : ℕ). Put (reportAgainst (r .text) z) before w after × (length (reportAgainst (r .text) z) ≤ longest)) (ap costOf e) (put acts (r .text) (r .holds) (r .sound)) in
-        answers s before after w (reported (reportAgainst (r .text) c)) (short-outcome s (on (r .text)) short (r .reads) ∙ ap (priced (r .text)) is) (q .0 .answer) (q .0 .page) (q .1)
-    go (fault f) is e = absurd (not-cost _ cost (sym e))
+        subst (λ (z : ℕ). Put (reportAgainst (r .text) z) before w after × (length (reportAgainst (r .text) z) ≤ longest)) (by .cost) (put acts (r .text) (r .holds) (r .sound)) in
+        tells-report s before after w (reportAgainst (r .text) c) (short-outcome s (on (r .text)) short (r .reads) ∙ ap (priced (r .text)) is) (q .0) (q .1)
+    go (fault f) is by = absurd (fault-some f (sym (by .number)))
 
--- the report of a state where the closed season stands, with both sides of the bound, is the text's
-same-report :
-    (x : Seen) (xs calls acts : List ℕ) (v : Sofar) (cost : ℕ) (c : Cache) →
-    Holds x xs calls acts v →
-    view c ≡ closedSeason v →
-    reportOf (view c) (against (x .k) (x .h) cost c) ≡ reportAgainst v cost
-same-report x xs calls acts v cost c holds stands =
-    ap (λ (z : Standing). reportOf z (against (x .k) (x .h) cost c)) stands ∙ ap (reportOf (closedSeason v)) figures
-  where
-    total : c .loadcost + c .writecost ≡ totalCost (closedSeason v .figures)
-    total = ap (λ (z : Standing). totalCost (z .figures)) stands
+-- the text's plan has 1 to k blocks
+pub plan-blocks : {x : Seen} {xs calls : List ℕ} {cost : ℕ} → Reportable x xs calls cost → (1 ≤ x .h) × (x .h ≤ x .k)
+plan-blocks r = (
+  subst (λ (h : ℕ). 1 ≤ h) (sym (r .holds .h)) (r .sound .rivalLow),
+  subst (λ (k : ℕ). _ ≤ k) (sym (r .holds .k)) (subst (λ (h : ℕ). h ≤ r .text .k) (sym (r .holds .h)) (r .sound .rivalHigh)),
+)
 
-    figures : against (x .k) (x .h) cost c ≡ Against cost (leftOf v) (rightOf v cost)
-    figures =
-        ap (λ (k : ℕ). against k (x .h) cost c) (holds .k)
-        ∙ ap (λ (h : ℕ). against (v .k) h cost c) (holds .h)
-        ∙ ap (λ (z : ℕ). Against cost ((v .k - v .h + 1) * z) (v .k * cost)) total
-
--- the state of a closed season and a plan's cost can be compared
-pub comparable :
-    (x : Seen) (xs calls : List ℕ) (cost : ℕ) (state : List ℕ) →
+-- such a plan is in range for the state of the text's closed season
+pub rival-ok :
+    {x : Seen} {xs calls : List ℕ} {cost : ℕ} {state : List ℕ} (h : ℕ) →
     Reportable x xs calls cost →
     Closes x xs calls state →
-    Comparable (x .k) (x .h) cost state
-comparable x xs calls cost state r closes =
-    let h = r .holds in
-    let ok = r .sound in
-    record {
-      valid = closes (r .acts) (r .text) h ok .valid;
-      capacity = subst (λ (k : ℕ). k ≤ 4096) (sym (h .k)) (ok .capacity .high);
-      low = subst (λ (z : ℕ). 1 ≤ z) (sym (h .h)) (ok .rivalLow);
-      high = subst (λ (z : ℕ). z ≤ x .k) (sym (h .h)) (subst (λ (z : ℕ). r .text .h ≤ z) (sym (h .k)) (ok .rivalHigh));
-      small = r .small;
-    }
+    (1 ≤ h) × (h ≤ x .k) →
+    RivalOk (view (cacheOf state)) (Against h cost)
+rival-ok {state = state} h r closes blocks =
+    let stands = closes (r .acts) (r .text) (r .holds) (r .sound) .stands in
+    let same : view (cacheOf state) .k ≡ r .text .k = ap (λ (z : Standing). z .k) stands ∙ season-capacity (r .text) (r .sound) in
+    (blocks .0, subst (λ (k : ℕ). h ≤ k) (r .holds .k ∙ sym same) (blocks .1), r .small)
 
--- a total, and so each side of the bound, fits its word: a valid state has loaded and written back at most 1,000,000 times each, at
--- 65,535 at most
-pub figures-fit : (k h cost : ℕ) (state : List ℕ) → Comparable k h cost state → RivalFits (against k h cost (cacheOf state))
-figures-fit k h cost state ok =
-    let r = ok .valid .cache .rule in
-    let left : (k - h + 1) * (cacheOf state .loadcost + cacheOf state .writecost) ≤ 4096 * 131070000000 =
-    mul-le-mul {n₂ = 4096} {m₂ = 131070000000} (omega (arith, ok .capacity, ok .low, ok .high))
-    (omega (arith, r .loadCost, r .writeCost, r .steps, r .taken, r .writebacks)) in
-    let right : k * cost ≤ 4096 * 1000000000000 = mul-le-mul (ok .capacity) (ok .small) in
-    (omega (arith, ok .small), omega (arith, left), omega (arith, right))
-
--- the report of an accepted text, on the page
+-- the report of a state where the closed season stands, against the text's plan, is the text's: so it stands on the page
 pub reports-season :
-    {x : Seen} {xs calls acts : List ℕ} {v : Sofar} {cost : ℕ} {state before : List ℕ} {rival : Rival} {w : Written} {after : List ℕ} →
+    {x : Seen} {xs calls acts : List ℕ} {v : Sofar} {cost : ℕ} {state before : List ℕ} {w : Written} {after : List ℕ} →
     Holds x xs calls acts v →
     ClosedAt (closedSeason v) state →
-    Comparable (x .k) (x .h) cost state →
-    rival ≡ against (x .k) (x .h) cost (cacheOf state) →
-    Put (reportOf (view (cacheOf state)) rival) before w after →
+    RivalOk (view (cacheOf state)) (Against (x .h) cost) →
+    Put (reportOf (view (cacheOf state)) (Against (x .h) cost)) before w after →
     Put (reportAgainst v cost) before w after × (length (reportAgainst v cost) ≤ longest)
-reports-season {x = x} {xs = xs} {calls = calls} {acts = acts} {v = v} {cost = cost} {state = state} {before = before} {w = w} {after = after} holds closed ok e put =
-    let same = same-report x xs calls acts v cost (cacheOf state) holds (closed .stands) in (
-      subst (λ (t : List ℕ). Put t before w after) (ap (reportOf (view (cacheOf state))) e ∙ same) put,
-      subst (λ (t : List ℕ). length t ≤ longest) same (no-longer (cacheOf state) (against (x .k) (x .h) cost (cacheOf state)) (ok .valid .cache) (figures-fit (x .k) (x .h) cost state ok)),
+reports-season {x = x} {v = v} {cost = cost} {state = state} {before = before} {w = w} {after = after} holds closed fair put =
+    let same : reportOf (view (cacheOf state)) (Against (x .h) cost) ≡ reportAgainst v cost =
+    ap (λ (z : Standing). reportOf z (Against (x .h) cost)) (closed .stands)
+    ∙ ap (λ (h : ℕ). reportOf (closedSeason v) (Against h cost)) (holds .h) in (
+      subst (λ (t : List ℕ). Put t before w after) same put,
+      subst (λ (t : List ℕ). length t ≤ longest) same (no-longer (cacheOf state) (Against (x .h) cost) (closed .valid .cache) fair),
     )

@@ -11,7 +11,7 @@ use Rattle.landlord.specs.Types.{stepKind, stepItem, stepMinutes}
 use Rattle.landlord.specs.Fold.{tabFrom}
 use Rattle.landlord.specs.Calls.{Call, close, callOf}
 use Rattle.landlord.proofs.Folds.{tab-of}
-use Rattle.landlord.proofs.Calls.{opening-accepts}
+use Rattle.landlord.proofs.Ranges.{opening-accepts}
 use Rattle.catalog_bytes.specs.Catalogs.{catalogIn}
 use Rattle.cache.specs.Contract.{lent, openingNumber}
 use Rattle.cache.specs.Chain.{Season, SeasonLent}
@@ -19,10 +19,10 @@ use Rattle.cache.specs.Run.{callFrom, callAt, callsOf, RanLent}
 use Rattle.cache.proofs.Openings.{asks}
 use Rattle.cache.proofs.Runs.{count-is, call-at}
 use Rattle.season_tables.specs.declared.Seen.{Seen}
-use Rattle.season_tables.specs.Holds.{callNumbers}
+use Rattle.season_tables.specs.Inner.{callNumbers}
 use Rattle.season_plan.proofs.Places.{catalog-is}
 use Rattle.season_text.specs.Claims.{callsIn}
-use Rattle.season_text.specs.Runs.{Closable, Closes}
+use Rattle.season_text.specs.Inner.{Closable, Closes}
 use Rattle.season_text.proofs.Season.{text-stands}
 
 -- four numbers are one call more

@@ -2,5 +2,6 @@
 pub mod Season
 pub mod Closing
 pub mod Answers
+pub mod LineNumbers
 pub mod Prints
 pub mod Accepted

@@ -1,11 +1,10 @@
 -- An accepted text as a list of calls: each is accepted, the log is the text's steps and the closing, and so every state that such
 -- calls lead to stands where the rule stands over the closed season, within the wear bound of the text's plan. Assumes nothing.
-use mathlib.Core.Path.{_≡_, refl, ap, subst, _∙_}
+use mathlib.Core.Path.{_≡_, refl, sym, ap, subst, _∙_}
 use mathlib.Core.Bool.{true, false}
 use mathlib.Core.List.{List, [], _∷_, _++_, map}
-use Prim.Native.Nat.{ℕ, zero, suc, _+_, _-_, _≤_, _<_}
+use Prim.Native.Nat.{ℕ, zero, suc, _≤_, _<_}
 use native.Mathlib.Omega.{arith}
-use native.Mathlib.Nat.{mul-comm}
 use native.Mathlib.Decide.{ℕ-discrete}
 use lib.ListN.{length, getD, take, length-append, length-map}
 use lib.Seq.{length-take-le, getD-take, getD-at}
@@ -14,23 +13,25 @@ use Rattle.landlord.specs.declared.Step.the-variants.{Flush}
 use Rattle.landlord.specs.Fold.{fold}
 use Rattle.landlord.specs.Catalog.{Catalog}
 use Rattle.landlord.specs.Slot.{writeFirst}
-use Rattle.landlord.specs.Figures.{totalCost}
+use Rattle.landlord.specs.Figures.{ran, totalCost, leftSide, rightSide}
 use Rattle.landlord.specs.Plan.{costs}
 use Rattle.landlord.specs.Calls.{Call, close, callOf, Log, noLog, refusalAt, refusalIn, refusal, joins, logOf, ruleOver}
-use Rattle.landlord.specs.Claims.{Allowed}
+use Rattle.landlord.specs.Claims.{AllowedLog}
 use Rattle.landlord.proofs.Folds.{fold-append}
 use Rattle.landlord.proofs.Slots.{write-first-ok}
-use Rattle.landlord.proofs.Calls.{allowed-logged, opening-accepts}
-use Rattle.landlord.proofs.Wear.{wear-bound}
+use Rattle.landlord.proofs.Calls.{allowed-logged}
+use Rattle.landlord.proofs.Logs.{all-served, ran-stands, closes-stands}
+use Rattle.landlord.proofs.Competitive.{competitive-bound}
+use Rattle.landlord.proofs.Ranges.{opening-accepts}
 use Rattle.cache_state.specs.View.{view}
 use Rattle.layout.specs.Layout.{cacheOf}
 use Rattle.cache.specs.Contract.{lent}
 use Rattle.cache.specs.Chain.{Season}
 use Rattle.cache.proofs.Season.{season-lent}
 use Rattle.season_tables.specs.Tables.{Sofar}
-use Rattle.season_tables.specs.Sound.{Sound}
+use Rattle.season_tables.specs.InnerSound.{Sound}
 use Rattle.season_plan.specs.Plans.{planOf, priceOf}
-use Rattle.season_text.specs.Answer.{closedSeason, rightOf}
+use Rattle.season_text.specs.Answer.{closedSeason}
 use Rattle.season_text.specs.Claims.{callsIn, AllAccepted, Compared}
 
 -- call i is step i
@@ -46,7 +47,7 @@ calls-before [] (suc i) l = absurd (let z : suc i ≤ 0 = l in omega arith)
 calls-before (s ∷ steps) (suc i) l = ap (λ (z : List Call). callOf s ∷ z) (calls-before steps i (omega arith))
 
 -- the first of the steps that the table lets through
-allowed-first : (k : ℕ) (cat : Catalog) (steps : List Step) (i : ℕ) → i ≤ length steps → Allowed k cat steps → Allowed k cat (take i steps)
+allowed-first : (k : ℕ) (cat : Catalog) (steps : List Step) (i : ℕ) → i ≤ length steps → AllowedLog k cat steps → AllowedLog k cat (take i steps)
 allowed-first k cat steps i l a = record { each = λ j b. at j (omega (arith, length-take-le i steps l)) }
   where
     at : (j : ℕ) → j < i → refusalAt k cat j false (callOf (getD (take i steps) j Flush)) ≡ 0
@@ -70,6 +71,15 @@ module _ (v : Sofar) (ok : Sound v) where
   pub text-stands : (numbers d : List ℕ) → Season lent (v .k) (v .catalog) (callsIn v) numbers d → view (cacheOf d) ≡ closedSeason v
   unfolding ruleOver
   text-stands numbers d so = so .stands ∙ ap (ruleOver writeFirst (v .k) (v .catalog)) text-log
+
+  -- the rule keeps the text's capacity
+  pub season-capacity : closedSeason v .k ≡ v .k
+  season-capacity =
+      let k = v .k in
+      let cat = v .catalog in
+      let steps = v .steps in
+      closes-stands k cat (length steps) (ran writeFirst k cat steps)
+      (ran-stands writeFirst k cat steps write-first-ok (ok .catalog) (all-served k cat steps (ok .allowed))) .capacity
 
   -- "The steps of an accepted text, with its closing, are such a list."
   pub calls-accepted : AllAccepted v
@@ -96,6 +106,7 @@ text-compared v cost ok e =
     record {
       figures = λ xs numbers d same chain.
           text-stands v ok numbers d (subst (λ (cat : Catalog). Season lent (v .k) cat (callsIn v) numbers d) same (season-lent (v .k) xs (callsIn v) numbers d chain .season));
-      bound = subst (λ (n : ℕ). n ≤ rightOf v cost) (mul-comm (totalCost (closedSeason v .figures)) (v .k - v .h + 1))
-          (wear-bound writeFirst write-first-ok (v .k) (v .catalog) (ok .catalog) (v .steps) (ok .allowed) (v .h) (ok .rivalLow) (ok .rivalHigh) (planOf (v .acts)) cost e);
+      capacity = season-capacity v ok;
+      bound = subst (λ (k : ℕ). leftSide k (v .h) (totalCost (closedSeason v .figures)) ≤ rightSide k cost) (sym (season-capacity v ok))
+          (competitive-bound writeFirst write-first-ok (v .k) (v .catalog) (ok .catalog) (v .steps) (ok .allowed) (v .h) (ok .rivalLow) (ok .rivalHigh) (planOf (v .acts)) cost e);
     }

@@ -4,6 +4,7 @@ use mathlib.Core.Path.{_≡_}
 use mathlib.Core.List.{List, [], _∷_, _++_, map}
 use Prim.Native.Nat.{ℕ, _≤_, _<_}
 use lib.ListN.{length, getD, take}
+use Rattle.landlord.specs.Figures.{totalCost, leftSide, rightSide}
 use Rattle.landlord.specs.Plan.{costs}
 use Rattle.landlord.specs.Calls.{Call, close, callOf, openingRefusal, refusal}
 use Rattle.catalog_bytes.specs.Catalogs.{catalogIn}
@@ -12,7 +13,7 @@ use Rattle.layout.specs.Layout.{cacheOf}
 use Rattle.cache.specs.Chain.{ChainLent}
 use Rattle.season_tables.specs.Tables.{Sofar, on, readingOf}
 use Rattle.season_plan.specs.Plans.{priceOf}
-use Rattle.season_text.specs.Answer.{closedSeason, leftOf, rightOf, reportAgainst}
+use Rattle.season_text.specs.Answer.{closedSeason, reportAgainst}
 
 -- the calls made of its steps, and one closing
 abbrev pub callsIn : Sofar → List Call
@@ -23,15 +24,16 @@ pub record AllAccepted (v : Sofar) : Type 0 where
   pub opening : openingRefusal (v .k) (v .catalog) ≡ 0
   pub each : (i : ℕ) → i < length (callsIn v) → refusal (v .k) (v .catalog) (take i (callsIn v)) (getD (callsIn v) i close) ≡ 0
 
--- The figures reported are those of the state that any chain of these calls ends in, from any bytes of the same catalog, of which the season theorem speaks; and left
--- is at most right.
+-- The figures reported are those of the state that any chain of these calls ends in, from any bytes of the same catalog, of which the season theorem speaks; the
+-- capacity reported is the text's; and left is at most right.
 pub record Compared (v : Sofar) (cost : ℕ) : Type 0 where
   pub figures :
       (xs numbers d : List ℕ) →
       catalogIn xs ≡ v .catalog →
       ChainLent (v .k) xs (callsIn v) numbers d →
       view (cacheOf d) ≡ closedSeason v
-  pub bound : leftOf v ≤ rightOf v cost
+  pub capacity : closedSeason v .k ≡ v .k
+  pub bound : leftSide (closedSeason v .k) (v .h) (totalCost (closedSeason v .figures)) ≤ rightSide (closedSeason v .k) cost
 
 -- What a report stands for: the text was accepted and its plan costs so much, the report is of these, and both claims hold of them.
 pub record Accepted (s t : List ℕ) : Type 0 where

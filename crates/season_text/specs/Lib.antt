@@ -1,4 +1,4 @@
 -- The definitions that the contracts of `season_text` cite. Assumes nothing.
 pub mod Answer
 pub mod Claims
-pub mod Runs
+pub mod Inner

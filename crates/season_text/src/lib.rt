@@ -1,10 +1,8 @@
 // A season's text to its report: the tables are read, the plan is priced, the season is run and closed, and the report is written.
-ghost use mathlib.Core.Path.{_≡_};
 ghost use Prim.Native.Nat.{_≤_};
 ghost use lib.ListN.{length};
-ghost use Rattle.layout.specs.Layout.{cacheOf};
-ghost use Rattle.season_text.specs.Answer.{outcomeOf, Answered, ReportFits, Printed};
-ghost use Rattle.season_text.specs.Runs.{Closable, Closes, Comparable, against, Reportable, Reports};
+ghost use Rattle.season_text.specs.Answer.{outcomeOf, TextAnswered, ReportFits, Printed};
+ghost use Rattle.season_text.specs.Inner.{Closable, Closes, Reportable, Reports};
 use landlord::Refusal;
 use report::Rival;
 use report::Written;
@@ -26,20 +24,6 @@ fn close_season(seen: Seen, catalog: &[u8], calls: &mut [u32], state: &mut [u8])
     cache::run(state, seen.k, catalog, &calls[..end + 4], &mut answers);
 }
 
-// Both sides of the bound, for a plan of `h` blocks that costs so much.
-fn compared(k: u32, h: u32, cost: u64, state: &[u8]) -> Rival
-    requires { ⌜ Comparable k h cost (now state) ⌝ }
-    ensures { λ r. ⌜ r ≡ against k h cost (cacheOf (now (state .entry))) ⌝ }
-{
-    let total = layout::load_cost(state) + layout::write_cost(state);
-    let factor = (k - h + 1) as u64;
-    Rival::Priced {
-        cost: cost,
-        left: factor * total,
-        right: (k as u64) * cost,
-    }
-}
-
 // The report of an accepted text whose plan costs so much.
 fn report_season(
     seen: Seen,
@@ -53,13 +37,16 @@ fn report_season(
 {
     let mut state = [0u8; layout::STATE_BYTES];
     close_season(seen, catalog, calls, &mut state);
-    let rival = compared(seen.k, seen.h, cost, &state);
+    let rival = Rival::Against {
+        blocks: seen.h,
+        cost: cost,
+    };
     report::report(&state, rival, page)
 }
 
 // The answer to a text: refused, with every byte of the page as before; or accepted, with its report at the start of the page.
 pub fn answer(text: &[u8], page: &mut [u8]) -> Written
-    ensures { λ r. ⌜ Answered (now (text .entry)) (now (page .entry)) r (now (page .exit)) ⌝ }
+    ensures { λ r. ⌜ TextAnswered (now (text .entry)) (now (page .entry)) r (now (page .exit)) ⌝ }
     ensures { λ _. ⌜ ReportFits (outcomeOf (now (text .entry))) ⌝ }
 {
     if 65536 < text.len() {

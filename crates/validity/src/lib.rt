@@ -5,7 +5,7 @@ ghost use mathlib.Core.Path.{_≡_};
 ghost use Prim.Native.Nat.{_≤_};
 ghost use Rattle.landlord.specs.Figures.{totalsOf};
 ghost use Rattle.validity.specs.Decided.{Decided};
-ghost use Rattle.validity.specs.Tests.{CreditOk, MarksOk, EntryOk, CountsOk, SumsOk};
+ghost use Rattle.validity.specs.Inner.{CreditOk, MarksOk, EntryOk, CountsOk, SumsOk};
 
 // Whether a credit is a multiple of the item's blocks, and no more than the cost in shares.
 fn credit_ok(blocks: u8, cost: u16, credit: u64) -> bool

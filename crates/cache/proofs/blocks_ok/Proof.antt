@@ -3,7 +3,7 @@ use mathlib.Core.Path.{_≡_}
 use Prim.Native.Nat.{_≤_, _-_}
 use native.Mathlib.Omega.{arith}
 use Rattle.validity.proofs.Decides.{no, sure}
-use Rattle.cache.specs.Opening.{BlocksIn}
+use Rattle.cache.specs.Inner.{BlocksIn}
 use Rattle.cache.proofs.Openings.{has-item, no-blocks, more-blocks}
 use Rattle.cache.proofs.blocks_ok.Statement.{statement}
 use Rattle.cache.proofs.blocks_ok.Tie as tie

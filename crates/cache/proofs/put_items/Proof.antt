@@ -3,9 +3,9 @@ use mathlib.Core.Path.{_≡_, _∙_, sym}
 use Prim.Native.Nat.{_≤_, _-_}
 use native.Mathlib.Omega.{arith}
 use Rattle.layout.specs.Layout.{cacheOf}
-use Rattle.layout.specs.Stands.{Stands}
+use Rattle.layout.specs.Inner.{Stands}
 use Rattle.layout.proofs.Places.{readable}
-use Rattle.cache.specs.Opening.{enteredOf}
+use Rattle.cache.specs.Inner.{enteredOf}
 use Rattle.cache.proofs.Openings.{has-item, entered-none, entered-more}
 use Rattle.cache.proofs.put_items.Statement.{statement}
 use Rattle.cache.proofs.put_items.Tie as tie

@@ -6,14 +6,14 @@ use lib.ListN.{length}
 use lib.Seq.{length-sets}
 use Rattle.cache.specs.Contract.{lent}
 use Rattle.cache.specs.Run.{callsOf}
-use Rattle.cache.proofs.Runs.{count-is, call-at, Going, going-starts, going-on, going-ends}
+use Rattle.cache.proofs.Runs.{count-is, call-at, CallsGoing, going-starts, going-on, going-ends}
 use borrow.Author.Needs.{needs}
 use Rattle.cache.proofs.run_calls.Statement.{statement}
 use Rattle.cache.proofs.run_calls.Tie as tie
 
 abbrev Inv-loop : tie.InvT-loop
 Inv-loop b₀ calls answers₀ count at₀ i₀ b answers at i =
-    (i ≤ count) × (at ≡ 4 * i) × (count ≡ length calls / 4) × Going lent b₀ (callsOf calls) answers₀ i b answers
+    (i ≤ count) × (at ≡ 4 * i) × (count ≡ length calls / 4) × CallsGoing lent b₀ (callsOf calls) answers₀ i b answers
 
 abbrev μ-loop : tie.MeasureT-loop
 μ-loop b₀ calls answers₀ count at₀ i₀ b answers at i = count - i

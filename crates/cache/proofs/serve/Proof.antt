@@ -1,5 +1,5 @@
 -- `cache::serve` meets its contract: each need is a law of proofs/Steps.antt. Assumes nothing.
-use Rattle.cache.proofs.Steps.{passed-steps, passed-landing, passed-wanted, passed-minutes, room-servable, read-took, write-took}
+use Rattle.cache.proofs.Steps.{passed-steps, passed-flush, passed-wanted, passed-minutes, room-servable, read-took, write-took}
 use borrow.Author.Needs.{needs}
 use Rattle.cache.proofs.serve.Statement.{statement}
 use Rattle.cache.proofs.serve.Tie as tie
@@ -15,7 +15,7 @@ same-length c = search needs
 returns : tie.Need-returns
 returns c =
     let a = c .before .before .before .before .before .before .args in
-    passed-landing (a .b .now) (a .kind) (a .item) (a .minutes) (c .before .before .before .before .before .before .pre) _ (c .before .before .before .before .if1 .taken) (c .before .before .flush-step .ensures)
+    passed-flush (a .b .now) (a .kind) (a .item) (a .minutes) (c .before .before .before .before .before .before .pre) _ (c .before .before .before .before .if1 .taken) (c .before .before .flush-step .ensures)
 
 make-room-requires : tie.Need-make-room-requires
 make-room-requires c κs =

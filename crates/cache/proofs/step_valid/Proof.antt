@@ -1,6 +1,6 @@
 -- `cache::step_valid` meets its contract: refused, the bytes stay; else the step is served. Assumes nothing.
 use mathlib.Core.Path.{sym, _∙_}
-use Rattle.landlord.specs.Calls.{take}
+use Rattle.landlord.specs.Calls.{stepCall}
 use Rattle.cache.specs.Contract.{lent}
 use Rattle.cache.proofs.Calls.{refused-answers, step-answers}
 use borrow.Author.Needs.{needs}
@@ -16,7 +16,7 @@ same-length c = search needs
 returns : tie.Need-returns
 returns c =
     let a = c .before .before .before .before .args in
-    refused-answers lent (a .b .now) (take (a .kind) (a .item) (a .minutes)) _ (c .before .before .before .before .pre) (c .before .refused .ensures) (c .if1 .taken)
+    refused-answers lent (a .b .now) (stepCall (a .kind) (a .item) (a .minutes)) _ (c .before .before .before .before .pre) (c .before .refused .ensures) (c .if1 .taken)
 
 serve-requires : tie.Need-serve-requires
 serve-requires c κs = record { valid = c .before .before .before .before .before .pre; free = sym (c .before .before .refused .ensures) ∙ c .before .if1 .left }

@@ -4,7 +4,7 @@ use Prim.Native.Nat.{ℕ}
 use native.Mathlib.Omega.{arith}
 use borrow.Author.Needs.{needs}
 use lib.ListN.{drop}
-use Rattle.fields.specs.LittleEndian.{Below}
+use Rattle.fields.specs.Inner.{Below}
 use Rattle.fields.proofs.Laws.{unrun-lt, below-drop}
 use Rattle.validity.proofs.Decides.{no, denied, granted}
 use Rattle.cache_state.proofs.Checks.{Costs, parts-of, valid-of}

@@ -5,7 +5,7 @@ use native.Mathlib.Omega.{arith}
 use borrow.Author.Needs.{needs}
 use borrow.Author.Count.{below-none, below-more}
 use lib.ListN.{length}
-use Rattle.cache_state.specs.Parts.{EntryAt}
+use Rattle.cache_state.specs.InnerParts.{EntryAt}
 use Rattle.cache_state.proofs.Checks.{entries-fail, entries-end}
 use Rattle.validity.specs.Decided.{Decided}
 use Rattle.validity.proofs.Decides.{granted}

@@ -1,6 +1,6 @@
 -- `cache_check::past_ok` meets its contract: nine tests of runs and one of the marks find that every place is blank. Assumes nothing.
 use borrow.Author.Needs.{needs}
-use Rattle.cache_state.specs.Parts.{PastOk}
+use Rattle.cache_state.specs.InnerParts.{PastOk}
 use Rattle.validity.proofs.Decides.{no, denied, granted}
 use Rattle.layout.specs.Layout.{cacheOf}
 use Rattle.cache_check.proofs.Past.{RunsBlank, runs-blank, past-so}

@@ -1,12 +1,12 @@
 -- `cache_check::zeros` meets its contract. The loop's invariant: `all` is 0 exactly if every byte passed is. Assumes nothing.
 use Prim.Native.Nat.{_-_, _≤_}
 use native.Mathlib.Omega.{arith}
-use Rattle.cache_check.proofs.Blanks.{Passed, passed-none, passed-more, passed-all}
+use Rattle.cache_check.proofs.Blanks.{PassedOver, passed-none, passed-more, passed-all}
 use Rattle.cache_check.proofs.zeros.Statement.{statement}
 use Rattle.cache_check.proofs.zeros.Tie as tie
 
 abbrev Inv-loop : tie.InvT-loop
-Inv-loop b from to all₀ i₀ all i = (i ≤ to) × Passed b from i all
+Inv-loop b from to all₀ i₀ all i = (i ≤ to) × PassedOver b from i all
 
 abbrev μ-loop : tie.MeasureT-loop
 μ-loop b from to all₀ i₀ all i = to - i

@@ -7,9 +7,9 @@ use native.Mathlib.Omega.{arith}
 use borrow.Author.Needs.{needs}
 use Rattle.cache_state.specs.Cache.{Cache}
 use Rattle.layout.specs.Layout.{cacheOf}
-use Rattle.layout.specs.Stands.{Stands}
+use Rattle.layout.specs.Inner.{Stands}
 use Rattle.layout.proofs.Places.{readable}
-use Rattle.cache_room.specs.Room.{chargedOf}
+use Rattle.cache_room.specs.Inner.{chargedOf}
 use Rattle.cache_room.proofs.Stores.{loss-fits}
 use Rattle.cache_room.proofs.Bytes.{charge-begun, charge-stored, charge-passed}
 use Rattle.cache_room.proofs.charge.Statement.{statement}

@@ -7,14 +7,15 @@ use borrow.Author.Needs.{needs}
 use Rattle.landlord.specs.Rule.{heldCount}
 use Rattle.cache_state.specs.View.{stateOf}
 use Rattle.layout.specs.Layout.{cacheOf}
-use Rattle.layout.specs.Stands.{Readable}
+use Rattle.layout.specs.Inner.{Readable}
 use Rattle.layout.proofs.Places.{valid-reads}
-use Rattle.cache_room.proofs.Rooms.{Going, Gone, going-starts, going-on, room-hit, room-miss}
+use Rattle.cache_room.proofs.Rooms.{RoomGoing, Gone, going-starts, going-on, room-hit, room-miss}
 use Rattle.cache_room.proofs.make_room.Statement.{statement}
 use Rattle.cache_room.proofs.make_room.Tie as tie
+use Rattle.landlord.proofs.Ranges.{capacity-facts}
 
 abbrev Inv-loop : tie.InvT-loop
-Inv-loop b₀ i n k blocks used₀ b used = Readable b × Going k blocks (cacheOf b₀) (cacheOf b) used
+Inv-loop b₀ i n k blocks used₀ b used = Readable b × RoomGoing k blocks (cacheOf b₀) (cacheOf b) used
 
 abbrev μ-loop : tie.MeasureT-loop
 μ-loop b₀ i n k blocks used₀ b used = heldCount (stateOf (cacheOf b))
@@ -79,7 +80,7 @@ loop-holds c =
 add-loop : tie.Need-add-loop Inv-loop μ-loop
 add-loop c =
     let so = c .loop .inv .1 in
-    omega (arith, c .before .before .before .blocks2 .ok, so .taken, so .valid .rule .kept .room, so .valid .rule .capacity .high)
+    omega (arith, c .before .before .before .blocks2 .ok, so .taken, so .valid .rule .kept .room, capacity-facts (cacheOf (c .loop .b) .k) (so .valid .rule .capacity) .high)
 
 evict-requires : tie.Need-evict-requires Inv-loop μ-loop
 evict-requires c κs =

@@ -6,7 +6,7 @@ use native.Mathlib.Omega.{arith}
 use lib.ListN.{getD}
 use Rattle.cache_state.specs.Cache.{Cache}
 use Rattle.layout.specs.Layout.{cacheOf}
-use Rattle.cache_room.specs.Room.{Ranked}
+use Rattle.cache_room.specs.Inner.{Ranked}
 use Rattle.cache_room.proofs.Views.{Choosing, choosing-starts, choosing-passes, choosing-first, choosing-less, choosing-keeps, choosing-ends, ranked}
 use Rattle.cache_room.proofs.Bytes.{turn-at}
 use Rattle.cache_room.proofs.victim.Statement.{statement}

@@ -1,7 +1,7 @@
 -- `cache_serve::serve_read` meets its contract: a law for each of its two ways. Assumes nothing.
 use borrow.Author.Needs.{needs}
 use mathlib.Core.Logic.{⊎-elim}
-use Rattle.cache_serve.proofs.InPlace.{Counted, hit-way, load-way, refillable, read-at}
+use Rattle.cache_serve.proofs.InPlace.{FoundOrLoaded, hit-way, load-way, refillable, read-at}
 use Rattle.cache_serve.proofs.serve_read.Statement.{statement}
 use Rattle.cache_serve.proofs.serve_read.Tie as tie
 
@@ -9,7 +9,7 @@ abbrev start : tie.Joined1 → tie.Start
 start j = j .before .before .before .before
 
 -- what has been counted when the ways meet
-counted : (j : tie.Joined1) → Counted (start j .args .b .now) (start j .args .i) (j .if1 .b)
+counted : (j : tie.Joined1) → FoundOrLoaded (start j .args .b .now) (start j .args .i) (j .if1 .b)
 counted j =
     let s = start j in
     let h = j .before .held in

@@ -3,7 +3,7 @@ use mathlib.Core.Path.{_≡_}
 use Prim.Native.Nat.{_≤_, _-_}
 use native.Mathlib.Omega.{arith}
 use Rattle.validity.proofs.Decides.{no, sure}
-use Rattle.cache_value.specs.Opening.{BlocksOk}
+use Rattle.cache_value.specs.Inner.{BlocksOk}
 use Rattle.cache_value.proofs.Openings.{no-blocks, more-blocks}
 use Rattle.cache_value.proofs.blocks_ok.Statement.{statement}
 use Rattle.cache_value.proofs.blocks_ok.Tie as tie

@@ -3,7 +3,7 @@ use mathlib.Core.Path.{_≡_, _∙_}
 use Prim.Native.Nat.{ℕ, _≤_, _-_}
 use native.Mathlib.Omega.{arith}
 use lib.ListN.{length, replicate, length-set, length-replicate}
-use Rattle.cache_value.specs.Opening.{FirstOf}
+use Rattle.cache_value.specs.Inner.{FirstOf}
 use Rattle.cache_value.proofs.Openings.{first-none, first-more}
 use Rattle.cache_value.proofs.first_bytes.Statement.{statement}
 use Rattle.cache_value.proofs.first_bytes.Tie as tie

@@ -4,7 +4,7 @@ use Prim.Native.Nat.{ℕ, _≤_, _-_}
 use native.Mathlib.Omega.{arith}
 use lib.ListN.{length, replicate, length-set, length-replicate}
 use borrow.Author.Needs.{needs}
-use Rattle.cache_value.specs.Opening.{FirstOf}
+use Rattle.cache_value.specs.Inner.{FirstOf}
 use Rattle.cache_value.proofs.Openings.{first-none, first-more}
 use Rattle.cache_value.proofs.first_costs.Statement.{statement}
 use Rattle.cache_value.proofs.first_costs.Tie as tie

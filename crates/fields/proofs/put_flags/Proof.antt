@@ -5,7 +5,7 @@ use native.Mathlib.Nat.{add-zero}
 use native.Mathlib.Omega.{arith}
 use lib.ListN.{length, drop, length-set}
 use lib.Seq.{sets}
-use Rattle.fields.specs.LittleEndian.{flags}
+use Rattle.fields.specs.Inner.{flags}
 use Rattle.fields.proofs.Turns.{flags-step, flags-done}
 use Rattle.fields.proofs.put_flags.Statement.{statement}
 use Rattle.fields.proofs.put_flags.Tie as tie

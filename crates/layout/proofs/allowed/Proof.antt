@@ -3,7 +3,7 @@
 use native.Mathlib.Omega.{arith}
 use borrow.Author.Needs.{needs}
 use borrow.Author.Tests.{ltb-true}
-use Rattle.layout.specs.Layout.{Allowed}
+use Rattle.layout.specs.Layout.{AllowedBytes}
 use Rattle.layout.proofs.Tests.{no, allowed-so}
 use Rattle.layout.proofs.allowed.Statement.{statement}
 use Rattle.layout.proofs.allowed.Tie as tie
@@ -12,13 +12,13 @@ get-requires : tie.Need-get-requires
 get-requires c κs = search needs
 
 returns : tie.Need-returns
-returns c = no (λ (a : Allowed (c .before .before .before .args .b .now)). omega (arith, a .format, c .before .get .ensures .0))
+returns c = no (λ (a : AllowedBytes (c .before .before .before .args .b .now)). omega (arith, a .format, c .before .get .ensures .0))
 
 get-requires-2 : tie.Need-get-requires-2
 get-requires-2 c κs = search needs
 
 returns-2 : tie.Need-returns-2
-returns-2 c = no (λ (a : Allowed (c .before .before .before .before .before .args .b .now)). omega (arith, a .closed, c .before .get2 .ensures .0, ltb-true))
+returns-2 c = no (λ (a : AllowedBytes (c .before .before .before .before .before .args .b .now)). omega (arith, a .closed, c .before .get2 .ensures .0, ltb-true))
 
 add-flags-ok : tie.Need-add-flags-ok
 add-flags-ok c = search needs

@@ -3,7 +3,7 @@ use mathlib.Core.Path.{_≡_, ap, _∙_}
 use Prim.Native.Nat.{ℕ, _+_, _*_}
 use native.Mathlib.Omega.{arith}
 use borrow.Author.Needs.{needs}
-use Rattle.layout.specs.Layout.{number, atBlocks}
+use Rattle.layout.specs.Layout.{numberAt, atBlocks}
 use Rattle.layout.proofs.Places.{number-at}
 use Rattle.layout.proofs.blocks.Statement.{statement}
 use Rattle.layout.proofs.blocks.Tie as tie
@@ -21,7 +21,7 @@ returns : tie.Need-returns
 returns c =
     let a = c .before .before .args in
     let e : a .i ≡ a .i * 1 = omega arith in
-    number-at 1 256 atBlocks (a .b .now) (a .i) _ (omega arith) (c .get .ensures .0 ∙ ap (λ (i : ℕ). number (a .b .now) (atBlocks + i) 1) e)
+    number-at 1 256 atBlocks (a .b .now) (a .i) _ (omega arith) (c .get .ensures .0 ∙ ap (λ (i : ℕ). numberAt (a .b .now) (atBlocks + i) 1) e)
 
 pub blocks-spec : {M : Type 1} → statement M
 blocks-spec = tie.close (tie.spec add-get get-requires cast-result returns)

@@ -1,11 +1,9 @@
 -- `layout::is_dirty` meets its contract: the word that it reads is the word of the mark. Assumes nothing.
-use mathlib.Core.Path.{_≡_}
-use Prim.Native.Nat.{ℕ, _/_}
+use Prim.Native.Nat.{_/_}
 use native.Mathlib.Omega.{arith}
 use borrow.Author.Needs.{needs}
-use lib.ListN.{getD}
 use Rattle.marks.specs.Marks.{bit, marked}
-use Rattle.layout.specs.Layout.{atDirty, numbers}
+use Rattle.layout.specs.Layout.{atDirty}
 use Rattle.layout.proofs.Places.{number-at}
 use Rattle.layout.proofs.is_dirty.Statement.{statement}
 use Rattle.layout.proofs.is_dirty.Tie as tie

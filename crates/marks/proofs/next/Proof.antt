@@ -9,7 +9,7 @@ use mir.Syntax.{w64}
 use lib.Count.{trailing-le}
 use lib.Dec.{lit<}
 use lib.ListN.{getD, drop}
-use Rattle.marks.specs.Marks.{marks, firstSet}
+use Rattle.marks.specs.Inner.{marks, firstSet}
 use Rattle.marks.proofs.Laws.{next-hit, next-skip, next-done}
 use Rattle.marks.proofs.next.Statement.{statement}
 use Rattle.marks.proofs.next.Tie as tie

@@ -6,7 +6,7 @@ use Rattle.recorder.proofs.recorder_report.Statement.{statement}
 use Rattle.recorder.proofs.recorder_report.Tie as tie
 
 report-requires : tie.Need-report-requires
-report-requires c κs = search needs
+report-requires c κs = λ v. tt
 
 enum-known-n : tie.Need-enum-known-n
 enum-known-n c = search needs

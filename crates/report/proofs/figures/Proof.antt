@@ -1,17 +1,15 @@
 -- `report::figures` meets its contract. Assumes nothing.
-use mathlib.Core.Logic.{⊎-elim}
+use mathlib.Core.Path.{_≡_}
 use borrow.Author.Needs.{needs}
+use lib.ListN.{length}
 use Rattle.cache_state.specs.View.{view}
 use Rattle.layout.specs.Layout.{cacheOf}
-use Rattle.report.proofs.Laws.{figures-alone, figures-priced}
+use Rattle.report.proofs.Laws.{totals-told}
 use Rattle.report.proofs.figures.Statement.{statement}
 use Rattle.report.proofs.figures.Tie as tie
 
-enum-known-rival : tie.Need-enum-known-rival
-enum-known-rival c = search needs
-
-enum-told : tie.Need-enum-told
-enum-told c = search needs
+rival-numbers-requires : tie.Need-rival-numbers-requires
+rival-numbers-requires c κs = search needs
 
 load-cost-requires : tie.Need-load-cost-requires
 load-cost-requires c κs = search needs
@@ -19,8 +17,8 @@ load-cost-requires c κs = search needs
 write-cost-requires : tie.Need-write-cost-requires
 write-cost-requires c κs = search needs
 
-add-total : tie.Need-add-total
-add-total c = search needs
+total-cost-requires : tie.Need-total-cost-requires
+total-cost-requires c κs = search needs
 
 hits-requires : tie.Need-hits-requires
 hits-requires c κs = search needs
@@ -52,39 +50,45 @@ writebacks-requires c κs = search needs
 wide-requires-5 : tie.Need-wide-requires-5
 wide-requires-5 c κs = search needs
 
+array-read-t20 : tie.Need-array-read-t20
+array-read-t20 c = search needs
+
+array-read-t23 : tie.Need-array-read-t23
+array-read-t23 c = search needs
+
+array-read-t26 : tie.Need-array-read-t26
+array-read-t26 c = search needs
+
 returns : tie.Need-returns
 returns c =
-    let a = c .before .before .before .before .before .before .before .before .before .before .before .before .before .before .args in
-    let m = c .before .before .before .before .before .before .before .before .before .before .before .before .match in
-    let v = view (cacheOf (a .b .now)) in
+    let a = c .before .before .before .before .before .before .before .before .before .before .before .before .before .before .before .args in
+    let more = c .before .before .before .before .before .before .before .before .before .before .before .before .before .rival-numbers in
+    let three : length (more .result) ≡ 3 = search needs in
     rw (
       c .before .before .before .before .before .before .before .before .wide .ensures,
       c .before .before .before .before .before .before .before .before .before .hits .ensures,
       c .before .before .before .before .before .before .wide2 .ensures,
       c .before .before .before .before .before .before .before .loads .ensures,
-      c .before .before .before .before .before .before .before .before .before .before .before .load-cost .ensures,
+      c .before .before .before .before .before .before .before .before .before .before .before .before .load-cost .ensures,
       c .before .before .before .before .wide3 .ensures,
       c .before .before .before .before .before .evictions .ensures,
       c .before .before .wide4 .ensures,
       c .before .before .before .dirty-evictions .ensures,
       c .wide5 .ensures,
       c .before .writebacks .ensures,
-      c .before .before .before .before .before .before .before .before .before .before .write-cost .ensures,
+      c .before .before .before .before .before .before .before .before .before .before .before .write-cost .ensures,
+      c .before .before .before .before .before .before .before .before .before .before .total-cost .ensures,
     )
-    (⊎-elim
-    (λ x. figures-priced v (a .rival) (m .cost) (m .left) (m .right) (rw (x .3, x .4, x .5) (x .1 .given .1)))
-    (λ x. figures-alone v (a .rival) (m .cost) (m .left) (m .right) (x .1 .given .1))
-    (m .came))
+    (totals-told (view (cacheOf (a .b .now))) (a .rival) (more .result) three (more .ensures))
 
 pub figures-spec : {M : Type 1} → statement M
 figures-spec =
     tie.close
     (tie.spec
-    enum-known-rival
-    enum-told
+    rival-numbers-requires
     load-cost-requires
     write-cost-requires
-    add-total
+    total-cost-requires
     hits-requires
     wide-requires
     loads-requires
@@ -95,4 +99,7 @@ figures-spec =
     wide-requires-4
     writebacks-requires
     wide-requires-5
+    array-read-t20
+    array-read-t23
+    array-read-t26
     returns)

@@ -8,26 +8,26 @@ use lib.ListN.{length, drop}
 use Rattle.cache_state.specs.View.{usesOf}
 use Rattle.layout.specs.Layout.{cacheOf}
 use Rattle.report.specs.Report.{lineOf, itemLines}
-use Rattle.report.proofs.Laws.{Going, go-start, go-as, go-room, go-next, go-end, items-next, items-end}
+use Rattle.report.proofs.Laws.{TextGoing, go-start, go-as, go-room, go-next, go-end, items-next, items-end}
 use Rattle.report.proofs.put_items.Statement.{statement}
 use Rattle.report.proofs.put_items.Tie as tie
 
 abbrev Inv-loop : tie.InvT-loop
 Inv-loop page₀ b n at₀ i₀ page at i =
     let uses = usesOf (cacheOf b) in
-    (i ≤ n) × Going (itemLines 0 uses) page₀ at (itemLines i (drop i uses)) page
+    (i ≤ n) × TextGoing (itemLines 0 uses) page₀ at (itemLines i (drop i uses)) page
 
 abbrev μ-loop : tie.MeasureT-loop
 μ-loop page₀ b n at₀ i₀ page at i = n - i
 
 count-requires : tie.Need-count-requires Inv-loop μ-loop
-count-requires c κs = c .before .before .pre .valid .size
+count-requires c κs = c .before .before .pre .0 .size
 
 loop-holds : tie.Need-loop-holds Inv-loop μ-loop
 loop-holds c = (omega arith, go-start (itemLines 0 (usesOf (cacheOf (c .before .before .before .args .b .now)))) (c .before .before .before .args .page .now))
 
 item-numbers-requires : tie.Need-item-numbers-requires Inv-loop μ-loop
-item-numbers-requires c κs = (c .before .before .before .before .before .pre .valid .size, omega (arith, c .before .before .count .ensures .0, c .before .before .before .before .before .pre .valid .cache .fields .few))
+item-numbers-requires c κs = (c .before .before .before .before .before .pre .0 .size, omega (arith, c .before .before .count .ensures .0, c .before .before .before .before .before .pre .0 .cache .fields .few))
 
 -- the line of the item is next
 line :
@@ -35,17 +35,17 @@ line :
     (let a = c .before .before .before .before .before .before .args in
     let l = c .before .before .loop in
     let uses = usesOf (cacheOf (a .b .now)) in
-    Going (itemLines 0 uses) (a .page .now) (l .at)
+    TextGoing (itemLines 0 uses) (a .page .now) (l .at)
     (lineOf (c .item-numbers .result) ++ itemLines (l .i + 1) (drop (l .i + 1) uses)) (l .page))
 line c =
     let l = c .before .before .loop in
     go-as (items-next (cacheOf (c .before .before .before .before .before .before .args .b .now)) (l .i) (c .item-numbers .result) (omega (arith, c .before .before .before .count .ensures .0)) (c .item-numbers .ensures)) (l .inv .1)
 
 sub-put-line : tie.Need-sub-put-line Inv-loop μ-loop
-sub-put-line c = omega (arith, c .before .before .before .before .before .before .pre .room)
+sub-put-line c = omega (arith, c .before .before .before .before .before .before .pre .1)
 
 part-put-line-start : tie.Need-part-put-line-start Inv-loop μ-loop
-part-put-line-start c = omega (arith, c .before .before .before .before .before .before .pre .room)
+part-put-line-start c = omega (arith, c .before .before .before .before .before .before .pre .1)
 
 part-put-line-end : tie.Need-part-put-line-end Inv-loop μ-loop
 part-put-line-end c = search needs
@@ -56,7 +56,7 @@ slice-aggregate-put-line c = search needs
 put-line-requires : tie.Need-put-line-requires Inv-loop μ-loop
 put-line-requires c κs =
     let l = c .before .before .before .before .loop in
-    go-room (c .before .before .before .before .before .before .before .before .pre .room) (l .at) (lineOf (c .before .before .item-numbers .result)) _ (l .page) (line (c .before .before))
+    go-room (c .before .before .before .before .before .before .before .before .pre .1) (l .at) (lineOf (c .before .before .item-numbers .result)) _ (l .page) (line (c .before .before))
 
 -- the item's line is written
 written :
@@ -64,13 +64,13 @@ written :
     (let a = c .before .before .before .before .before .before .before .before .before .args in
     let l = c .before .before .before .before .before .loop in
     let uses = usesOf (cacheOf (a .b .now)) in
-    Going (itemLines 0 uses) (a .page .now) (l .at + c .put-line .result) (itemLines (l .i + 1) (drop (l .i + 1) uses))
+    TextGoing (itemLines 0 uses) (a .page .now) (l .at + c .put-line .result) (itemLines (l .i + 1) (drop (l .i + 1) uses))
     (putMid (l .at) (length (l .page) - l .at) (l .page) (c .put-line .last .0)))
 written c =
-    go-next (c .before .before .before .before .before .before .before .before .before .pre .room) (lineOf (c .before .before .before .item-numbers .result)) _ (line (c .before .before .before)) (c .put-line .ensures .0) (c .put-line .ensures .1)
+    go-next (c .before .before .before .before .before .before .before .before .before .pre .1) (lineOf (c .before .before .before .item-numbers .result)) _ (line (c .before .before .before)) (c .put-line .ensures .0) (c .put-line .ensures .1)
 
 add-at : tie.Need-add-at Inv-loop μ-loop
-add-at c = omega (arith, c .before .before .before .before .before .before .before .before .before .before .before .pre .room, written (c .before .before) .count)
+add-at c = omega (arith, c .before .before .before .before .before .before .before .before .before .before .before .pre .1, written (c .before .before) .count)
 
 add-i : tie.Need-add-i Inv-loop μ-loop
 add-i c = search needs

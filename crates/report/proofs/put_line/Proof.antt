@@ -8,12 +8,12 @@ use borrow.Author.Needs.{needs}
 use borrow.Rule.Slice.PartMut.{putMid}
 use lib.ListN.{length, drop}
 use Rattle.report.specs.Report.{separator, lineOf}
-use Rattle.report.proofs.Laws.{Going, go-start, go-as, go-byte, go-end, line-end, number-next, space-next, feed-last}
+use Rattle.report.proofs.Laws.{TextGoing, go-start, go-as, go-byte, go-end, line-end, number-next, space-next, feed-last}
 use Rattle.report.proofs.put_line.Statement.{statement}
 use Rattle.report.proofs.put_line.Tie as tie
 
 abbrev Inv-loop : tie.InvT-loop
-Inv-loop page₀ numbers at₀ i₀ page at i = (i ≤ length numbers) × Going (lineOf numbers) page₀ at (lineOf (drop i numbers)) page
+Inv-loop page₀ numbers at₀ i₀ page at i = (i ≤ length numbers) × TextGoing (lineOf numbers) page₀ at (lineOf (drop i numbers)) page
 
 abbrev μ-loop : tie.MeasureT-loop
 μ-loop page₀ numbers at₀ i₀ page at i = length numbers - i
@@ -47,7 +47,7 @@ written :
     (let s = c .before .before .before .before .before .before .before in
     let ns = s .args .numbers .now in
     let l = c .before .before .before .before .loop in
-    Going (lineOf ns) (s .args .page .now) (l .at + c .write .result) (separator (drop (l .i + 1) ns) ∷ lineOf (drop (l .i + 1) ns))
+    TextGoing (lineOf ns) (s .args .page .now) (l .at + c .write .result) (separator (drop (l .i + 1) ns) ∷ lineOf (drop (l .i + 1) ns))
     (putMid (l .at) (length (l .page) - l .at) (l .page) (c .write .last .1 .0)))
 written c =
     let s = c .before .before .before .before .before .before .before in

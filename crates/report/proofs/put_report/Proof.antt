@@ -10,7 +10,7 @@ use Rattle.cache_state.specs.View.{view, usesOf}
 use Rattle.layout.specs.Layout.{cacheOf}
 use Rattle.report.specs.Words.{moreWords, wordsOf}
 use Rattle.report.specs.Report.{itemLines, itemNames, totalLines, reportOf}
-use Rattle.report.proofs.Laws.{report-count, Going, go-first, go-as, go-room, go-next, go-end}
+use Rattle.report.proofs.Laws.{report-count, TextGoing, go-first, go-as, go-room, go-next, go-end}
 use Rattle.report.proofs.put_report.Statement.{statement}
 use Rattle.report.proofs.put_report.Tie as tie
 
@@ -33,7 +33,7 @@ put-text-requires c κs =
 named :
     (c : tie.After-put-text) →
     (let s = c .before .before .before .before .before in
-    Going (whole s) (s .args .page .now) (c .put-text .result) (itemLines 0 (usesOf (cacheOf (s .args .b .now))) ++ (10 ∷ totals s)) (c .put-text .last .0))
+    TextGoing (whole s) (s .args .page .now) (c .put-text .result) (itemLines 0 (usesOf (cacheOf (s .args .b .now))) ++ (10 ∷ totals s)) (c .put-text .last .0))
 unfolding reportOf moreWords wordsOf
 named c =
     let s = c .before .before .before .before .before in
@@ -52,10 +52,7 @@ put-items-requires : tie.Need-put-items-requires
 put-items-requires c κs =
     let s = c .before .before .before .before .before .before .before .before in
     let p = c .before .before .before .put-text in
-    record {
-      valid = s .pre .valid;
-      room = go-room (s .pre .room) (p .result) (itemLines 0 (usesOf (cacheOf (s .args .b .now)))) _ (p .last .0) (named (c .before .before .before));
-    }
+    (s .pre .valid, go-room (s .pre .room) (p .result) (itemLines 0 (usesOf (cacheOf (s .args .b .now)))) _ (p .last .0) (named (c .before .before .before)))
 
 -- the items' lines are written: how far, and the page with them
 abbrev far : (c : tie.After-put-items) → ℕ
@@ -69,7 +66,7 @@ listing c =
 listed :
     (c : tie.After-put-items) →
     (let s = c .before .before .before .before .before .before .before .before .before in
-    Going (whole s) (s .args .page .now) (far c) (10 ∷ totals s) (listing c))
+    TextGoing (whole s) (s .args .page .now) (far c) (10 ∷ totals s) (listing c))
 listed c =
     let s = c .before .before .before .before .before .before .before .before .before in
     go-next (s .pre .room) (itemLines 0 (usesOf (cacheOf (s .args .b .now)))) _ (named (c .before .before .before .before)) (c .put-items .ensures .0) (c .put-items .ensures .1)
@@ -100,7 +97,7 @@ parted :
     (c : tie.After-put-text2) →
     (let s = c .before .before .before .before .before .before .before .before .before .before .before .before .before .before in
     let p = (c .before .before .before .before .before) in
-    Going (whole s) (s .args .page .now) (far p + c .put-text2 .result) (totals s ++ [])
+    TextGoing (whole s) (s .args .page .now) (far p + c .put-text2 .result) (totals s ++ [])
     (putMid (far p) (length (listing p) - far p) (listing p) (c .put-text2 .last .0)))
 parted c =
     let s = c .before .before .before .before .before .before .before .before .before .before .before .before .before .before in
@@ -128,7 +125,7 @@ part-put-totals-end c = search needs
 put-totals-requires : tie.Need-put-totals-requires
 put-totals-requires c κs =
     let s = c .before .before .before .before .before .before .before .before .before .before .before .before .before .before .before .before .before in
-    record { valid = s .pre .valid; room = go-room (s .pre .room) _ (totals s) [] _ (parted (c .before .before .before)) }
+    record { valid = s .pre .valid; fair = s .pre .fair; room = go-room (s .pre .room) _ (totals s) [] _ (parted (c .before .before .before)) }
 
 same-length : tie.Need-same-length
 same-length c = search needs

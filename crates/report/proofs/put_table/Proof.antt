@@ -5,7 +5,7 @@ use native.Mathlib.Omega.{arith}
 use borrow.Author.Needs.{needs}
 use lib.ListN.{length-append}
 use Rattle.report.specs.Report.{lineOf}
-use Rattle.report.proofs.Laws.{Going, go-first, go-as, go-room, go-next, go-end}
+use Rattle.report.proofs.Laws.{TextGoing, go-first, go-as, go-room, go-next, go-end}
 use Rattle.report.proofs.put_table.Statement.{statement}
 use Rattle.report.proofs.put_table.Tie as tie
 
@@ -19,7 +19,7 @@ named :
     (c : tie.After-put-text) →
     (let a = c .before .before .before .before .before .args in
     let line = lineOf (a .numbers .now) in
-    Going (a .names .now ++ line) (a .page .now) (c .put-text .result) (line ++ []) (c .put-text .last .0))
+    TextGoing (a .names .now ++ line) (a .page .now) (c .put-text .result) (line ++ []) (c .put-text .last .0))
 named c =
     let s = c .before .before .before .before .before in
     go-as (sym (append-nil _)) (go-first (s .args .names .now) _ (s .args .page .now) (s .pre) (c .put-text .ensures .0) (c .put-text .ensures .1))

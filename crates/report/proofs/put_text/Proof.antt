@@ -3,12 +3,12 @@ use Prim.Native.Nat.{_-_, _≤_}
 use native.Mathlib.Omega.{arith}
 use borrow.Author.Needs.{needs}
 use lib.ListN.{length, drop, drop-of-length-le}
-use Rattle.report.proofs.Laws.{Going, go-start, go-as, go-byte, go-end, text-next}
+use Rattle.report.proofs.Laws.{TextGoing, go-start, go-as, go-byte, go-end, text-next}
 use Rattle.report.proofs.put_text.Statement.{statement}
 use Rattle.report.proofs.put_text.Tie as tie
 
 abbrev Inv-loop : tie.InvT-loop
-Inv-loop page₀ text i₀ page i = (i ≤ length text) × Going text page₀ i (drop i text) page
+Inv-loop page₀ text i₀ page i = (i ≤ length text) × TextGoing text page₀ i (drop i text) page
 
 abbrev μ-loop : tie.MeasureT-loop
 μ-loop page₀ text i₀ page i = length text - i

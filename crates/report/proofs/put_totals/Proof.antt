@@ -8,16 +8,16 @@ use lib.ListN.{length, take}
 use lib.Seq.{length-take-le}
 use Rattle.cache_state.specs.View.{view}
 use Rattle.layout.specs.Layout.{cacheOf}
-use Rattle.report.specs.declared.Rival.the-variants.{Absent, Priced}
+use Rattle.report.specs.declared.Rival.the-variants.{Absent, Against}
 use Rattle.report.specs.Words.{moreWords, wordsOf}
 use Rattle.report.specs.Report.{lineOf, totalNames, totalLines}
-use Rattle.report.specs.Lines.{over}
+use Rattle.report.specs.Inner.{textOver}
 use Rattle.report.proofs.Laws.{totals-alone, totals-priced}
 use Rattle.report.proofs.put_totals.Statement.{statement}
 use Rattle.report.proofs.put_totals.Tie as tie
 
 figures-requires : tie.Need-figures-requires
-figures-requires c κs = search needs
+figures-requires c κs = let s = c .before .before in record { valid = s .pre .valid; fair = s .pre .fair }
 
 -- the last two lines, without a rival and with one
 alone :
@@ -31,11 +31,11 @@ alone c =
 priced :
     (c : tie.After-enum-told2) →
     (let a = c .before .before .before .before .before .args in
-    totalLines (view (cacheOf (a .b .now))) (a .rival) ≡ totalNames (Priced 0 0 0) ++ lineOf (c .before .before .figures .result))
+    totalLines (view (cacheOf (a .b .now))) (a .rival) ≡ totalNames (Against 0 0) ++ lineOf (c .before .before .figures .result))
 priced c =
     let a = c .before .before .before .before .before .args in
     let l : length (c .before .before .figures .result) ≡ 11 = search needs in
-    totals-priced (view (cacheOf (a .b .now))) (a .rival) _ _ _ _ l (c .enum-told2 .given .1) (c .before .before .figures .ensures)
+    totals-priced (view (cacheOf (a .b .now))) (a .rival) _ _ _ l (c .enum-told2 .given .1) (c .before .before .figures .ensures)
 
 enum-told : tie.Need-enum-told
 enum-told c = search needs
@@ -75,7 +75,7 @@ returns : tie.Need-returns
 unfolding moreWords wordsOf
 returns c =
     let page = c .before .before .before .before .before .before .before .before .before .before .before .args .page .now in
-    c .before .before .put-table .ensures ∙ ap (λ (t : List ℕ). over t page) (sym (alone (c .before .before .before .before .before .before)))
+    c .before .before .put-table .ensures ∙ ap (λ (t : List ℕ). textOver t page) (sym (alone (c .before .before .before .before .before .before)))
 
 same-length-2 : tie.Need-same-length-2
 same-length-2 c = search needs
@@ -84,7 +84,7 @@ returns-2 : tie.Need-returns-2
 unfolding moreWords wordsOf
 returns-2 c =
     let page = c .before .before .before .before .before .before .before .before .before .before .before .args .page .now in
-    c .before .before .put-table2 .ensures ∙ ap (λ (t : List ℕ). over t page) (sym (priced (c .before .before .before .before .before .before)))
+    c .before .before .put-table2 .ensures ∙ ap (λ (t : List ℕ). textOver t page) (sym (priced (c .before .before .before .before .before .before)))
 
 pub put-totals-spec : {M : Type 1} → statement M
 put-totals-spec =

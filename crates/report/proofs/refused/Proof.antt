@@ -7,7 +7,7 @@ use borrow.Author.Needs.{needs}
 use lib.ListN.{length, length-append}
 use Rattle.report.specs.Words.{moreWords, wordsOf}
 use Rattle.report.specs.Report.{lineOf, refusalNames, refusalText}
-use Rattle.report.specs.Lines.{over}
+use Rattle.report.specs.Inner.{textOver}
 use Rattle.report.proofs.Laws.{refusal-names-count, put-short, put-whole}
 use Rattle.report.proofs.refused.Statement.{statement}
 use Rattle.report.proofs.refused.Tie as tie
@@ -70,7 +70,7 @@ returns-2 c =
     let a = c .before .before .before .before .before .before .before .before .before .before .before .before .before .before .args in
     let k = counted (c .before .before .before .before .before .before .before) in
     put-whole (refusalText (a .r)) (a .page .now) _ _ (omega arith) k
-    (c .before .before .put-table .ensures ∙ ap (λ (t : List ℕ). over t (a .page .now)) (sym (text (c .before .before .before .before .before .before .before .before .before))))
+    (c .before .before .put-table .ensures ∙ ap (λ (t : List ℕ). textOver t (a .page .now)) (sym (text (c .before .before .before .before .before .before .before .before .before))))
 
 pub refused-spec : {M : Type 1} → statement M
 refused-spec =

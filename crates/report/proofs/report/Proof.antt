@@ -6,8 +6,9 @@ use borrow.Author.Needs.{needs}
 use borrow.Author.Tests.{not-true, not-false}
 use Rattle.cache_state.specs.View.{view}
 use Rattle.layout.specs.Layout.{cacheOf}
-use Rattle.layout.specs.Stands.{ValidBytes}
+use Rattle.layout.specs.Valid.{ValidBytes}
 use Rattle.report.specs.Report.{reportOf}
+use Rattle.report.specs.Inner.{RivalOk}
 use Rattle.report.proofs.Laws.{put-short, put-whole, invalid-told, fine-told}
 use Rattle.report.proofs.report.Statement.{statement}
 use Rattle.report.proofs.report.Tie as tie
@@ -24,8 +25,12 @@ returns c =
 valid : (c : tie.Else1) → ValidBytes (c .before .before .before .before .args .b .now)
 valid c = c .before .valid .ensures .yes (not-false _ (c .if1 .left))
 
+-- and so its rival is in range
+fair : (c : tie.Else1) → (let a = c .before .before .before .before .args in RivalOk (view (cacheOf (a .b .now))) (a .rival))
+fair c = c .before .before .before .before .pre (valid c)
+
 report-length-requires : tie.Need-report-length-requires
-report-length-requires c κs = valid c
+report-length-requires c κs = record { valid = valid c; fair = fair c }
 
 returns-2 : tie.Need-returns-2
 returns-2 c =
@@ -34,7 +39,7 @@ returns-2 c =
     fine-told (a .b .now) (a .rival) (a .page .now) _ _ (valid (c .before .before)) (put-short t (a .page .now) (omega arith))
 
 put-report-requires : tie.Need-put-report-requires
-put-report-requires c κs = record { valid = valid (c .before .before .before); room = omega arith }
+put-report-requires c κs = let e = c .before .before .before in record { valid = valid e; fair = fair e; room = omega arith }
 
 same-length : tie.Need-same-length
 same-length c = search needs

@@ -12,13 +12,13 @@ items-length-requires : tie.Need-items-length-requires
 items-length-requires c κs = search needs
 
 add-result : tie.Need-add-result
-add-result c = omega (arith, items-longest (cacheOf (c .before .before .args .b .now)) (c .before .before .pre .cache))
+add-result c = omega (arith, items-longest (cacheOf (c .before .before .args .b .now)) (c .before .before .pre .valid .cache))
 
 totals-length-requires : tie.Need-totals-length-requires
 totals-length-requires c κs = search needs
 
 add-result-2 : tie.Need-add-result-2
-add-result-2 c = omega (arith, items-longest (cacheOf (c .before .before .before .args .b .now)) (c .before .before .before .pre .cache))
+add-result-2 c = omega (arith, items-longest (cacheOf (c .before .before .before .args .b .now)) (c .before .before .before .pre .valid .cache))
 
 returns : tie.Need-returns
 returns c = omega (arith, report-count (view (cacheOf (c .before .before .before .args .b .now))) (c .before .before .before .args .rival))

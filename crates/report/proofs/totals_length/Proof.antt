@@ -7,7 +7,7 @@ use lib.ListN.{length, take, length-append}
 use lib.Seq.{length-take-le}
 use Rattle.cache_state.specs.View.{view}
 use Rattle.layout.specs.Layout.{cacheOf}
-use Rattle.report.specs.declared.Rival.the-variants.{Absent, Priced}
+use Rattle.report.specs.declared.Rival.the-variants.{Absent, Against}
 use Rattle.report.specs.Report.{lineOf, totalNames, totalLines}
 use Rattle.report.proofs.Laws.{totals-alone, totals-priced, names-alone-count, names-priced-count}
 use Rattle.report.proofs.totals_length.Statement.{statement}
@@ -28,11 +28,11 @@ alone c =
 priced :
     (c : tie.After-enum-told2) →
     (let a = c .before .before .before .before .args in
-    totalLines (view (cacheOf (a .b .now))) (a .rival) ≡ totalNames (Priced 0 0 0) ++ lineOf (c .before .before .figures .result))
+    totalLines (view (cacheOf (a .b .now))) (a .rival) ≡ totalNames (Against 0 0) ++ lineOf (c .before .before .figures .result))
 priced c =
     let a = c .before .before .before .before .args in
     let l : length (c .before .before .figures .result) ≡ 11 = search needs in
-    totals-priced (view (cacheOf (a .b .now))) (a .rival) _ _ _ _ l (c .enum-told2 .given .1) (c .before .before .figures .ensures)
+    totals-priced (view (cacheOf (a .b .now))) (a .rival) _ _ _ l (c .enum-told2 .given .1) (c .before .before .figures .ensures)
 
 enum-told : tie.Need-enum-told
 enum-told c = search needs
@@ -73,7 +73,7 @@ returns c =
 returns-2 : tie.Need-returns-2
 returns-2 c =
     let ns = c .before .before .before .before .figures .result in
-    omega (arith, names-priced-count 0 0 0, ap length (priced (c .before .before)), length-append (totalNames (Priced 0 0 0)) (lineOf ns))
+    omega (arith, names-priced-count 0 0, ap length (priced (c .before .before)), length-append (totalNames (Against 0 0)) (lineOf ns))
 
 pub totals-length-spec : {M : Type 1} → statement M
 totals-length-spec =

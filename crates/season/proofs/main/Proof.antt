@@ -11,6 +11,9 @@ slice-aggregate-read-full c = search needs
 read-full-requires : tie.Need-read-full-requires
 read-full-requires c κs = search needs
 
+longest-page-requires : tie.Need-longest-page-requires
+longest-page-requires c κs = search needs
+
 array-share-prefix-text : tie.Need-array-share-prefix-text
 array-share-prefix-text c = search needs
 
@@ -41,6 +44,7 @@ main-spec =
     (tie.spec
     slice-aggregate-read-full
     read-full-requires
+    longest-page-requires
     array-share-prefix-text
     slice-aggregate-output
     slice-aggregate-output-2

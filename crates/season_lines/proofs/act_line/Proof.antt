@@ -6,7 +6,7 @@ use native.Mathlib.Omega.{arith}
 use borrow.Author.Needs.{needs}
 use borrow.Author.Tests.{le-leb, lt-leb, ltb-true, ltb-false, eq-eqb, ne-eqb}
 use Rattle.season_lines.specs.declared.Line.the-variants.{Act as Placed}
-use Rattle.season_lines.proofs.Laws.{both-yes, told-no, told-yes, slot, actsShape, act-torn, act-far, act-good}
+use Rattle.season_lines.proofs.Laws.{both-yes, told-no, told-yes, slot, actsShape, act-malformed, act-far, act-good}
 use Rattle.season_lines.proofs.act_line.Statement.{statement}
 use Rattle.season_lines.proofs.act_line.Tie as tie
 
@@ -49,7 +49,7 @@ returns : tie.Need-returns
 returns c =
     let a = c .before .before .before .before .before .args in
     let letter = c .before .value-in in
-    act-torn (a .t1) (a .count) (a .line) (omega arith) (letter .result) (letter .ensures)
+    act-malformed (a .t1) (a .count) (a .line) (omega arith) (letter .result) (letter .ensures)
     (⊎-elim (λ w. inl (ne-eqb (a .count) 3 (w .taken)))
     (⊎-elim (λ w. inr (inl (told-no _ _ (w .1 .ensures) (w .2 .taken))))
     (⊎-elim (λ w. inr (inr (inl (told-no _ _ (w .3 .ensures) (w .4 .taken)))))

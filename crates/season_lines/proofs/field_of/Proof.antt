@@ -4,7 +4,7 @@ use mathlib.Core.Path.{sym, _∙_}
 use native.Mathlib.Omega.{arith}
 use borrow.Author.Needs.{needs}
 use Rattle.decimal.proofs.Laws.{read-value}
-use Rattle.season_lines.specs.Fields.{beyond}
+use Rattle.season_lines.specs.Inner.{beyond}
 use Rattle.season_lines.proofs.Laws.{field-number, field-beyond, field-mark, field-other}
 use Rattle.season_lines.proofs.field_of.Statement.{statement}
 use Rattle.season_lines.proofs.field_of.Tie as tie

@@ -5,7 +5,7 @@ use mathlib.Core.Path.{_≡_}
 use native.Mathlib.Omega.{arith}
 use borrow.Author.Needs.{needs}
 use lib.ListN.{length, drop}
-use Rattle.season_lines.specs.Fields.{before}
+use Rattle.season_lines.specs.Inner.{before}
 use Rattle.season_lines.proofs.Laws.{before-end, before-hit, before-miss}
 use Rattle.season_lines.proofs.find.Statement.{statement}
 use Rattle.season_lines.proofs.find.Tie as tie

@@ -6,9 +6,9 @@ use mathlib.Core.Logic.{inl, inr, ⊎-elim}
 use native.Mathlib.Omega.{arith}
 use borrow.Author.Needs.{needs}
 use borrow.Author.Tests.{le-leb, lt-leb, eq-eqb, ne-eqb}
-use Rattle.landlord.specs.Calls.{itemInRange}
+use Rattle.landlord.specs.Catalog.{itemInRange}
 use Rattle.season_lines.specs.Lines.{itemFrom}
-use Rattle.season_lines.proofs.Laws.{both-yes, told-no, told-yes, item-bounds, slot, itemShape, item-torn, item-far, item-good}
+use Rattle.season_lines.proofs.Laws.{both-yes, told-no, told-yes, item-bounds, slot, itemShape, item-malformed, item-far, item-good}
 use Rattle.season_lines.proofs.item_line.Statement.{statement}
 use Rattle.season_lines.proofs.item_line.Tie as tie
 
@@ -56,7 +56,7 @@ shape c =
 returns : tie.Need-returns
 returns c =
     let a = c .before .before .before .before .before .args in
-    item-torn (a .t1) (a .count) (a .line) (omega arith)
+    item-malformed (a .t1) (a .count) (a .line) (omega arith)
     (⊎-elim (λ w. inl (ne-eqb (a .count) 4 (w .taken)))
     (⊎-elim (λ w. inr (inl (told-no _ _ (w .1 .ensures) (w .2 .taken))))
     (⊎-elim (λ w. inr (inr (inl (told-no _ _ (w .3 .ensures) (w .4 .taken)))))

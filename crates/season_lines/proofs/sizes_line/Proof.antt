@@ -5,7 +5,7 @@ use mathlib.Core.Logic.{inl, inr, ⊎-elim}
 use native.Mathlib.Omega.{arith}
 use borrow.Author.Needs.{needs}
 use borrow.Author.Tests.{eq-eqb, ne-eqb}
-use Rattle.season_lines.proofs.Laws.{both-yes, told-no, told-yes, slot, sizesShape, sizes-torn, sizes-far, sizes-good}
+use Rattle.season_lines.proofs.Laws.{both-yes, told-no, told-yes, slot, sizesShape, sizes-malformed, sizes-far, sizes-good}
 use Rattle.season_lines.proofs.sizes_line.Statement.{statement}
 use Rattle.season_lines.proofs.sizes_line.Tie as tie
 
@@ -34,7 +34,7 @@ shape c =
 returns : tie.Need-returns
 returns c =
     let a = c .before .before .before .args in
-    sizes-torn (a .t1) (a .count) (a .line) (omega arith)
+    sizes-malformed (a .t1) (a .count) (a .line) (omega arith)
     (⊎-elim (λ w. inl (ne-eqb (a .count) 2 (w .taken)))
     (⊎-elim (λ w. inr (inl (told-no _ _ (w .1 .ensures) (w .2 .taken))))
     (λ w. inr (inr (told-no _ _ (w .3 .ensures) (w .4 .taken))))) (c .if1 .came))

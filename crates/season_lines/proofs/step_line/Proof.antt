@@ -6,7 +6,7 @@ use native.Mathlib.Omega.{arith}
 use borrow.Author.Needs.{needs}
 use borrow.Author.Tests.{eq-eqb, ne-eqb}
 use Rattle.season_lines.specs.declared.Line.the-variants.{Step}
-use Rattle.season_lines.proofs.Laws.{both-yes, told-no, told-yes, slot, stepsShape, step-torn, step-far, step-good}
+use Rattle.season_lines.proofs.Laws.{both-yes, told-no, told-yes, slot, stepsShape, step-malformed, step-far, step-good}
 use Rattle.season_lines.proofs.step_line.Statement.{statement}
 use Rattle.season_lines.proofs.step_line.Tie as tie
 
@@ -43,7 +43,7 @@ returns : tie.Need-returns
 returns c =
     let a = c .before .before .before .before .before .args in
     let letter = c .before .value-in in
-    step-torn (a .t1) (a .count) (a .line) (omega arith) (letter .result) (letter .ensures)
+    step-malformed (a .t1) (a .count) (a .line) (omega arith) (letter .result) (letter .ensures)
     (⊎-elim (λ w. inl (ne-eqb (a .count) 3 (w .taken)))
     (⊎-elim (λ w. inr (inl (told-no _ _ (w .1 .ensures) (w .2 .taken))))
     (λ w. inr (inr (told-no _ _ (w .3 .ensures) (w .4 .taken))))) (c .if1 .came))

@@ -3,7 +3,7 @@
 use mathlib.Core.Path.{refl}
 use Prim.Native.Nat.{_+_, _*_, _-_}
 use native.Mathlib.Omega.{arith}
-use Rattle.season_plan.proofs.Pricing.{Pricing, pricing-starts, pricing-low, pricing-ready, pricing-acts, pricing-act-fails, pricing-serves, pricing-step-fails, pricing-turn, pricing-ends}
+use Rattle.season_plan.proofs.Pricing.{Pricing, pricing-starts, pricing-low, pricing-ready, pricing-acts, pricing-act-number, pricing-act-fails, pricing-serves, pricing-step-number, pricing-step-fails, pricing-turn, pricing-ends}
 use Rattle.season_plan.proofs.price_plan.Statement.{statement}
 use Rattle.season_plan.proofs.price_plan.Tie as tie
 
@@ -40,13 +40,16 @@ cast-refusal-for : tie.Need-cast-refusal-for Inv-loop μ-loop
 cast-refusal-for c = omega (arith, c .before .before .before .before .before .before .before .before .pre .fewSteps, c .before .before .before .before .before .before .before .before .pre .fewActs, c .before .before .before .before .before .before .before .before .pre .holds .few, c .before .before .acts-before .ensures .1 .next)
 
 refusal-for-requires : tie.Need-refusal-for-requires Inv-loop μ-loop
-refusal-for-requires c κs = tt
+refusal-for-requires c κs =
+    let t = c .before .before .before .before .before .before .before .before in
+    let l = c .before .before .before .before .loop in
+    pricing-act-number (t .args .seen) (t .args .catalog .now) (t .args .calls .now) (t .args .acts .now) (t .pre) (l .p) (l .a) (l .s) (l .inv) (omega arith) (c .before .before .acts-before .result) (c .before .before .acts-before .ensures .0) (c .before .before .acts-before .ensures .1) (c .before .if1 .taken)
 
 returns : tie.Need-returns Inv-loop μ-loop
 returns c =
     let t = c .before .before .before .before .before .before .before .before .before in
     let l = c .before .before .before .before .before .loop in
-    (rw (c .refusal-for .ensures) (pricing-act-fails (t .args .seen) (t .args .catalog .now) (t .args .calls .now) (t .args .acts .now) (t .pre) (l .p) (l .a) (l .s) (l .inv) (omega arith) (c .before .before .before .acts-before .result) (c .before .before .before .acts-before .ensures .0) (c .before .before .before .acts-before .ensures .1) _ (c .before .before .if1 .taken) (omega arith)), tt)
+    (pricing-act-fails (t .args .seen) (t .args .catalog .now) (t .args .calls .now) (t .args .acts .now) (t .pre) (l .p) (l .a) (l .s) (l .inv) (omega arith) (c .before .before .before .acts-before .result) (c .before .before .before .acts-before .ensures .0) (c .before .before .before .acts-before .ensures .1) _ _ (c .refusal-for .ensures) (c .before .before .if1 .taken) (omega arith), tt)
 
 mul-serve : tie.Need-mul-serve Inv-loop μ-loop
 mul-serve c = omega (arith, c .before .before .before .before .before .before .before .before .pre .fewSteps, c .before .before .before .before .before .before .before .before .pre .fewActs, c .before .before .before .before .before .before .before .before .pre .holds .few)
@@ -91,13 +94,16 @@ cast-refusal-for-2 : tie.Need-cast-refusal-for-2 Inv-loop μ-loop
 cast-refusal-for-2 c = omega (arith, c .before .before .before .before .before .before .before .before .before .before .before .before .before .pre .fewSteps, c .before .before .before .before .before .before .before .before .before .before .before .before .before .pre .fewActs, c .before .before .before .before .before .before .before .before .before .before .before .before .before .pre .holds .few)
 
 refusal-for-requires-2 : tie.Need-refusal-for-requires-2 Inv-loop μ-loop
-refusal-for-requires-2 c κs = tt
+refusal-for-requires-2 c κs =
+    let t = c .before .before .before .before .before .before .before .before .before .before .before .before .before in
+    let l = c .before .before .before .before .before .before .before .before .before .loop in
+    pricing-step-number (t .args .seen) (t .args .catalog .now) (t .args .calls .now) (t .args .acts .now) (t .pre) (l .p) (l .a) (l .s) (l .inv) (omega arith) (c .before .before .before .before .before .before .before .acts-before .result) (c .before .before .before .before .before .before .before .acts-before .ensures .0) (c .before .before .before .before .before .before .before .acts-before .ensures .1) (c .before .before .before .before .before .before .if1 .left) (c .before .before .serve .result) (c .before .before .serve .ensures) (c .before .if2 .taken)
 
 returns-2 : tie.Need-returns-2 Inv-loop μ-loop
 returns-2 c =
     let t = c .before .before .before .before .before .before .before .before .before .before .before .before .before .before in
     let l = c .before .before .before .before .before .before .before .before .before .before .loop in
-    (rw (c .refusal-for2 .ensures) (pricing-step-fails (t .args .seen) (t .args .catalog .now) (t .args .calls .now) (t .args .acts .now) (t .pre) (l .p) (l .a) (l .s) (l .inv) (omega arith) (c .before .before .before .before .before .before .before .before .acts-before .result) (c .before .before .before .before .before .before .before .before .acts-before .ensures .0) (c .before .before .before .before .before .before .before .before .acts-before .ensures .1) (c .before .before .before .before .before .before .before .if1 .left) (c .before .before .before .serve .result) (c .before .before .before .serve .ensures) _ (c .before .before .if2 .taken) (omega arith)), tt)
+    (pricing-step-fails (t .args .seen) (t .args .catalog .now) (t .args .calls .now) (t .args .acts .now) (t .pre) (l .p) (l .a) (l .s) (l .inv) (omega arith) (c .before .before .before .before .before .before .before .before .acts-before .result) (c .before .before .before .before .before .before .before .before .acts-before .ensures .0) (c .before .before .before .before .before .before .before .before .acts-before .ensures .1) (c .before .before .before .before .before .before .before .if1 .left) (c .before .before .before .serve .result) (c .before .before .before .serve .ensures) _ _ (c .refusal-for2 .ensures) (c .before .before .if2 .taken) (omega arith), tt)
 
 add-s : tie.Need-add-s Inv-loop μ-loop
 add-s c = omega (arith, c .before .before .before .before .before .before .before .before .before .before .before .before .before .pre .fewSteps, c .before .before .before .before .before .before .before .before .before .before .before .before .before .pre .fewActs, c .before .before .before .before .before .before .before .before .before .before .before .before .before .pre .holds .few)

@@ -10,10 +10,11 @@ use native.Mathlib.Omega.{arith}
 use borrow.Author.Needs.{needs}
 use borrow.Author.Tests.{leb-true, leb-false}
 use lib.ListN.{length, take, drop, length-drop}
-use Rattle.season_lines.specs.Fields.{before, fieldOf}
+use Rattle.season_lines.specs.Fields.{fieldOf}
+use Rattle.season_lines.specs.Inner.{before, heldField}
 use Rattle.season_lines.proofs.Pieces.{before-le}
 use Rattle.season_scan.proofs.Laws.{line-end, length-part}
-use Rattle.season_scan.proofs.Turns.{Lined, Fielded, begins, ends, no-line-feed, field-none, field-more, field-torn, torn-here, can-lead, line-refused, line-taken}
+use Rattle.season_scan.proofs.Turns.{AsLong, Lined, Fielded, begins, ends, no-line-feed, field-none, field-more, field-malformed, malformed-here, can-lead, line-refused, line-taken}
 use Rattle.season_scan.proofs.scan.Statement.{statement}
 use Rattle.season_scan.proofs.scan.Tie as tie
 
@@ -24,7 +25,7 @@ abbrev μ-loop : tie.MeasureT-loop
 μ-loop s catalog calls acts seen at line end fields₀ count₀ i₀ more₀ fields count i more = end + 1 - i
 
 abbrev Inv-lines : tie.InvT-lines
-Inv-lines s catalog₀ calls₀ acts₀ seen₀ at₀ line₀ catalog calls acts seen at line = Lined s catalog calls acts seen at line
+Inv-lines s catalog₀ calls₀ acts₀ seen₀ at₀ line₀ catalog calls acts seen at line = Lined s catalog₀ calls₀ acts₀ catalog calls acts seen at line
 
 abbrev μ-lines : tie.MeasureT-lines
 μ-lines s catalog₀ calls₀ acts₀ seen₀ at₀ line₀ catalog calls acts seen at line = length s - at
@@ -33,17 +34,17 @@ abbrev μ-lines : tie.MeasureT-lines
 same-items :
     (c : tie.At-lines Inv-loop μ-loop Inv-lines μ-lines) →
     length (c .lines .catalog) ≡ length (c .before .before .before .before .before .before .args .catalog .now)
-same-items c = c .lines .inv .roomy .forItems ∙ sym (c .before .before .before .before .before .before .pre .roomy .forItems)
+same-items c = c .lines .inv .long .0
 
 same-steps :
     (c : tie.At-lines Inv-loop μ-loop Inv-lines μ-lines) →
     length (c .lines .calls) ≡ length (c .before .before .before .before .before .before .args .calls .now)
-same-steps c = c .lines .inv .roomy .forSteps ∙ sym (c .before .before .before .before .before .before .pre .roomy .forSteps)
+same-steps c = c .lines .inv .long .1
 
 same-acts :
     (c : tie.At-lines Inv-loop μ-loop Inv-lines μ-lines) →
     length (c .lines .acts) ≡ length (c .before .before .before .before .before .before .args .acts .now)
-same-acts c = c .lines .inv .roomy .forActs ∙ sym (c .before .before .before .before .before .before .pre .roomy .forActs)
+same-acts c = c .lines .inv .long .2
 
 -- the text, and where in it the line begins and ends
 abbrev text : tie.After-find Inv-loop μ-loop Inv-lines μ-lines → List ℕ
@@ -94,13 +95,24 @@ field-is :
     (c : tie.After-field-of Inv-loop μ-loop Inv-lines μ-lines) →
     (let a = c .before .before .before .before .before .before .before .before in
     let i = c .before .before .before .before .before .loop .i in
-    c .field-of .result ≡ fieldOf (take (c .before .before .find2 .result) (drop i (text a))))
+    c .field-of .result ≡ heldField (fieldOf (take (c .before .before .find2 .result) (drop i (text a)))))
 field-is c =
     let a = c .before .before .before .before .before .before .before .before in
     let i = c .before .before .before .before .before .loop .i in
     let m = c .before .before .find2 .result in
     let e : i + m - i ≡ m = omega arith in
-    c .field-of .ensures ∙ ap (λ (k : ℕ). fieldOf (take k (drop i (text a)))) e
+    c .field-of .ensures ∙ ap (λ (k : ℕ). heldField (fieldOf (take k (drop i (text a))))) e
+
+-- the line that was led from, and the slices behind it
+abbrev lines-of : tie.After-lead Inv-loop μ-loop Inv-lines μ-lines → tie.At-lines Inv-loop μ-loop Inv-lines μ-lines
+lines-of r = r .before .before .before .before .before .before .before .before .before .before .before .before
+
+as-long :
+    (r : tie.After-lead Inv-loop μ-loop Inv-lines μ-lines) →
+    (let l = lines-of r .lines in
+    let p = r .lead .last .1 .1 .1 .1 .1 in
+    AsLong (l .catalog) (l .calls) (l .acts) (p .0) (p .1 .0) (p .1 .1 .0))
+as-long r = let k = r .lead .kept .1 .1 .1 .1 .1 in (k .0, k .1 .0, k .1 .1 .0)
 
 at-start-requires : tie.Need-at-start-requires Inv-loop μ-loop Inv-lines μ-lines
 at-start-requires c κs = search needs
@@ -216,7 +228,7 @@ lead-requires : tie.Need-lead-requires Inv-loop μ-loop Inv-lines μ-lines
 lead-requires c κs =
     let l = c .before .before .before .before in
     let a = l .before .before .before .before in
-    can-lead _ _ _ _ _ _ _ (a .before .before .before .lines .inv) _ (found a) (l .before .before .before .if2 .left) _ _ _
+    can-lead _ _ _ _ _ _ _ _ _ _ (a .before .before .before .lines .inv) _ (found a) (l .before .before .before .if2 .left) _ _ _
     (fielded (l .before) false (l .loop-test .left)) (short a)
 
 enum-told : tie.Need-enum-told Inv-loop μ-loop Inv-lines μ-lines
@@ -248,9 +260,9 @@ lines-again c =
     let r = c .before .before .before .before .before .before .before .before .before in
     let l = r .before .before .before .before .before in
     let a = l .before .before .before .before in
-    line-taken _ _ _ _ _ _ _ (a .before .before .before .lines .inv) _ (found a) (l .before .before .before .if2 .left) _ _ _
+    line-taken _ _ _ _ _ _ _ _ _ _ (a .before .before .before .lines .inv) _ (found a) (l .before .before .before .if2 .left) _ _ _
     (fielded (l .before) false (l .loop-test .left)) (r .lead .result) _ _ _ (r .lead .ensures .0) (r .lead .ensures .1)
-    (c .before .enum-told2 .given .1)
+    (as-long r) (c .before .enum-told2 .given .1)
 
 same-length : tie.Need-same-length Inv-loop μ-loop Inv-lines μ-lines
 same-length c = same-items (c .before .before)
@@ -263,8 +275,8 @@ same-length-3 c = same-acts (c .before .before)
 
 returns : tie.Need-returns Inv-loop μ-loop Inv-lines μ-lines
 returns c =
-    ends _ _ _ _ _ _ _ (c .before .before .lines .inv) _ (c .before .before .before .before .before .before .before .before .pre .short)
-    (omega (arith, c .before .if1 .taken)) (c .ended .ensures)
+    ends _ _ _ _ _ _ _ _ _ _ (c .before .before .lines .inv) _ (c .before .before .before .before .before .before .before .before .pre .short)
+    (omega (arith, c .before .if1 .taken)) (c .ended .ensures .0 .1) (c .ended .ensures .1)
 
 same-length-4 : tie.Need-same-length-4 Inv-loop μ-loop Inv-lines μ-lines
 same-length-4 c = same-items (c .before .before .before .before .before)
@@ -278,9 +290,9 @@ same-length-6 c = same-acts (c .before .before .before .before .before)
 returns-2 : tie.Need-returns-2 Inv-loop μ-loop Inv-lines μ-lines
 returns-2 c =
     let a = c .before .before in
-    no-line-feed _ _ _ _ _ _ _ (a .before .before .before .lines .inv) (c .stopped .result)
+    no-line-feed _ _ _ _ _ _ _ _ _ _ (a .before .before .before .lines .inv) (c .stopped .result)
     (omega (arith, a .before .before .if1 .left))
-    (omega (arith, found a, c .before .if2 .taken)) (c .stopped .ensures)
+    (omega (arith, found a, c .before .if2 .taken)) (c .stopped .ensures .0) (c .stopped .ensures .1)
 
 same-length-7 : tie.Need-same-length-7 Inv-loop μ-loop Inv-lines μ-lines
 same-length-7 c = same-items (c .before .before .before .before .before .before .before .before .before .before .before .before .before .before)
@@ -297,29 +309,35 @@ returns-3 c =
     let b = f .before .before in
     let a = b .before .before .before .before .before .before in
     let h = fielded (b .before .before .before) true (b .before .before .loop-test .taken) in
-    let torn =
+    let bad =
     ⊎-elim (λ w. inl (sym (c .before .before .is-other .ensures) ∙ w .taken))
     (λ w. inr (leb-true 4 (b .before .before .before .loop .count) (w .1 .taken))) (c .before .if3 .came) in
-    torn-here _ _ _ _ _ _ _ (a .before .before .before .lines .inv) _ (found a) (b .before .before .before .before .before .if2 .left)
+    malformed-here _ _ _ _ _ _ _ _ _ _ (a .before .before .before .lines .inv) _ (found a) (b .before .before .before .before .before .if2 .left)
     (c .stopped2 .result)
-    (h .going refl .1) (λ table. field-torn _ _ _ _ _ _ _ _ _ (found-le a) h (b .find2 .ensures) (field-is f) table _ torn)
-    (c .stopped2 .ensures)
+    (h .going refl .1) (λ table. field-malformed _ _ _ _ _ _ _ _ _ (found-le a) h (b .find2 .ensures) (field-is f) table _ bad)
+    (c .stopped2 .ensures .0) (c .stopped2 .ensures .1)
 
 same-length-10 : tie.Need-same-length-10 Inv-loop μ-loop Inv-lines μ-lines
-same-length-10 c = c .before .before .before .before .before .before .before .before .lead .ensures .1 .forItems ∙ sym (c .before .before .before .before .before .before .before .before .before .before .before .before .before .before .before .before .before .before .before .before .before .before .before .before .before .before .pre .roomy .forItems)
+same-length-10 c =
+    let r = c .before .before .before .before .before .before .before .before in
+    as-long r .0 ∙ same-items (lines-of r)
 
 same-length-11 : tie.Need-same-length-11 Inv-loop μ-loop Inv-lines μ-lines
-same-length-11 c = c .before .before .before .before .before .before .before .before .lead .ensures .1 .forSteps ∙ sym (c .before .before .before .before .before .before .before .before .before .before .before .before .before .before .before .before .before .before .before .before .before .before .before .before .before .before .pre .roomy .forSteps)
+same-length-11 c =
+    let r = c .before .before .before .before .before .before .before .before in
+    as-long r .1 ∙ same-steps (lines-of r)
 
 same-length-12 : tie.Need-same-length-12 Inv-loop μ-loop Inv-lines μ-lines
-same-length-12 c = c .before .before .before .before .before .before .before .before .lead .ensures .1 .forActs ∙ sym (c .before .before .before .before .before .before .before .before .before .before .before .before .before .before .before .before .before .before .before .before .before .before .before .before .before .before .pre .roomy .forActs)
+same-length-12 c =
+    let r = c .before .before .before .before .before .before .before .before in
+    as-long r .2 ∙ same-acts (lines-of r)
 
 returns-4 : tie.Need-returns-4 Inv-loop μ-loop Inv-lines μ-lines
 returns-4 c =
     let r = c .before .before .before .before .before .before .before .before in
     let l = r .before .before .before .before .before in
     let a = l .before .before .before .before in
-    line-refused _ _ _ _ _ _ _ (a .before .before .before .lines .inv) _ (found a) (l .before .before .before .if2 .left) _ _ _
+    line-refused _ _ _ _ _ _ _ _ _ _ (a .before .before .before .lines .inv) _ (found a) (l .before .before .before .if2 .left) _ _ _
     (fielded (l .before) false (l .loop-test .left)) (r .lead .result) _ _ _ (r .lead .ensures .0) (r .lead .ensures .1) _
     (c .enum-told .given .1)
 

@@ -1,7 +1,12 @@
--- `season_tables::ended` meets its contract: each return is a law of proofs/Held.antt. Assumes nothing.
-use borrow.Author.Needs.{needs}
+-- `season_tables::ended` meets its contract: the verdict by the struct, and the law of proofs/Held.antt. Assumes nothing.
+use mathlib.Core.Path.{_≡_}
+use mathlib.Core.Bool.{false, _&&_}
 use mathlib.Core.Logic.{⊎-elim}
-use Rattle.season_tables.proofs.Held.{end-due, end-unnamed, end-early}
+use lib.Dec.{eqb}
+use borrow.Author.Needs.{needs}
+use borrow.Author.Tests.{ne-eqb}
+use Rattle.season_tables.specs.Inner.{endVerdict}
+use Rattle.season_tables.proofs.Held.{end-leads}
 use Rattle.season_tables.proofs.ended.Statement.{statement}
 use Rattle.season_tables.proofs.ended.Tie as tie
 use Rattle.season_tables.proofs.ended.Reads as reads
@@ -15,7 +20,9 @@ taken-requires c κs = search needs
 returns : tie.Need-returns
 returns c =
     let a = c .before .before .before .before .args in
-    end-due (a .seen) (a .at) (c .taken .result) (c .before .before .before .if1 .taken) (c .before .if2 .taken) (c .taken .ensures .0) (c .taken .ensures .1)
+    let told : c .taken .result .verdict ≡ endVerdict (a .seen) (a .at) =
+    rw (c .before .before .before .if1 .taken, c .before .if2 .taken) (c .taken .ensures .0) in
+    ((told, c .taken .ensures .1), end-leads (a .seen) (a .at) (c .taken .result) told (c .taken .ensures .1))
 
 stopped-requires : tie.Need-stopped-requires
 stopped-requires c κs = search needs
@@ -23,8 +30,10 @@ stopped-requires c κs = search needs
 returns-2 : tie.Need-returns-2
 returns-2 c =
     let a = c .before .before .args in
-    ⊎-elim (λ w. end-early (a .seen) (a .at) (c .stopped .result) (w .0 .taken) (w .2 .left) (c .stopped .ensures))
-    (λ w. end-unnamed (a .seen) (a .at) (c .stopped .result) (w .left) (c .stopped .ensures)) (c .before .if1 .came)
+    let due : (a .seen .named && eqb (a .seen .table) 3) ≡ false =
+    ⊎-elim (λ w. rw (w .0 .taken, ne-eqb (a .seen .table) 3 (w .2 .left))) (λ w. rw (w .left)) (c .before .if1 .came) in
+    let told : c .stopped .result .verdict ≡ endVerdict (a .seen) (a .at) = rw due (c .stopped .ensures .0) in
+    ((told, c .stopped .ensures .1), end-leads (a .seen) (a .at) (c .stopped .result) told (c .stopped .ensures .1))
 
 pub ended-spec : {M : Type 1} → statement M
 ended-spec = tie.close (tie.spec taken-requires returns stopped-requires returns-2)

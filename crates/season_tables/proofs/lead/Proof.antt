@@ -4,6 +4,7 @@ use mathlib.Core.Path.{sym, _∙_}
 use borrow.Author.Tests.{not-true, not-false}
 use lib.ListN.{take}
 use Rattle.season_tables.proofs.Leads.{line-numbered, lead-names, lead-values, lead-blank}
+use Rattle.season_tables.proofs.Keeps.{keeps-all}
 use Rattle.season_tables.proofs.lead.Statement.{statement}
 use Rattle.season_tables.proofs.lead.Tie as tie
 use Rattle.season_tables.proofs.lead.Reads as reads
@@ -24,8 +25,8 @@ take-names-requires c κs = search needs
 returns : tie.Need-returns
 returns c =
     let a = c .before .before .before .before .before .before .before .before .args in (
-      lead-names (a .seen) (a .catalog .now) (a .calls .now) (a .acts .now) (a .text .now) (take (a .count) (a .fields)) (a .at) (c .take-names .result) (c .before .is-heading .result) (not-true _ (c .before .before .if1 .taken)) (c .before .is-heading .ensures) (c .take-names .ensures),
-      c .before .before .before .before .before .before .before .before .pre .room .roomy,
+      lead-names (a .seen) (a .catalog .now) (a .calls .now) (a .acts .now) (a .text .now) (a .at) (c .take-names .result) (c .before .is-heading .result) (not-true _ (c .before .before .if1 .taken)) (c .before .is-heading .ensures) (c .take-names .ensures .0),
+      keeps-all (a .seen) (a .catalog .now) (a .calls .now) (a .acts .now) (c .take-names .result) (c .take-names .ensures .1),
     )
 
 wants-values-requires : tie.Need-wants-values-requires
@@ -39,7 +40,7 @@ take-line-requires c κs =
     let a = c .before .before .before .before .before .before .before .before .before .before .before .before .args in
     let p = c .before .before .before .before .before .before .before .before .before .before .before .before .pre in
     let line = c .before .before .before .line-in in
-    record { room = p .room; few = p .few; numbered = line-numbered (a .seen .table) (take (a .count) (a .fields)) (a .at) (line .result) (line .ensures) }
+    record { room = p .room; few = p .holds .few; numbered = line-numbered (a .seen .table) (take (a .count) (a .fields)) (a .at) (line .result) (line .ensures) }
 
 same-length : tie.Need-same-length
 same-length c = search needs
@@ -55,7 +56,7 @@ returns-2 c =
     let a = c .before .before .before .before .before .before .before .before .before .before .before .before .before .before .before .before .before .before .before .args in
     let p = c .before .before .before .before .before .before .take-line in
     let line = c .before .before .before .before .before .before .before .before .before .before .line-in in (
-      lead-values (a .seen) (a .catalog .now) (a .calls .now) (a .acts .now) (a .text .now) (take (a .count) (a .fields)) (a .at) (p .result) (line .result) (p .last .1 .1 .1 .0) (p .last .1 .1 .1 .1 .0) (p .last .1 .1 .1 .1 .1 .0) (not-false _ (c .before .before .before .before .before .before .before .before .before .before .before .before .before .if1 .left)) (sym (c .before .before .before .before .before .before .before .before .before .before .before .before .wants-values .ensures) ∙ c .before .before .before .before .before .before .before .before .before .before .before .if2 .taken) (line .ensures) (p .ensures .0),
+      lead-values (a .seen) (a .catalog .now) (a .calls .now) (a .acts .now) (a .text .now) (a .at) (p .result) (take (a .count) (a .fields)) (line .result) (p .last .1 .1 .1 .0) (p .last .1 .1 .1 .1 .0) (p .last .1 .1 .1 .1 .1 .0) (not-false _ (c .before .before .before .before .before .before .before .before .before .before .before .before .before .if1 .left)) (sym (c .before .before .before .before .before .before .before .before .before .before .before .before .wants-values .ensures) ∙ c .before .before .before .before .before .before .before .before .before .before .before .if2 .taken) (c .before .before .before .before .before .before .before .before .before .before .before .before .before .before .before .before .before .before .before .pre .looked) (line .ensures) (p .ensures .0),
       p .ensures .1,
     )
 
@@ -65,8 +66,8 @@ take-blank-requires c κs = search needs
 returns-3 : tie.Need-returns-3
 returns-3 c =
     let a = c .before .before .before .before .before .before .before .before .before .args in (
-      lead-blank (a .seen) (a .catalog .now) (a .calls .now) (a .acts .now) (a .text .now) (take (a .count) (a .fields)) (a .at) (c .take-blank .result) (not-false _ (c .before .before .before .if1 .left)) (sym (c .before .before .wants-values .ensures) ∙ c .before .if2 .left) (c .take-blank .ensures),
-      c .before .before .before .before .before .before .before .before .before .pre .room .roomy,
+      lead-blank (a .seen) (a .catalog .now) (a .calls .now) (a .acts .now) (a .text .now) (a .at) (c .take-blank .result) (not-false _ (c .before .before .before .if1 .left)) (sym (c .before .before .wants-values .ensures) ∙ c .before .if2 .left) (c .take-blank .ensures .0),
+      keeps-all (a .seen) (a .catalog .now) (a .calls .now) (a .acts .now) (c .take-blank .result) (c .take-blank .ensures .1),
     )
 
 pub lead-spec : {M : Type 1} → statement M

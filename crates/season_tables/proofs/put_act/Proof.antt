@@ -2,7 +2,7 @@
 use borrow.Author.Needs.{needs}
 use native.Mathlib.Omega.{arith}
 use lib.ListN.{length-set}
-use Rattle.season_tables.specs.Holds.{actNumbers}
+use Rattle.season_tables.specs.Inner.{actNumbers}
 use Rattle.season_tables.proofs.Notes.{put-three}
 use Rattle.season_tables.proofs.put_act.Statement.{statement}
 use Rattle.season_tables.proofs.put_act.Tie as tie

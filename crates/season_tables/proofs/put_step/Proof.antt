@@ -2,7 +2,7 @@
 use borrow.Author.Needs.{needs}
 use native.Mathlib.Omega.{arith}
 use lib.ListN.{length-set}
-use Rattle.season_tables.specs.Holds.{callNumbers}
+use Rattle.season_tables.specs.Inner.{callNumbers}
 use Rattle.season_tables.proofs.Notes.{put-four}
 use Rattle.season_tables.proofs.put_step.Statement.{statement}
 use Rattle.season_tables.proofs.put_step.Tie as tie

@@ -4,7 +4,7 @@ use mathlib.Core.Path.{refl, sym}
 use mathlib.Core.Logic.{⊎-elim}
 use native.Mathlib.Omega.{arith}
 use borrow.Author.Tests.{leb-true, leb-false}
-use Rattle.season_tables.proofs.Held.{act-early, act-late, act-unknown, act-noted}
+use Rattle.season_tables.proofs.Held.{act-early, act-late, act-unknown, act-noted, act-past}
 use Rattle.season_tables.proofs.take_act.Statement.{statement}
 use Rattle.season_tables.proofs.take_act.Tie as tie
 use Rattle.season_tables.proofs.take_act.Reads as reads
@@ -26,10 +26,10 @@ stopped-requires c κs = search needs
 returns : tie.Need-returns
 returns c =
     let a = c .before .before .before .before .before .args in (
-      ⊎-elim (λ w. act-early (a .seen) (a .acts .now) (a .place) (a .act) (a .at) (c .stopped .result) (w .taken) (c .stopped .ensures))
-          (λ w. act-late (a .seen) (a .acts .now) (a .place) (a .act) (a .at) (c .stopped .result) (w .0 .left) (leb-true _ _ (w .2 .taken)) (c .stopped .ensures))
+      ⊎-elim (λ w. act-early (a .seen) (a .acts .now) (a .place) (a .act) (a .at) (c .stopped .result) (w .taken) (c .stopped .ensures .0))
+          (λ w. act-late (a .seen) (a .acts .now) (a .place) (a .act) (a .at) (c .stopped .result) (w .0 .left) (leb-true _ _ (w .2 .taken)) (c .stopped .ensures .0))
           (c .before .if1 .came),
-      refl,
+      (refl, λ x t. (c .stopped .ensures .1, refl)),
     )
 
 stopped-requires-2 : tie.Need-stopped-requires-2
@@ -39,7 +39,7 @@ returns-2 : tie.Need-returns-2
 returns-2 c =
     let a = c .before .before .before .before .before .before .before .before .before .args in
     let item = c .before .before .before .before .before .before .before .item in
-    (act-unknown (a .seen) (a .acts .now) (a .place) (a .act) (a .at) (c .stopped2 .result) (c .before .before .before .before .before .if1 .left) (leb-false _ _ (c .before .before .before .if2 .left)) (rw (sym (item .ensures)) (c .before .if3 .taken)) (c .stopped2 .ensures), refl)
+    (act-unknown (a .seen) (a .acts .now) (a .place) (a .act) (a .at) (c .stopped2 .result) (c .before .before .before .before .before .if1 .left) (leb-false _ _ (c .before .before .before .if2 .left)) (rw (sym (item .ensures)) (c .before .if3 .taken)) (c .stopped2 .ensures .0), (refl, λ x t. (c .stopped2 .ensures .1, refl)))
 
 mul-put-act : tie.Need-mul-put-act
 mul-put-act c = search needs
@@ -60,8 +60,10 @@ returns-3 : tie.Need-returns-3
 returns-3 c =
     let a = c .before .before .before .before .before .before .before .before .before .before .before .before .before .args in
     let item = c .before .before .before .before .before .before .before .before .before .before .before .item in
-    let p = c .before .before .before .put-act in
-    (act-noted (a .seen) (a .acts .now) (a .place) (a .act) (a .at) (c .taken .result) (p .last .0) (c .before .before .before .before .before .before .before .before .before .if1 .left) (leb-false _ _ (c .before .before .before .before .before .before .before .if2 .left)) (rw (sym (item .ensures)) (c .before .before .before .before .before .if3 .left)) (omega arith) (c .taken .ensures .0) (c .taken .ensures .1) (p .ensures), p .kept .0)
+    let p = c .before .before .before .put-act in (
+      act-noted (a .seen) (a .acts .now) (a .place) (a .act) (a .at) (c .taken .result) (p .last .0) (c .before .before .before .before .before .before .before .before .before .if1 .left) (leb-false _ _ (c .before .before .before .before .before .before .before .if2 .left)) (rw (sym (item .ensures)) (c .before .before .before .before .before .if3 .left)) (omega arith) (c .taken .ensures .0) (c .taken .ensures .1) (p .ensures),
+      act-past (a .seen) (a .acts .now) (a .place) (a .act) (a .at) (c .taken .result) (p .last .0) (omega arith) (c .taken .ensures .0) (c .taken .ensures .1) (p .ensures),
+    )
 
 pub take-act-spec : {M : Type 1} → statement M
 take-act-spec =

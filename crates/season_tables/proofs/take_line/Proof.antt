@@ -1,7 +1,7 @@
 -- `season_tables::take_line` meets its contract: each arm leads where its line says. Assumes nothing.
 use borrow.Author.Needs.{needs}
-use mathlib.Core.Path.{_∙_}
 use Rattle.season_tables.proofs.Held.{line-says, line-refused, line-number}
+use Rattle.season_tables.proofs.Keeps.{stopped-keeps, keeps-all, keeps-items, keeps-steps, keeps-acts}
 use Rattle.season_tables.proofs.take_line.Statement.{statement}
 use Rattle.season_tables.proofs.take_line.Tie as tie
 use Rattle.season_tables.proofs.take_line.Reads as reads
@@ -47,8 +47,8 @@ stopped-requires c κs = search needs
 returns : tie.Need-returns
 returns c =
     let a = c .before .before .before .before .before .before .before .args in (
-      line-says (a .seen) (a .line) _ (a .at) (c .take-sizes .result) (a .catalog .now) (a .calls .now) (a .acts .now) (a .catalog .now) (a .calls .now) (a .acts .now) (c .before .before .line .given .1) (c .take-sizes .ensures (a .catalog .now) (a .calls .now) (a .acts .now)),
-      c .before .before .before .before .before .before .before .pre .room .roomy,
+      line-says (a .seen) (a .line) _ (a .at) (c .take-sizes .result) (a .catalog .now) (a .calls .now) (a .acts .now) (a .catalog .now) (a .calls .now) (a .acts .now) (c .before .before .line .given .1) (c .take-sizes .ensures .0 (a .catalog .now) (a .calls .now) (a .acts .now)),
+      keeps-all (a .seen) (a .catalog .now) (a .calls .now) (a .acts .now) (c .take-sizes .result) (c .take-sizes .ensures .1),
     )
 
 same-length : tie.Need-same-length
@@ -57,10 +57,9 @@ same-length c = search needs
 returns-2 : tie.Need-returns-2
 returns-2 c =
     let a = c .before .before .before .before .before .before .before .before .before .before .args in
-    let p = c .before .before .take-item in
-    let roomy = c .before .before .before .before .before .before .before .before .before .before .pre .room .roomy in (
+    let p = c .before .before .take-item in (
       line-says (a .seen) (a .line) _ (a .at) (p .result) (a .catalog .now) (a .calls .now) (a .acts .now) (p .last .1 .1 .1 .1 .1 .1 .0) (a .calls .now) (a .acts .now) (c .before .before .before .before .before .line2 .given .1) (p .ensures .0 (a .calls .now) (a .acts .now)),
-      record { forItems = p .ensures .1 ∙ roomy .forItems; forSteps = roomy .forSteps; forActs = roomy .forActs },
+      keeps-items (a .seen) (a .catalog .now) (a .calls .now) (a .acts .now) (p .result) (p .last .1 .1 .1 .1 .1 .1 .0) (p .ensures .1),
     )
 
 same-length-2 : tie.Need-same-length-2
@@ -72,10 +71,9 @@ same-length-3 c = search needs
 returns-3 : tie.Need-returns-3
 returns-3 c =
     let a = c .before .before .before .before .before .before .before .before .before .before .before .args in
-    let p = c .before .before .take-step in
-    let roomy = c .before .before .before .before .before .before .before .before .before .before .before .pre .room .roomy in (
+    let p = c .before .before .take-step in (
       line-says (a .seen) (a .line) _ (a .at) (p .result) (a .catalog .now) (a .calls .now) (a .acts .now) (a .catalog .now) (p .last .1 .1 .1 .1 .0) (a .acts .now) (c .before .before .before .before .before .before .line3 .given .1) (p .ensures .0 (a .acts .now)),
-      record { forItems = roomy .forItems; forSteps = p .ensures .1 ∙ roomy .forSteps; forActs = roomy .forActs },
+      keeps-steps (a .seen) (a .catalog .now) (a .calls .now) (a .acts .now) (p .result) (p .last .1 .1 .1 .1 .0) (p .ensures .1),
     )
 
 same-length-4 : tie.Need-same-length-4
@@ -84,17 +82,16 @@ same-length-4 c = search needs
 returns-4 : tie.Need-returns-4
 returns-4 c =
     let a = c .before .before .before .before .before .before .before .before .before .before .args in
-    let p = c .before .before .take-act in
-    let roomy = c .before .before .before .before .before .before .before .before .before .before .pre .room .roomy in (
+    let p = c .before .before .take-act in (
       line-says (a .seen) (a .line) _ (a .at) (p .result) (a .catalog .now) (a .calls .now) (a .acts .now) (a .catalog .now) (a .calls .now) (p .last .1 .1 .1 .1 .0) (c .before .before .before .before .before .line4 .given .1) (p .ensures .0 (a .catalog .now) (a .calls .now)),
-      record { forItems = roomy .forItems; forSteps = roomy .forSteps; forActs = p .ensures .1 ∙ roomy .forActs },
+      keeps-acts (a .seen) (a .catalog .now) (a .calls .now) (a .acts .now) (p .result) (p .last .1 .1 .1 .1 .0) (p .ensures .1),
     )
 
 returns-5 : tie.Need-returns-5
 returns-5 c =
     let a = c .before .before .before .before .before .before .before .args in (
-      line-says (a .seen) (a .line) _ (a .at) (c .stopped .result) (a .catalog .now) (a .calls .now) (a .acts .now) (a .catalog .now) (a .calls .now) (a .acts .now) (c .before .before .line5 .given .1) (line-refused (a .seen) _ (a .at) (c .stopped .result) (a .catalog .now) (a .calls .now) (a .acts .now) (c .stopped .ensures)),
-      c .before .before .before .before .before .before .before .pre .room .roomy,
+      line-says (a .seen) (a .line) _ (a .at) (c .stopped .result) (a .catalog .now) (a .calls .now) (a .acts .now) (a .catalog .now) (a .calls .now) (a .acts .now) (c .before .before .line5 .given .1) (line-refused (a .seen) _ (a .at) (c .stopped .result) (a .catalog .now) (a .calls .now) (a .acts .now) (c .stopped .ensures .0)),
+      keeps-all (a .seen) (a .catalog .now) (a .calls .now) (a .acts .now) (c .stopped .result) (stopped-keeps (a .seen) (c .stopped .result) (c .stopped .ensures .1)),
     )
 
 pub take-line-spec : {M : Type 1} → statement M

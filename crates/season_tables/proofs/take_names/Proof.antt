@@ -2,6 +2,7 @@
 use borrow.Author.Needs.{needs}
 use borrow.Author.Tests.{not-true, not-false}
 use Rattle.season_tables.proofs.Held.{names-right, names-wrong}
+use Rattle.season_tables.proofs.Keeps.{stopped-keeps, taken-keeps}
 use Rattle.season_tables.proofs.take_names.Statement.{statement}
 use Rattle.season_tables.proofs.take_names.Tie as tie
 use Rattle.season_tables.proofs.take_names.Reads as reads
@@ -15,7 +16,7 @@ stopped-requires c κs = search needs
 returns : tie.Need-returns
 returns c =
     let a = c .before .before .args in
-    names-wrong (a .seen) (a .right) (a .at) (c .stopped .result) (not-true _ (c .before .if1 .taken)) (c .stopped .ensures)
+    (names-wrong (a .seen) (a .right) (a .at) (c .stopped .result) (not-true _ (c .before .if1 .taken)) (c .stopped .ensures .0), stopped-keeps (a .seen) (c .stopped .result) (c .stopped .ensures .1))
 
 taken-requires : tie.Need-taken-requires
 taken-requires c κs = search needs
@@ -23,7 +24,7 @@ taken-requires c κs = search needs
 returns-2 : tie.Need-returns-2
 returns-2 c =
     let a = c .before .before .args in
-    names-right (a .seen) (a .right) (a .at) (c .taken .result) (not-false _ (c .before .if1 .left)) (c .taken .ensures .0) (c .taken .ensures .1)
+    (names-right (a .seen) (a .right) (a .at) (c .taken .result) (not-false _ (c .before .if1 .left)) (c .taken .ensures .0) (c .taken .ensures .1), taken-keeps (a .seen) (c .taken .result) (c .taken .ensures .0))
 
 pub take-names-spec : {M : Type 1} → statement M
 take-names-spec = tie.close (tie.spec stopped-requires returns taken-requires returns-2)

@@ -2,7 +2,7 @@
 use borrow.Author.Needs.{needs}
 use mathlib.Core.Path.{refl}
 use native.Mathlib.Omega.{arith}
-use Rattle.season_tables.proofs.Held.{step-unknown, step-large, step-noted}
+use Rattle.season_tables.proofs.Held.{step-unknown, step-large, step-noted, step-past}
 use Rattle.season_tables.proofs.take_step.Statement.{statement}
 use Rattle.season_tables.proofs.take_step.Tie as tie
 use Rattle.season_tables.proofs.take_step.Reads as reads
@@ -21,7 +21,7 @@ stopped-requires c κs = search needs
 returns : tie.Need-returns
 returns c =
     let a = c .before .before .before .before .before .args in
-    (step-unknown (a .seen) (a .catalog .now) (a .calls .now) (a .step) (a .at) (c .before .before .step-refused .result) (c .stopped .result) (c .before .before .step-refused .ensures) (c .before .if1 .taken) (c .stopped .ensures), refl)
+    (step-unknown (a .seen) (a .catalog .now) (a .calls .now) (a .step) (a .at) (c .before .before .step-refused .result) (c .stopped .result) (c .before .before .step-refused .ensures) (c .before .if1 .taken) (c .stopped .ensures .0), (refl, λ x t. (c .stopped .ensures .1, refl)))
 
 stopped-requires-2 : tie.Need-stopped-requires-2
 stopped-requires-2 c κs = search needs
@@ -29,7 +29,7 @@ stopped-requires-2 c κs = search needs
 returns-2 : tie.Need-returns-2
 returns-2 c =
     let a = c .before .before .before .before .before .before .args in
-    (step-large (a .seen) (a .catalog .now) (a .calls .now) (a .step) (a .at) (c .before .before .before .step-refused .result) (c .stopped2 .result) (c .before .before .before .step-refused .ensures) (c .before .before .if1 .left) (c .before .if2 .taken) (c .stopped2 .ensures), refl)
+    (step-large (a .seen) (a .catalog .now) (a .calls .now) (a .step) (a .at) (c .before .before .before .step-refused .result) (c .stopped2 .result) (c .before .before .before .step-refused .ensures) (c .before .before .if1 .left) (c .before .if2 .taken) (c .stopped2 .ensures .0), (refl, λ x t. (c .stopped2 .ensures .1, refl)))
 
 mul-put-step : tie.Need-mul-put-step
 mul-put-step c = search needs
@@ -50,7 +50,10 @@ returns-3 : tie.Need-returns-3
 returns-3 c =
     let a = c .before .before .before .before .before .before .before .before .before .before .args in
     let p = c .before .before .before .put-step in
-    (step-noted (a .seen) (a .catalog .now) (a .calls .now) (a .step) (a .at) (c .before .before .before .before .before .before .before .step-refused .result) (c .taken .result) (p .last .0) (c .before .before .before .before .before .before .before .step-refused .ensures) (c .before .before .before .before .before .if2 .left) (omega arith) (c .taken .ensures .0) (c .taken .ensures .1) (p .ensures), p .kept .0)
+    let number = c .before .before .before .before .before .before .before .step-refused in (
+      step-noted (a .seen) (a .catalog .now) (a .calls .now) (a .step) (a .at) (number .result) (c .taken .result) (p .last .0) (number .ensures) (c .before .before .before .before .before .if2 .left) (omega arith) (c .taken .ensures .0) (c .taken .ensures .1) (p .ensures),
+      step-past (a .seen) (a .catalog .now) (a .calls .now) (a .step) (a .at) (number .result) (c .taken .result) (p .last .0) (omega arith) (c .taken .ensures .0) (c .taken .ensures .1) (p .ensures),
+    )
 
 pub take-step-spec : {M : Type 1} → statement M
 take-step-spec =

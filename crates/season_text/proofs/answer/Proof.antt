@@ -1,20 +1,15 @@
 -- `season_text::answer` meets its contract. Assumes nothing.
-use mathlib.Core.Path.{sym, subst}
+use mathlib.Core.Path.{_≡_, sym, subst}
 use Prim.Native.Nat.{_*_, _≤_}
 use native.Mathlib.Omega.{arith}
 use lib.ListN.{length, take}
 use lib.Seq.{length-take-le}
 use borrow.Author.Needs.{needs}
 use Rattle.season_tables.specs.Tables.{readingOf}
-use Rattle.season_plan.specs.Copies.{PriceSmall}
+use Rattle.season_plan.specs.Inner.{PriceSmall}
 use Rattle.season_text.proofs.Answers.{Reads, too-long, taken-reads, items-few, priceable, reportable, line-refused, plan-refused, season-reported}
 use Rattle.season_text.proofs.answer.Statement.{statement}
 use Rattle.season_text.proofs.answer.Tie as tie
-use Rattle.season_text.proofs.answer.Reads as reads
-use Rattle.season_text.proofs.answer.Lts as lts
-use Rattle.season_plan.proofs.price_plan.Reads as price-plan-reads
-use Rattle.season_scan.proofs.scan.Reads as scan-reads
-use Rattle.season_text.proofs.report_season.Reads as report-season-reads
 
 returns : tie.Need-returns
 returns c = let a = c .before .before .before .args in too-long (a .text .now) (a .page .now) (c .if1 .taken)
@@ -43,15 +38,25 @@ few c =
     let r = c .before .before .before .before .before .before .before .scan in
     items-few (readingOf (c .before .before .before .before .before .before .before .before .before .before .before .before .before .before .args .text .now)) (r .result) (r .last .1 .0) (r .last .1 .1 .0) (r .last .1 .1 .1 .0) (r .ensures .0) (c .before .enum-told .given .1)
 
+-- the slices are as long as the arrays
+for-items : (c : tie.After-struct-known) → length (c .before .before .before .before .before .before .before .scan .last .1 .0) ≡ 1280
+for-items c = search needs
+
+for-steps : (c : tie.After-struct-known) → length (c .before .before .before .before .before .before .before .scan .last .1 .1 .0) ≡ 43692
+for-steps c = search needs
+
+for-acts : (c : tie.After-struct-known) → length (c .before .before .before .before .before .before .before .scan .last .1 .1 .1 .0) ≡ 32769
+for-acts c = search needs
+
 inside : (c : tie.After-struct-known) → 5 * c .before .before .before .before .before .before .before .scan .result .seen .n ≤ length (c .before .before .before .before .before .before .before .scan .last .1 .0)
-inside c = omega (arith, few c, c .before .before .before .before .before .before .before .scan .ensures .1 .1 .forItems)
+inside c = omega (arith, few c, for-items c)
 
 read :
     (c : tie.After-struct-known) →
     (let r = c .before .before .before .before .before .before .before .scan in Reads (c .before .before .before .before .before .before .before .before .before .before .before .before .before .before .args .text .now) (r .result .seen) (take (5 * r .result .seen .n) (r .last .1 .0)) (r .last .1 .1 .0) (r .last .1 .1 .1 .0))
 read c =
     let r = c .before .before .before .before .before .before .before .scan in
-    taken-reads (c .before .before .before .before .before .before .before .before .before .before .before .before .before .before .args .text .now) (r .result) (r .last .1 .0) (r .last .1 .1 .0) (r .last .1 .1 .1 .0) (c .before .before .before .before .before .before .before .before .before .before .before .if1 .left) (r .ensures .0) (r .ensures .1 .0) (r .ensures .1 .1) (c .before .enum-told .given .1)
+    taken-reads (c .before .before .before .before .before .before .before .before .before .before .before .before .before .before .args .text .now) (r .result) (r .last .1 .0) (r .last .1 .1 .0) (r .last .1 .1 .1 .0) (c .before .before .before .before .before .before .before .before .before .before .before .if1 .left) (r .ensures .0) (r .ensures .1 .0) (for-items c) (for-steps c) (for-acts c) (c .before .enum-told .given .1)
 
 mul-bytes : tie.Need-mul-bytes
 mul-bytes c = record { fits = omega (arith, few c) }

@@ -8,9 +8,6 @@ use borrow.Author.Needs.{needs}
 use Rattle.season_text.proofs.Closing.{season-closes}
 use Rattle.season_text.proofs.close_season.Statement.{statement}
 use Rattle.season_text.proofs.close_season.Tie as tie
-use Rattle.season_text.proofs.close_season.Reads as reads
-use Rattle.season_text.proofs.close_season.Lts as lts
-use Rattle.cache.proofs.run.Reads as run-reads
 
 mul-end : tie.Need-mul-end
 mul-end c = search needs

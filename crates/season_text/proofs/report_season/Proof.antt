@@ -1,14 +1,12 @@
 -- `season_text::report_season` meets its contract. Assumes nothing.
 use borrow.Author.Needs.{needs}
-use Rattle.season_text.specs.Runs.{Comparable}
-use Rattle.season_text.proofs.Answers.{comparable, reports-season}
+use Rattle.cache_state.specs.View.{view}
+use Rattle.layout.specs.Layout.{cacheOf}
+use Rattle.report.specs.declared.Rival.the-variants.{Against}
+use Rattle.report.specs.Inner.{RivalOk}
+use Rattle.season_text.proofs.Answers.{plan-blocks, rival-ok, reports-season}
 use Rattle.season_text.proofs.report_season.Statement.{statement}
 use Rattle.season_text.proofs.report_season.Tie as tie
-use Rattle.season_text.proofs.report_season.Reads as reads
-use Rattle.season_text.proofs.report_season.Lts as lts
-use Rattle.report.proofs.report.Reads as report-reads
-use Rattle.season_text.proofs.close_season.Reads as close-season-reads
-use Rattle.season_text.proofs.compared.Reads as compared-reads
 
 slice-aggregate-close-season : tie.Need-slice-aggregate-close-season
 slice-aggregate-close-season c = search needs
@@ -16,24 +14,19 @@ slice-aggregate-close-season c = search needs
 close-season-requires : tie.Need-close-season-requires
 close-season-requires c κs = search needs
 
-slice-aggregate-compared : tie.Need-slice-aggregate-compared
-slice-aggregate-compared c = search needs
-
--- the state of the closed season and the plan's cost can be compared
-can-compare : (c : tie.After-close-season) → (let a = c .before .before .before .before .before .before .args in Comparable (a .seen .k) (a .seen .h) (a .cost) (c .close-season .last .1 .1 .1 .0))
-can-compare c =
+-- the text's plan is in range for the state of the closed season
+fair :
+    (c : tie.After-close-season) →
+    (let a = c .before .before .before .before .before .before .args in RivalOk (view (cacheOf (c .close-season .last .1 .1 .1 .0))) (Against (a .seen .h) (a .cost)))
+fair c =
     let s = c .before .before .before .before .before .before in
-    let a = s .args in
-    comparable (a .seen) (a .catalog .now) (a .calls .now) (a .cost) (c .close-season .last .1 .1 .1 .0) (s .pre) (c .close-season .ensures)
-
-compared-requires : tie.Need-compared-requires
-compared-requires c κs = can-compare (c .before .before .before .before)
+    rival-ok (s .args .seen .h) (s .pre) (c .close-season .ensures) (plan-blocks (s .pre))
 
 slice-aggregate-report : tie.Need-slice-aggregate-report
 slice-aggregate-report c = search needs
 
 report-requires : tie.Need-report-requires
-report-requires c κs = search needs
+report-requires c κs = λ v. fair (c .before .before .before .before .before)
 
 same-length : tie.Need-same-length
 same-length c = search needs
@@ -44,8 +37,9 @@ same-length-2 c = search needs
 returns : tie.Need-returns
 returns c =
     λ acts v holds sound.
-    let ok = can-compare (c .before .before .before .before .before .before .before .before .before .before) in
-    reports-season holds (c .before .before .before .before .before .before .before .before .before .before .close-season .ensures acts v holds sound) ok (c .before .before .before .before .before .compared .ensures) (c .before .before .report .ensures .fine (ok .valid))
+    let run = c .before .before .before .before .before .before .before .before in
+    let closed = run .close-season .ensures acts v holds sound in
+    reports-season holds closed (fair run) (c .before .before .report .ensures .fine (closed .valid))
 
 pub report-season-spec : {M : Type 1} → statement M
 report-season-spec =
@@ -53,8 +47,6 @@ report-season-spec =
     (tie.spec
     slice-aggregate-close-season
     close-season-requires
-    slice-aggregate-compared
-    compared-requires
     slice-aggregate-report
     report-requires
     same-length

@@ -4,7 +4,7 @@ use mathlib.Core.Path.{_≡_}
 use Prim.Native.Nat.{ℕ}
 use native.Mathlib.Omega.{arith}
 use borrow.Author.Needs.{needs}
-use Rattle.layout.specs.Layout.{numbers, atLoadCredits, atWriteCredits, atTenths, atItemLoads, atItemWritebacks, atItemLoadCosts, atItemWriteCosts, atBlocks}
+use Rattle.layout.specs.Layout.{numbersAt, atLoadCredits, atWriteCredits, atTenths, atItemLoads, atItemWritebacks, atItemLoadCosts, atItemWriteCosts, atBlocks}
 use Rattle.cache_value.proofs.bytes.decode.Statement.{statement}
 use Rattle.cache_value.proofs.bytes.decode.Tie as tie
 
@@ -75,7 +75,7 @@ get-flags-requires : tie.Need-get-flags-requires
 get-flags-requires c κs = omega (arith, c .before .before .before .before .before .before .before .before .before .before .before .before .before .before .before .before .before .before .before .before .before .before .pre)
 
 -- numbers as the reader has found them, with the place and the width at which the layout has them
-many : (b : List ℕ) (at w : ℕ) {vs : List ℕ} → vs ≡ numbers b at 256 w → vs ≡ numbers b at 256 w
+many : (b : List ℕ) (at w : ℕ) {vs : List ℕ} → vs ≡ numbersAt b at 256 w → vs ≡ numbersAt b at 256 w
 many b at w e = e
 
 returns : tie.Need-returns

@@ -5,9 +5,9 @@ use mir.Val.{bits}
 use mir.Syntax.{Width, w8, w16, w32, w64}
 use lib.ListN.{getD}
 use borrow.Author.Needs.{needs}
-use Rattle.layout.specs.Layout.{rows, Whole, Fits}
+use Rattle.layout.specs.InnerRows.{fieldRows, WholeArrays, Fits}
+use Rattle.layout.proofs.Rounds.{store-all}
 use Rattle.cache_value.specs.Struct.{recordOf}
-use Rattle.cache_value.proofs.Stores.{store-all}
 use Rattle.cache_value.proofs.bytes.encode.Statement.{statement}
 use Rattle.cache_value.proofs.bytes.encode.Tie as tie
 
@@ -36,7 +36,7 @@ same-length c = search needs
 below : (w : Width) (v : ℕ) → val.Fits w v → v < 2 ^ bits w
 below w v f = f .fits
 
-whole : (c : tie.Start) → Whole (recordOf (c .args .t1))
+whole : (c : tie.Start) → WholeArrays (recordOf (c .args .t1))
 whole c =
     record {
       dirty = search needs;
@@ -78,7 +78,7 @@ fitting c n =
     }
 
 returns : tie.Need-returns
-unfolding rows
+unfolding fieldRows
 returns c =
     let start = c .before .before .before .before .before .before .before .before .before .before .before .before .before .before .before .before .before .before .before .before .before .before .before .before .before .before .before .before .before .before .before .before .before .before .before .before .before .before in (
       rw (

@@ -1,0 +1,52 @@
+-- What the functions of an opening in lent bytes give. Assumes nothing.
+use mathlib.Core.Path.{_≡_}
+use mathlib.Core.Bool.{Bool}
+use mathlib.Core.List.{List}
+use Prim.Native.Nat.{ℕ, _/_, _≤_, _<_}
+use lib.ListN.{length, getD}
+use Rattle.catalog_bytes.specs.Catalogs.{itemIn}
+use Rattle.cache_state.specs.Cache.{Cache}
+use Rattle.cache_state.specs.InnerWith.{withCatalog, withClosed}
+use Rattle.cache_room.specs.InnerStores.{storeTo}
+use Rattle.layout.specs.Inner.{Readable, cleared}
+use Rattle.landlord.specs.Calls.{stepCall, refusalNow}
+use Rattle.cache_state.specs.View.{view}
+use Rattle.layout.specs.Layout.{cacheOf}
+use Rattle.layout.specs.Valid.{ValidBytes}
+
+-- the blocks of the first n items are in range; costs are by their width
+pub record BlocksIn (n : ℕ) (xs : List ℕ) : Type 0 where
+  pub some : (i : ℕ) → i < n → 1 ≤ itemIn xs i .blocks
+  pub small : (i : ℕ) → i < n → itemIn xs i .blocks ≤ 16
+
+-- a catalog of n items that have places in the state
+pub record WholeCatalog (n : ℕ) (xs : List ℕ) : Type 0 where
+  pub count : n ≡ length xs / 5
+  pub few : n ≤ 256
+
+-- the cache with the first n items of the catalog stored
+abbrev pub enteredOf : Cache → List ℕ → ℕ → Cache
+enteredOf c xs n =
+    withCatalog c (c .k) (c .n)
+    (storeTo n (λ i. itemIn xs i .blocks) (c .blocks))
+    (storeTo n (λ i. itemIn xs i .load) (c .load))
+    (storeTo n (λ i. itemIn xs i .write) (c .write))
+
+-- a cache of these capacity and catalog, in which nothing is held and nothing counted
+abbrev pub emptyWith : ℕ → ℕ → List ℕ → List ℕ → List ℕ → Bool → Cache
+emptyWith k n blocks load write isClosed = withClosed (withCatalog cleared k n blocks load write) isClosed
+
+-- a number of each of n items, and 0 past them
+pub record Column (n : ℕ) (f : ℕ → ℕ) (r : List ℕ) : Type 0 where
+  pub front : (i : ℕ) → i < n → getD r i 0 ≡ f i
+  pub rest : (i : ℕ) → n ≤ i → i < 256 → getD r i 0 ≡ 0
+
+-- what storing them asks
+pub record Enterable (b : List ℕ) (n : ℕ) (xs : List ℕ) : Type 0 where
+  pub reads : Readable b
+  pub whole : WholeCatalog n xs
+
+-- a step on valid bytes that the table does not refuse
+pub record TablePasses (b : List ℕ) (kind item minutes : ℕ) : Type 0 where
+  pub valid : ValidBytes b
+  pub free : refusalNow (view (cacheOf b)) (stepCall kind item minutes) ≡ 0

@@ -1,0 +1,102 @@
+-- What the functions of this crate ask for, and the caches that they hand back, field by field. Assumes nothing.
+use mathlib.Core.Path.{_≡_}
+use mathlib.Core.Bool.{Bool, true, false}
+use mathlib.Core.List.{List}
+use Prim.Native.Nat.{ℕ, _+_, _*_, _-_, _≤_, _<_}
+use lib.ListN.{getD, set}
+use Rattle.landlord.specs.Catalog.{full}
+use Rattle.landlord.specs.Rule.{used}
+use Rattle.landlord.specs.Figures.{totalsOf}
+use Rattle.marks.specs.Inner.{marks}
+use Rattle.cache_state.specs.Cache.{Cache}
+use Rattle.cache_state.specs.View.{stateOf}
+use Rattle.cache_state.specs.Valid.{Normal}
+pub use Rattle.cache_state.specs.InnerWith.{withSlots, withFigures}
+use Rattle.layout.specs.Layout.{cacheOf}
+use Rattle.layout.specs.Inner.{Readable, ValidAt}
+use Rattle.layout.specs.Valid.{ValidBytes}
+use Rattle.cache_room.specs.InnerStores.{storeTo}
+
+-- no credit is greater than this
+abbrev pub mostCredit : ℕ
+mostCredit = full 65535
+
+-- credits and blocks of which a rank can be told
+pub record Ranked (a b blocks : ℕ) : Type 0 where
+  pub some : 1 ≤ blocks
+  pub load : a ≤ mostCredit
+  pub write : b ≤ mostCredit
+
+-- c with other counts of evictions, of dirty evictions, of writebacks (in all, their cost, and by item)
+abbrev pub withCounts : Cache → ℕ → ℕ → ℕ → ℕ → List ℕ → Cache
+withCounts c e de w wc ws =
+    withFigures c (c .tenths) (c .itemloads) ws (totalsOf (c .steps) (c .hits) (c .loads) (c .loadcost) e de w wc (c .flushes))
+
+-- what item i loses where each block loses m
+abbrev pub lossAt : Cache → ℕ → ℕ → ℕ
+lossAt c m i = getD (c .blocks) i 0 * m
+
+-- its credits after that: the write credit bears what it can, and the load credit the rest
+abbrev pub writeLeft : Cache → ℕ → ℕ → ℕ
+writeLeft c m i = getD (c .writecredit) i 0 - lossAt c m i
+
+abbrev pub loadLeft : Cache → ℕ → ℕ → ℕ
+loadLeft c m i = getD (c .loadcredit) i 0 - (lossAt c m i - getD (c .writecredit) i 0)
+
+-- the items below n have lost m for each block
+abbrev pub chargedOf : Cache → ℕ → ℕ → Cache
+chargedOf c m n = withSlots c (c .held) (storeTo n (loadLeft c m) (c .loadcredit)) (storeTo n (writeLeft c m) (c .writecredit)) (c .dirty)
+
+-- item v is dropped; d are the words of the dirty marks
+abbrev pub droppedOf : Cache → ℕ → List ℕ → Cache
+droppedOf c v d = withSlots c (set (c .held) v false) (set (c .loadcredit) v 0) (set (c .writecredit) v 0) d
+
+pub record Dropped (c : Cache) (v : ℕ) (r : Cache) : Type 0 where
+  pub fields : r ≡ droppedOf c v (r .dirty)
+  pub unmarked : marks (r .dirty) ≡ set (marks (c .dirty)) v false
+
+-- the eviction of item v is counted, and if it was dirty its writeback
+abbrev pub countedOf : Cache → ℕ → Bool → Cache
+countedOf c v false = withCounts c (c .evictions + 1) (c .dirtyevictions) (c .writebacks) (c .writecost) (c .itemwritebacks)
+countedOf c v true =
+    withCounts c (c .evictions + 1) (c .dirtyevictions + 1) (c .writebacks + 1) (c .writecost + getD (c .write) v 0)
+    (set (c .itemwritebacks) v (getD (c .itemwritebacks) v 0 + 1))
+
+-- counts that can grow by one: in a valid cache none is above the steps, of which there are at most 1,000,000
+pub record Countable (c : Cache) (v : ℕ) : Type 0 where
+  pub known : v < 256
+  pub evictions : c .evictions ≤ 1000000
+  pub dirtyEvictions : c .dirtyevictions ≤ 1000000
+  pub writebacks : c .writebacks ≤ 1000000
+  pub itemWritebacks : getD (c .itemwritebacks) v 0 ≤ 1000000
+  pub writeCost : c .writecost ≤ 65535 * 1000000
+
+-- ---- of the bytes of a state
+
+-- bytes of n items that can be charged: what is not held has no credit, and a rank is at most the two credits
+pub record ChargeableAt (b : List ℕ) (n m : ℕ) : Type 0 where
+  pub reads : Readable b
+  pub count : n ≡ cacheOf b .n
+  pub fields : Normal (cacheOf b)
+  pub rank : m ≤ mostCredit + mostCredit
+
+-- item v is dropped
+pub record DroppedAt (b : List ℕ) (v : ℕ) (left : List ℕ) : Type 0 where
+  pub reads : Readable left
+  pub cache : Dropped (cacheOf b) v (cacheOf left)
+
+-- the eviction of item v can be counted
+pub record CountableAt (b : List ℕ) (v : ℕ) : Type 0 where
+  pub reads : Readable b
+  pub counts : Countable (cacheOf b) v
+
+-- valid bytes of n items of which something is held
+pub record CrowdedAt (b : List ℕ) (n : ℕ) : Type 0 where
+  pub valid : ValidAt b n
+  pub some : 1 ≤ used (stateOf (cacheOf b))
+
+-- valid bytes, and an item that such a cache can hold
+pub record WantedAt (b : List ℕ) (i : ℕ) : Type 0 where
+  pub valid : ValidBytes b
+  pub known : i < cacheOf b .n
+  pub fits : getD (cacheOf b .blocks) i 0 ≤ cacheOf b .k

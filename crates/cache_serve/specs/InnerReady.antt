@@ -1,0 +1,53 @@
+-- What a caller must have shown before a step is counted or an item's fields are stored. Assumes nothing.
+use mathlib.Core.List.{List}
+use Prim.Native.Nat.{ℕ, _*_, _<_, _≤_}
+use lib.ListN.{getD}
+use Rattle.cache_state.specs.Cache.{Cache}
+use Rattle.cache_state.specs.Valid.{Valid}
+use Rattle.layout.specs.Layout.{cacheOf}
+use Rattle.layout.specs.Inner.{Readable}
+use Rattle.layout.specs.Valid.{ValidBytes}
+
+-- one step more can be counted: "at most 1,000,000"
+pub record Steppable (c : Cache) : Type 0 where
+  pub valid : Valid c
+  pub room : c .steps < 1000000
+
+-- and item i is in the catalog
+pub record Servable (c : Cache) (i : ℕ) : Type 0 where
+  pub valid : Valid c
+  pub item : i < c .n
+  pub room : c .steps < 1000000
+
+-- a write of item i can be counted: "a write with minutes 0 to 1,440", and tenths at most 240 × steps
+pub record Writable (c : Cache) (i minutes : ℕ) : Type 0 where
+  pub place : i < 256
+  pub short : minutes ≤ 1440
+  pub tenths : getD (c .tenths) i 0 ≤ 240000000
+
+-- item i can be written back, and that counted. Writebacks are at most 1,000,000, one for each step, before a flush, which adds at
+-- most one for each of the 256 numbers.
+pub record Flushable (c : Cache) (i : ℕ) : Type 0 where
+  pub place : i < 256
+  pub total : c .writebacks ≤ 1000256
+  pub own : getD (c .itemwritebacks) i 0 ≤ 1000256
+  pub cost : c .writecost ≤ 65535 * 1000256
+
+-- ---- the same of the bytes of a state
+
+pub record SteppableAt (b : List ℕ) : Type 0 where
+  pub valid : ValidBytes b
+  pub room : cacheOf b .steps < 1000000
+
+pub record ServableAt (b : List ℕ) (i : ℕ) : Type 0 where
+  pub valid : ValidBytes b
+  pub item : i < cacheOf b .n
+  pub room : cacheOf b .steps < 1000000
+
+pub record WritableAt (b : List ℕ) (i minutes : ℕ) : Type 0 where
+  pub reads : Readable b
+  pub counts : Writable (cacheOf b) i minutes
+
+pub record FlushableAt (b : List ℕ) (i : ℕ) : Type 0 where
+  pub reads : Readable b
+  pub counts : Flushable (cacheOf b) i

@@ -1,0 +1,39 @@
+-- Fields that are tidy (`Normal`) stay so where totals and the closing change, and the writebacks of items with nothing counted past
+-- the catalog. Assumes nothing.
+use mathlib.Core.Path.{_≡_}
+use mathlib.Core.Bool.{Bool}
+use mathlib.Core.List.{List}
+use Prim.Native.Nat.{ℕ, _≤_, _<_}
+use lib.ListN.{getD}
+use Rattle.landlord.specs.Figures.{Totals}
+use Rattle.cache_state.specs.Cache.{Cache}
+use Rattle.cache_state.specs.InnerWith.{withFigures, withClosed}
+use Rattle.cache_state.specs.Valid.{Emptied, Blank, Normal}
+
+module _ (c : Cache) (ws : List ℕ) (t : Totals) (isClosed : Bool) (ok : Normal c) (none : (i : ℕ) → c .n ≤ i → i < 256 → getD ws i 0 ≡ 0) where
+  abbrev counted : Cache
+  counted = withClosed (withFigures c (c .tenths) (c .itemloads) ws t) isClosed
+
+  -- the slots are as they were
+  slot-same : (i : ℕ) → Emptied c i → Emptied counted i
+  slot-same i x = record { dirty = x .dirty; loadCredit = x .loadCredit; writeCredit = x .writeCredit }
+
+  past : (i : ℕ) → c .n ≤ i → i < 256 → Blank counted i
+  past i l m =
+      let x : Blank c i = ok .past i l m in
+      record {
+        place =
+            record {
+              held = x .place .held;
+              slot = slot-same i (x .place .slot);
+              tenths = x .place .tenths;
+              loads = x .place .loads;
+              writebacks = none i l m;
+            };
+        blocks = x .blocks;
+        load = x .load;
+        write = x .write;
+      }
+
+  pub figures-normal : Normal (withClosed (withFigures c (c .tenths) (c .itemloads) ws t) isClosed)
+  figures-normal = record { few = ok .few; past = past; absent = λ i l e. slot-same i (ok .absent i l e); clean = ok .clean }

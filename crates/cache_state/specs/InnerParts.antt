@@ -1,0 +1,32 @@
+-- What the parts of the check of validity decide, on the fields of a cache: that the places past the catalog are blank, and what the
+-- tests of the crate `validity` find. proofs/Checks.antt shows that together they are validity. Assumes nothing.
+use Prim.Native.Nat.{ℕ, _≤_, _<_}
+use mathlib.Core.Bool.{false}
+use lib.ListN.{getD}
+use Rattle.landlord.specs.Fold.{sumTo}
+use Rattle.landlord.specs.Rule.{used, heldCount}
+use Rattle.marks.specs.Inner.{marks, countSet}
+use Rattle.validity.specs.Inner.{EntryOk, SumsOk}
+use Rattle.cache_state.specs.Cache.{Cache}
+use Rattle.cache_state.specs.Valid.{Blank}
+use Rattle.cache_state.specs.View.{dirtyAt, stateOf}
+
+-- every place past the catalog is blank
+pub record PastOk (c : Cache) : Type 0 where
+  pub each : (i : ℕ) → c .n ≤ i → i < 256 → Blank c i
+
+-- all that is asked of the item at place i: what `entry_ok` decides of its numbers
+abbrev pub EntryAt : Cache → ℕ → Type 0
+EntryAt c i =
+    EntryOk (getD (c .blocks) i 0) (getD (c .load) i 0) (getD (c .write) i 0) (getD (c .held) i false) (dirtyAt c i) (c .closed)
+    (getD (c .loadcredit) i 0) (getD (c .writecredit) i 0) (getD (c .tenths) i 0) (c .steps)
+
+-- every item of the catalog is as it should be
+pub record EntriesOk (c : Cache) : Type 0 where
+  pub each : (i : ℕ) → i < c .n → EntryAt c i
+
+-- what is asked of the sums over the items: what `balanced` decides of them. The dirty items are counted by their marks.
+abbrev pub SumsOf : Cache → Type 0
+SumsOf c =
+    SumsOk (c .k) (used (stateOf c)) (c .evictions) (heldCount (stateOf c)) (c .loads) (c .writebacks) (countSet (marks (c .dirty))) (c .steps)
+    (sumTo (c .n) (λ i. getD (c .itemloads) i 0)) (sumTo (c .n) (λ i. getD (c .itemwritebacks) i 0))

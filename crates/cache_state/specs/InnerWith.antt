@@ -1,0 +1,214 @@
+-- A cache with some of its fields replaced, from which the functions above it say what they store. First the four groups of fields,
+-- then each field by itself. Assumes nothing.
+use mathlib.Core.Bool.{Bool}
+use mathlib.Core.List.{List}
+use Prim.Native.Nat.{ℕ}
+use lib.ListN.{set}
+use Rattle.landlord.specs.Figures.{Totals, totalsOf}
+use Rattle.cache_state.specs.Cache.{Cache}
+use Rattle.cache_state.specs.View.{countsOf}
+
+-- a cache with another capacity and catalog
+abbrev pub withCatalog : Cache → ℕ → ℕ → List ℕ → List ℕ → List ℕ → Cache
+withCatalog c capacity count sizes loads writes =
+    record {
+      k = capacity;
+      n = count;
+      blocks = sizes;
+      load = loads;
+      write = writes;
+      held = c .held;
+      loadcredit = c .loadcredit;
+      writecredit = c .writecredit;
+      dirty = c .dirty;
+      tenths = c .tenths;
+      itemloads = c .itemloads;
+      itemwritebacks = c .itemwritebacks;
+      steps = c .steps;
+      hits = c .hits;
+      loads = c .loads;
+      loadcost = c .loadcost;
+      evictions = c .evictions;
+      dirtyevictions = c .dirtyevictions;
+      writebacks = c .writebacks;
+      writecost = c .writecost;
+      flushes = c .flushes;
+      closed = c .closed;
+    }
+
+-- a cache with other slots: which items are held, the two credits, and the marks of the dirty ones
+abbrev pub withSlots : Cache → List Bool → List ℕ → List ℕ → List ℕ → Cache
+withSlots c holds loads writes marked =
+    record {
+      k = c .k;
+      n = c .n;
+      blocks = c .blocks;
+      load = c .load;
+      write = c .write;
+      held = holds;
+      loadcredit = loads;
+      writecredit = writes;
+      dirty = marked;
+      tenths = c .tenths;
+      itemloads = c .itemloads;
+      itemwritebacks = c .itemwritebacks;
+      steps = c .steps;
+      hits = c .hits;
+      loads = c .loads;
+      loadcost = c .loadcost;
+      evictions = c .evictions;
+      dirtyevictions = c .dirtyevictions;
+      writebacks = c .writebacks;
+      writecost = c .writecost;
+      flushes = c .flushes;
+      closed = c .closed;
+    }
+
+-- a cache with other figures: tenths, loads and writebacks of each item, and the totals
+abbrev pub withFigures : Cache → List ℕ → List ℕ → List ℕ → Totals → Cache
+withFigures c tenthsNow loads writes t =
+    record {
+      k = c .k;
+      n = c .n;
+      blocks = c .blocks;
+      load = c .load;
+      write = c .write;
+      held = c .held;
+      loadcredit = c .loadcredit;
+      writecredit = c .writecredit;
+      dirty = c .dirty;
+      tenths = tenthsNow;
+      itemloads = loads;
+      itemwritebacks = writes;
+      steps = t .steps;
+      hits = t .hits;
+      loads = t .loads;
+      loadcost = t .loadCost;
+      evictions = t .evictions;
+      dirtyevictions = t .dirtyEvictions;
+      writebacks = t .writebacks;
+      writecost = t .writeCost;
+      flushes = t .flushes;
+      closed = c .closed;
+    }
+
+-- a cache closed or not
+abbrev pub withClosed : Cache → Bool → Cache
+withClosed c isClosed =
+    record {
+      k = c .k;
+      n = c .n;
+      blocks = c .blocks;
+      load = c .load;
+      write = c .write;
+      held = c .held;
+      loadcredit = c .loadcredit;
+      writecredit = c .writecredit;
+      dirty = c .dirty;
+      tenths = c .tenths;
+      itemloads = c .itemloads;
+      itemwritebacks = c .itemwritebacks;
+      steps = c .steps;
+      hits = c .hits;
+      loads = c .loads;
+      loadcost = c .loadcost;
+      evictions = c .evictions;
+      dirtyevictions = c .dirtyevictions;
+      writebacks = c .writebacks;
+      writecost = c .writecost;
+      flushes = c .flushes;
+      closed = isClosed;
+    }
+
+-- ---- capacity and catalog
+
+abbrev pub withCapacity : Cache → ℕ → Cache
+withCapacity c v = withCatalog c v (c .n) (c .blocks) (c .load) (c .write)
+
+abbrev pub withCount : Cache → ℕ → Cache
+withCount c v = withCatalog c (c .k) v (c .blocks) (c .load) (c .write)
+
+-- of item i
+abbrev pub withBlocks : Cache → ℕ → ℕ → Cache
+withBlocks c i v = withCatalog c (c .k) (c .n) (set (c .blocks) i v) (c .load) (c .write)
+
+abbrev pub withItemLoadCost : Cache → ℕ → ℕ → Cache
+withItemLoadCost c i v = withCatalog c (c .k) (c .n) (c .blocks) (set (c .load) i v) (c .write)
+
+abbrev pub withItemWriteCost : Cache → ℕ → ℕ → Cache
+withItemWriteCost c i v = withCatalog c (c .k) (c .n) (c .blocks) (c .load) (set (c .write) i v)
+
+-- ---- slots, of item i, and the marks
+
+abbrev pub withHeld : Cache → ℕ → Bool → Cache
+withHeld c i f = withSlots c (set (c .held) i f) (c .loadcredit) (c .writecredit) (c .dirty)
+
+abbrev pub withLoadCredit : Cache → ℕ → ℕ → Cache
+withLoadCredit c i v = withSlots c (c .held) (set (c .loadcredit) i v) (c .writecredit) (c .dirty)
+
+abbrev pub withWriteCredit : Cache → ℕ → ℕ → Cache
+withWriteCredit c i v = withSlots c (c .held) (c .loadcredit) (set (c .writecredit) i v) (c .dirty)
+
+abbrev pub withDirty : Cache → List ℕ → Cache
+withDirty c words = withSlots c (c .held) (c .loadcredit) (c .writecredit) words
+
+-- ---- what is counted for item i
+
+abbrev pub withTenths : Cache → ℕ → ℕ → Cache
+withTenths c i v = withFigures c (set (c .tenths) i v) (c .itemloads) (c .itemwritebacks) (countsOf c)
+
+abbrev pub withItemLoads : Cache → ℕ → ℕ → Cache
+withItemLoads c i v = withFigures c (c .tenths) (set (c .itemloads) i v) (c .itemwritebacks) (countsOf c)
+
+abbrev pub withItemWritebacks : Cache → ℕ → ℕ → Cache
+withItemWritebacks c i v = withFigures c (c .tenths) (c .itemloads) (set (c .itemwritebacks) i v) (countsOf c)
+
+-- ---- the totals
+
+abbrev pub withTotals : Cache → Totals → Cache
+withTotals c t = withFigures c (c .tenths) (c .itemloads) (c .itemwritebacks) t
+
+abbrev pub withSteps : Cache → ℕ → Cache
+withSteps c v =
+    withTotals c
+    (totalsOf v (c .hits) (c .loads) (c .loadcost) (c .evictions) (c .dirtyevictions) (c .writebacks) (c .writecost) (c .flushes))
+
+abbrev pub withHits : Cache → ℕ → Cache
+withHits c v =
+    withTotals c
+    (totalsOf (c .steps) v (c .loads) (c .loadcost) (c .evictions) (c .dirtyevictions) (c .writebacks) (c .writecost) (c .flushes))
+
+abbrev pub withLoads : Cache → ℕ → Cache
+withLoads c v =
+    withTotals c
+    (totalsOf (c .steps) (c .hits) v (c .loadcost) (c .evictions) (c .dirtyevictions) (c .writebacks) (c .writecost) (c .flushes))
+
+abbrev pub withLoadCost : Cache → ℕ → Cache
+withLoadCost c v =
+    withTotals c
+    (totalsOf (c .steps) (c .hits) (c .loads) v (c .evictions) (c .dirtyevictions) (c .writebacks) (c .writecost) (c .flushes))
+
+abbrev pub withEvictions : Cache → ℕ → Cache
+withEvictions c v =
+    withTotals c
+    (totalsOf (c .steps) (c .hits) (c .loads) (c .loadcost) v (c .dirtyevictions) (c .writebacks) (c .writecost) (c .flushes))
+
+abbrev pub withDirtyEvictions : Cache → ℕ → Cache
+withDirtyEvictions c v =
+    withTotals c
+    (totalsOf (c .steps) (c .hits) (c .loads) (c .loadcost) (c .evictions) v (c .writebacks) (c .writecost) (c .flushes))
+
+abbrev pub withWritebacks : Cache → ℕ → Cache
+withWritebacks c v =
+    withTotals c
+    (totalsOf (c .steps) (c .hits) (c .loads) (c .loadcost) (c .evictions) (c .dirtyevictions) v (c .writecost) (c .flushes))
+
+abbrev pub withWriteCost : Cache → ℕ → Cache
+withWriteCost c v =
+    withTotals c
+    (totalsOf (c .steps) (c .hits) (c .loads) (c .loadcost) (c .evictions) (c .dirtyevictions) (c .writebacks) v (c .flushes))
+
+abbrev pub withFlushes : Cache → ℕ → Cache
+withFlushes c v =
+    withTotals c
+    (totalsOf (c .steps) (c .hits) (c .loads) (c .loadcost) (c .evictions) (c .dirtyevictions) (c .writebacks) (c .writecost) v)

@@ -1,0 +1,117 @@
+-- The ranges of the table, read off as inequalities and put together again. Assumes nothing.
+use mathlib.Core.Path.{_≡_, refl}
+use mathlib.Core.Logic.{_≢_}
+use mathlib.Core.Bool.{Bool, true, false, cond, _&&_, false≢true}
+use mathlib.Core.List.{[], _∷_}
+use Prim.Native.Nat.{ℕ, zero, suc, _≤_, _<_}
+use native.Mathlib.Omega.{arith}
+use lib.ListN.{length}
+use lib.Dec.{leb, eqb}
+use borrow.Author.Tests.{leb-true, eq-eqb, ne-eqb, le-leb, lt-leb}
+use Rattle.landlord.specs.Catalog.{Catalog, Item, itemAt, itemInRange, allInRange, catalogInRange, capacityInRange, CatalogOk, CapacityOk}
+use Rattle.landlord.specs.Calls.{openingRefusal, inRange}
+use Rattle.landlord.specs.Inner.{ItemFacts, CatalogFacts, CapacityFacts}
+
+and-left : (a b : Bool) → a && b ≡ true → a ≡ true
+and-left true b e = refl
+and-left false b e = absurd (false≢true e)
+
+and-right : (a b : Bool) → a && b ≡ true → b ≡ true
+and-right true b e = e
+and-right false b e = absurd (false≢true e)
+
+four-true : (a b c d : Bool) → a && b && c && d ≡ true → (a ≡ true) × (b ≡ true) × (c ≡ true) × (d ≡ true)
+four-true true true true true e = (refl, refl, refl, refl)
+four-true true true true false e = absurd (false≢true e)
+four-true true true false d e = absurd (false≢true e)
+four-true true false c d e = absurd (false≢true e)
+four-true false b c d e = absurd (false≢true e)
+
+-- ## An item
+
+pub item-facts : (x : Item) → itemInRange x ≡ true → ItemFacts x
+item-facts x e =
+    let f = four-true (leb 1 (x .blocks)) (leb (x .blocks) 16) (leb (x .load) 65535) (leb (x .write) 65535) e in
+    record {
+      some = leb-true 1 (x .blocks) (f .0);
+      small = leb-true (x .blocks) 16 (f .1);
+      load = leb-true (x .load) 65535 (f .2);
+      write = leb-true (x .write) 65535 (f .3);
+    }
+
+pub item-ok : (x : Item) → ItemFacts x → itemInRange x ≡ true
+item-ok x f =
+    rw (le-leb 1 (x .blocks) (f .some), le-leb (x .blocks) 16 (f .small), le-leb (x .load) 65535 (f .load), le-leb (x .write) 65535 (f .write))
+
+-- ## A catalog
+
+all-facts : (cat : Catalog) → allInRange cat ≡ true → (i : ℕ) → i < length cat → ItemFacts (itemAt cat i)
+unfolding allInRange
+all-facts [] e i l = absurd (let z : i < 0 = l in omega arith)
+all-facts (x ∷ items) e zero l = item-facts x (and-left (itemInRange x) (allInRange items) e)
+all-facts (x ∷ items) e (suc i) l = all-facts items (and-right (itemInRange x) (allInRange items) e) i (omega arith)
+
+all-ok : (cat : Catalog) → ((i : ℕ) → i < length cat → ItemFacts (itemAt cat i)) → allInRange cat ≡ true
+unfolding allInRange
+all-ok [] h = refl
+all-ok (x ∷ items) h = rw (item-ok x (h 0 (omega arith)), all-ok items (λ i l. h (suc i) (omega arith)))
+
+pub catalog-facts : (cat : Catalog) → CatalogOk cat → CatalogFacts cat
+unfolding catalogInRange
+catalog-facts cat ok =
+    record {
+      few = leb-true (length cat) 256 (and-left (leb (length cat) 256) (allInRange cat) ok);
+      each = all-facts cat (and-right (leb (length cat) 256) (allInRange cat) ok);
+    }
+
+pub catalog-ok : (cat : Catalog) → CatalogFacts cat → CatalogOk cat
+unfolding catalogInRange
+catalog-ok cat f = rw (le-leb (length cat) 256 (f .few), all-ok cat (f .each))
+
+-- ## A capacity
+
+pub capacity-facts : (k : ℕ) → CapacityOk k → CapacityFacts k
+capacity-facts k ok =
+    record { low = leb-true 1 k (and-left (leb 1 k) (leb k 4096) ok); high = leb-true k 4096 (and-right (leb 1 k) (leb k 4096) ok) }
+
+pub capacity-ok : (k : ℕ) → CapacityFacts k → CapacityOk k
+capacity-ok k f = rw (le-leb 1 k (f .low), le-leb k 4096 (f .high))
+
+-- ## An opening
+
+zero-or-three : (t : Bool) → _≡_ {A = ℕ} (cond t 0 3) 0 → t ≡ true
+zero-or-three true e = refl
+zero-or-three false e = absurd (omega arith)
+
+pub opening-taken : (k : ℕ) (cat : Catalog) → openingRefusal k cat ≡ 0 → CapacityOk k × CatalogOk cat
+unfolding openingRefusal
+opening-taken k cat e =
+    let both = zero-or-three (capacityInRange k && catalogInRange cat) e in
+    (and-left (capacityInRange k) (catalogInRange cat) both, and-right (capacityInRange k) (catalogInRange cat) both)
+
+pub opening-accepts : (k : ℕ) (cat : Catalog) → CapacityOk k → CatalogOk cat → openingRefusal k cat ≡ 0
+unfolding openingRefusal
+opening-accepts k cat size ok = rw (size, ok)
+
+-- an opening that asks for something out of range is refused
+pub range-refused : (k : ℕ) (cat : Catalog) → (CapacityOk k × CatalogOk cat → ⊥) → 3 ≡ openingRefusal k cat
+unfolding openingRefusal
+range-refused k cat none = go (capacityInRange k && catalogInRange cat) refl
+  where
+    go : (t : Bool) → capacityInRange k && catalogInRange cat ≡ t → _≡_ {A = ℕ} 3 (cond t 0 3)
+    go true e = absurd (none (and-left (capacityInRange k) (catalogInRange cat) e, and-right (capacityInRange k) (catalogInRange cat) e))
+    go false e = refl
+
+-- ## A step, test by test
+
+pub range-read : (kind i m : ℕ) → kind ≡ 82 → leb i 255 ≡ inRange kind i m
+range-read kind i m e = rw (eq-eqb kind 82 e)
+
+pub range-write : (kind i m : ℕ) → kind ≢ 82 → kind ≡ 87 → i ≤ 255 → leb m 1440 ≡ inRange kind i m
+range-write kind i m n e l = rw (ne-eqb kind 82 n, eq-eqb kind 87 e, le-leb i 255 l)
+
+pub range-wide : (kind i m : ℕ) → kind ≢ 82 → kind ≡ 87 → 255 < i → false ≡ inRange kind i m
+range-wide kind i m n e l = rw (ne-eqb kind 82 n, eq-eqb kind 87 e, lt-leb i 255 l)
+
+pub range-flush : (kind i m : ℕ) → kind ≢ 82 → kind ≢ 87 → eqb kind 76 ≡ inRange kind i m
+range-flush kind i m n e = rw (ne-eqb kind 82 n, ne-eqb kind 87 e)

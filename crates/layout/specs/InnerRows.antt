@@ -1,0 +1,91 @@
+-- The rows of the layout, each field with its place and its bytes, and which caches it has room for. For the laws that bytes and
+-- caches are one to one (proofs/Rounds.antt); no promise of an entry point cites this file. Assumes nothing.
+use mathlib.Core.Bool.{Bool, cond}
+use Prim.Native.Nat.{ℕ, _^_, _<_}
+use mathlib.Core.List.{List, [], _∷_, _++_}
+use Rattle.fields.specs.Inner.{le, runOf, flags, Below}
+use Rattle.cache_state.specs.Cache.{Cache}
+use Rattle.layout.specs.Layout.{format, atFormat, atCapacity, atCount, atClosed, atSteps, atHits, atLoads, atEvictions, atDirtyEvictions, atWritebacks, atFlushes, atLoadCost, atWriteCost, atDirty, atLoadCredits, atWriteCredits, atTenths, atItemLoads, atItemWritebacks, atItemLoadCosts, atItemWriteCosts, atBlocks, atHeld}
+use mathlib.Core.Path.{_≡_}
+use lib.ListN.{length}
+
+-- a yes or no as a number
+abbrev pub flag : Bool → ℕ
+flag f = cond f 1 0
+
+-- a field in its place: where it stands, and its bytes
+abbrev pub FieldRow : Type 0
+FieldRow = ℕ × List ℕ
+
+-- the bytes of rows, one after another
+abbrev pub rowBytes : List FieldRow → List ℕ
+rowBytes [] = []
+rowBytes (r ∷ rs) = r .1 ++ rowBytes rs
+
+unfoldable pub fieldRows : Cache → List FieldRow
+fieldRows c =
+    (atFormat, le 4 format)
+    ∷ (atCapacity, le 4 (c .k))
+    ∷ (atCount, le 2 (c .n))
+    ∷ (atClosed, le 2 (flag (c .closed)))
+    ∷ (atSteps, le 4 (c .steps))
+    ∷ (atHits, le 4 (c .hits))
+    ∷ (atLoads, le 4 (c .loads))
+    ∷ (atEvictions, le 4 (c .evictions))
+    ∷ (atDirtyEvictions, le 4 (c .dirtyevictions))
+    ∷ (atWritebacks, le 4 (c .writebacks))
+    ∷ (atFlushes, le 4 (c .flushes))
+    ∷ (atLoadCost, le 8 (c .loadcost))
+    ∷ (atWriteCost, le 8 (c .writecost))
+    ∷ (atDirty, runOf 8 (c .dirty))
+    ∷ (atLoadCredits, runOf 8 (c .loadcredit))
+    ∷ (atWriteCredits, runOf 8 (c .writecredit))
+    ∷ (atTenths, runOf 4 (c .tenths))
+    ∷ (atItemLoads, runOf 4 (c .itemloads))
+    ∷ (atItemWritebacks, runOf 4 (c .itemwritebacks))
+    ∷ (atItemLoadCosts, runOf 2 (c .load))
+    ∷ (atItemWriteCosts, runOf 2 (c .write))
+    ∷ (atBlocks, runOf 1 (c .blocks))
+    ∷ (atHeld, flags (c .held))
+    ∷ []
+
+-- the bytes of a cache
+unfoldable pub bytesOf : Cache → List ℕ
+bytesOf c = rowBytes (fieldRows c)
+
+-- every array has all its places
+pub record WholeArrays (c : Cache) : Type 0 where
+  pub dirty : length (c .dirty) ≡ 4
+  pub loadcredit : length (c .loadcredit) ≡ 256
+  pub writecredit : length (c .writecredit) ≡ 256
+  pub tenths : length (c .tenths) ≡ 256
+  pub itemloads : length (c .itemloads) ≡ 256
+  pub itemwritebacks : length (c .itemwritebacks) ≡ 256
+  pub load : length (c .load) ≡ 256
+  pub write : length (c .write) ≡ 256
+  pub blocks : length (c .blocks) ≡ 256
+  pub held : length (c .held) ≡ 256
+
+-- and every number has room in its bytes
+pub record Fits (c : Cache) : Type 0 where
+  pub whole : WholeArrays c
+  pub k : c .k < 2 ^ 32
+  pub n : c .n < 2 ^ 16
+  pub steps : c .steps < 2 ^ 32
+  pub hits : c .hits < 2 ^ 32
+  pub loads : c .loads < 2 ^ 32
+  pub evictions : c .evictions < 2 ^ 32
+  pub dirtyevictions : c .dirtyevictions < 2 ^ 32
+  pub writebacks : c .writebacks < 2 ^ 32
+  pub flushes : c .flushes < 2 ^ 32
+  pub loadcost : c .loadcost < 2 ^ 64
+  pub writecost : c .writecost < 2 ^ 64
+  pub dirty : Below (2 ^ 64) (c .dirty)
+  pub loadcredit : Below (2 ^ 64) (c .loadcredit)
+  pub writecredit : Below (2 ^ 64) (c .writecredit)
+  pub tenths : Below (2 ^ 32) (c .tenths)
+  pub itemloads : Below (2 ^ 32) (c .itemloads)
+  pub itemwritebacks : Below (2 ^ 32) (c .itemwritebacks)
+  pub load : Below (2 ^ 16) (c .load)
+  pub write : Below (2 ^ 16) (c .write)
+  pub blocks : Below (2 ^ 8) (c .blocks)

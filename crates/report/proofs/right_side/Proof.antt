@@ -1,0 +1,25 @@
+-- `report::right_side` meets its contract. Assumes nothing.
+use borrow.Author.Needs.{needs}
+use Rattle.layout.specs.Layout.{cacheOf}
+use Rattle.report.proofs.Sides.{right-fits}
+use Rattle.report.proofs.right_side.Statement.{statement}
+use Rattle.report.proofs.right_side.Tie as tie
+
+capacity-requires : tie.Need-capacity-requires
+capacity-requires c κs = search needs
+
+wide-requires : tie.Need-wide-requires
+wide-requires c κs = search needs
+
+mul-result : tie.Need-mul-result
+mul-result c =
+    let s = c .before .before .before in
+    record {
+      fits = rw (c .wide .ensures, c .before .capacity .ensures) (right-fits (cacheOf (s .args .b .now)) (s .pre .0 .cache) (s .args .cost) (s .pre .1));
+    }
+
+returns : tie.Need-returns
+returns c = rw (c .wide .ensures, c .before .capacity .ensures)
+
+pub right-side-spec : {M : Type 1} → statement M
+right-side-spec = tie.close (tie.spec capacity-requires wide-requires mul-result returns)

@@ -1,0 +1,316 @@
+-- A field as the program holds it makes the line that the field itself makes: each range ends far below `beyond`, so every test gives
+-- the same, and a line in range has the same numbers. Assumes nothing.
+use mathlib.Core.Path.{_≡_, refl, sym, ap, _∙_}
+use mathlib.Core.Bool.{Bool, true, false, cond, false≢true}
+use mathlib.Core.List.{List, map}
+use mathlib.Core.Logic.{_⊎_, inl, inr}
+use Prim.Native.Nat.{ℕ, _≤_, _<_}
+use native.Mathlib.Omega.{arith}
+use borrow.Author.Tests.{le-leb, lt-leb, leb-true, leb-false, ne-eqb}
+use lib.Dec.{leb, eqb}
+use lib.ListN.{length, length-map, List·getD-map}
+use Rattle.landlord.specs.declared.Step.the-variants.{Read, Write, Flush}
+use Rattle.landlord.specs.Calls.{inRange, stepOf}
+use Rattle.landlord.specs.Catalog.{itemInRange}
+use Rattle.season_lines.specs.declared.Field.{Field}
+use Rattle.season_lines.specs.declared.Field.the-variants.{Number, Letter, Dash, Other}
+use Rattle.season_lines.specs.declared.Line.{Line}
+use Rattle.season_lines.specs.declared.Line.the-variants.{Sizes, Item as ItemLine, Step, Act as Placed}
+use Rattle.season_lines.specs.Fields.{fieldAt, isNumber, isDash, isLetter, valueIn}
+use Rattle.season_lines.specs.Lines.{shapeThenRange, sizesLine, itemFrom, itemLine, stepShape, stepLine, actOf, actLine, lineIn}
+use Rattle.season_lines.specs.Inner.{beyond, heldField}
+use Rattle.season_lines.proofs.Laws.{and-parts, item-bounds, sizesShape, itemShape, stepsShape, actsShape, sizesRange, itemsRange, actsRange, sizesBy, itemBy, stepBy, actBy}
+use Rattle.season_lines.proofs.Pieces.{sizes-bounds, acts-bounds}
+
+-- ## A field
+
+held-number : (f : Field) → isNumber (heldField f) ≡ isNumber f
+held-number (Number v) = refl
+held-number (Letter b) = refl
+held-number Dash = refl
+held-number Other = refl
+
+held-dash : (f : Field) → isDash (heldField f) ≡ isDash f
+held-dash (Number v) = refl
+held-dash (Letter b) = refl
+held-dash Dash = refl
+held-dash Other = refl
+
+held-letter : (f : Field) → isLetter (heldField f) ≡ isLetter f
+held-letter (Number v) = refl
+held-letter (Letter b) = refl
+held-letter Dash = refl
+held-letter Other = refl
+
+-- a number and what is held of it: the same, or both are beyond every range
+abbrev HeldAs : ℕ → ℕ → Type 0
+HeldAs x v = (x ≡ v) ⊎ ((x ≡ beyond) × (beyond < v))
+
+held-value : (f : Field) → HeldAs (valueIn (heldField f)) (valueIn f)
+held-value (Number v) = go (leb v beyond) refl
+  where
+    go : (t : Bool) → leb v beyond ≡ t → HeldAs (cond t v beyond) v
+    go true e = inl refl
+    go false e = inr (refl, leb-false v beyond e)
+held-value (Letter b) = inl refl
+held-value Dash = inl refl
+held-value Other = inl refl
+
+-- so each test against a number below `beyond` gives the same
+module _ (f : Field) (m : ℕ) (low : m < beyond) where
+  abbrev held : ℕ
+  held = valueIn (heldField f)
+
+  abbrev value : ℕ
+  value = valueIn f
+
+  held-most : leb held m ≡ leb value m
+  held-most = go (held-value f)
+    where
+      go : HeldAs held value → leb held m ≡ leb value m
+      go (inl e) = ap (λ (x : ℕ). leb x m) e
+      go (inr w) = lt-leb held m (omega (arith, w .0)) ∙ sym (lt-leb value m (omega (arith, w .1)))
+
+  held-least : leb m held ≡ leb m value
+  held-least = go (held-value f)
+    where
+      go : HeldAs held value → leb m held ≡ leb m value
+      go (inl e) = ap (λ (x : ℕ). leb m x) e
+      go (inr w) = le-leb m held (omega (arith, w .0)) ∙ sym (le-leb m value (omega (arith, w .1)))
+
+  held-is : eqb held m ≡ eqb value m
+  held-is = go (held-value f)
+    where
+      go : HeldAs held value → eqb held m ≡ eqb value m
+      go (inl e) = ap (λ (x : ℕ). eqb x m) e
+      go (inr w) = ne-eqb held m (λ e. omega (arith, w .0)) ∙ sym (ne-eqb value m (λ e. omega (arith, w .1)))
+
+  held-same : value ≤ m → held ≡ value
+  held-same h = go (held-value f)
+    where
+      go : HeldAs held value → held ≡ value
+      go (inl e) = e
+      go (inr w) = absurd (omega (arith, w .1))
+
+-- ## A line by its fields
+
+-- lines of the same shape and in the same range, that say the same if they are in range
+same-judged :
+    (s t p q : Bool) (l m : Line) (n : ℕ) →
+    s ≡ t →
+    p ≡ q →
+    (q ≡ true → l ≡ m) →
+    shapeThenRange s p l n ≡ shapeThenRange t q m n
+same-judged s t p q l m n a b c = rw (a, b) (go t q c)
+  where
+    go : (t q : Bool) → (q ≡ true → l ≡ m) → shapeThenRange t q l n ≡ shapeThenRange t q m n
+    go true true c = c refl
+    go true false c = refl
+    go false q c = refl
+
+held-sizes : (count : ℕ) (k h : Field) (n : ℕ) → sizesBy count (heldField k) (heldField h) n ≡ sizesBy count k h n
+held-sizes count k h n = same-judged _ _ _ _ _ _ n shape range says
+  where
+    shape : sizesShape count (heldField k) (heldField h) ≡ sizesShape count k h
+    shape = rw (held-number k, held-number h)
+
+    range : sizesRange (valueIn (heldField k)) (valueIn (heldField h)) ≡ sizesRange (valueIn k) (valueIn h)
+    range =
+        rw (
+          held-least k 1 (omega arith),
+          held-most k 4096 (omega arith),
+          held-least h 1 (omega arith),
+          held-most h 4096 (omega arith),
+        )
+
+    says :
+        sizesRange (valueIn k) (valueIn h) ≡ true →
+        Sizes (valueIn (heldField k)) (valueIn (heldField h)) ≡ Sizes (valueIn k) (valueIn h)
+    says e =
+        let b = sizes-bounds (valueIn k) (valueIn h) e in
+        rw (held-same k 4096 (omega arith) (b .1), held-same h 4096 (omega arith) (b .3))
+
+held-item :
+    (count : ℕ) (i b l w : Field) (n : ℕ) →
+    itemBy count (heldField i) (heldField b) (heldField l) (heldField w) n ≡ itemBy count i b l w n
+held-item count i b l w n = same-judged _ _ _ _ _ _ n shape range says
+  where
+    shape : itemShape count (heldField i) (heldField b) (heldField l) (heldField w) ≡ itemShape count i b l w
+    shape = rw (held-number i, held-number b, held-number l, held-number w)
+
+    range :
+        itemsRange (valueIn (heldField i)) (valueIn (heldField b)) (valueIn (heldField l)) (valueIn (heldField w))
+        ≡ itemsRange (valueIn i) (valueIn b) (valueIn l) (valueIn w)
+    range =
+        rw (
+          held-most i 255 (omega arith),
+          held-least b 1 (omega arith),
+          held-most b 16 (omega arith),
+          held-most l 65535 (omega arith),
+          held-most w 65535 (omega arith),
+        )
+
+    says :
+        itemsRange (valueIn i) (valueIn b) (valueIn l) (valueIn w) ≡ true →
+        ItemLine (valueIn (heldField i)) (valueIn (heldField b)) (valueIn (heldField l)) (valueIn (heldField w))
+        ≡ ItemLine (valueIn i) (valueIn b) (valueIn l) (valueIn w)
+    says e =
+        let both = and-parts (leb (valueIn i) 255) (itemInRange (itemFrom (valueIn b) (valueIn l) (valueIn w))) e in
+        let d = item-bounds (valueIn b) (valueIn l) (valueIn w) (both .1) in
+        rw (
+          held-same i 255 (omega arith) (leb-true (valueIn i) 255 (both .0)),
+          held-same b 16 (omega arith) (d .1),
+          held-same l 65535 (omega arith) (d .2),
+          held-same w 65535 (omega arith) (d .3),
+        )
+
+held-shape :
+    (kind item minutes : Field) →
+    stepShape (valueIn (heldField kind)) (heldField item) (heldField minutes) ≡ stepShape (valueIn kind) item minutes
+unfolding stepShape
+held-shape kind item minutes =
+    rw (
+      held-is kind 82 (omega arith),
+      held-is kind 87 (omega arith),
+      held-is kind 76 (omega arith),
+      held-number item,
+      held-dash item,
+      held-number minutes,
+      held-dash minutes,
+    )
+
+both-yes : (p q : Bool) → cond p q false ≡ true → (p ≡ true) × (q ≡ true)
+both-yes true q e = (refl, e)
+both-yes false q e = absurd (false≢true e)
+
+held-step-of :
+    (kind item minutes : Field) →
+    inRange (valueIn kind) (valueIn item) (valueIn minutes) ≡ true →
+    stepOf (valueIn (heldField kind)) (valueIn (heldField item)) (valueIn (heldField minutes))
+    ≡ stepOf (valueIn kind) (valueIn item) (valueIn minutes)
+unfolding stepOf
+held-step-of kind item minutes e =
+    rw (held-is kind 82 (omega arith), held-is kind 87 (omega arith))
+    (go (eqb (valueIn kind) 82) (eqb (valueIn kind) 87) (eqb (valueIn kind) 76) e)
+  where
+    i : ℕ
+    i = valueIn item
+
+    m : ℕ
+    m = valueIn minutes
+
+    go :
+        (p q r : Bool) →
+        cond p (leb i 255) (cond q (cond (leb i 255) (leb m 1440) false) r) ≡ true →
+        cond p (Read (valueIn (heldField item)))
+        (cond q (Write (valueIn (heldField item)) (valueIn (heldField minutes))) Flush)
+        ≡ cond p (Read i) (cond q (Write i m) Flush)
+    go true q r e = ap Read (held-same item 255 (omega arith) (leb-true i 255 e))
+    go false true r e =
+        let both = both-yes (leb i 255) (leb m 1440) e in
+        rw
+        (held-same item 255 (omega arith) (leb-true i 255 (both .0)), held-same minutes 1440 (omega arith) (leb-true m 1440 (both .1)))
+    go false false r e = refl
+
+held-step :
+    (count : ℕ) (kind item minutes : Field) (n : ℕ) →
+    stepBy count (heldField kind) (heldField item) (heldField minutes) n ≡ stepBy count kind item minutes n
+held-step count kind item minutes n = same-judged _ _ _ _ _ _ n shape range says
+  where
+    shape :
+        stepsShape count (heldField kind) (valueIn (heldField kind)) (heldField item) (heldField minutes)
+        ≡ stepsShape count kind (valueIn kind) item minutes
+    shape = rw (held-letter kind, held-shape kind item minutes)
+
+    range :
+        inRange (valueIn (heldField kind)) (valueIn (heldField item)) (valueIn (heldField minutes))
+        ≡ inRange (valueIn kind) (valueIn item) (valueIn minutes)
+    range =
+        rw (
+          held-is kind 82 (omega arith),
+          held-is kind 87 (omega arith),
+          held-is kind 76 (omega arith),
+          held-most item 255 (omega arith),
+          held-most minutes 1440 (omega arith),
+        )
+
+    says :
+        inRange (valueIn kind) (valueIn item) (valueIn minutes) ≡ true →
+        Step (stepOf (valueIn (heldField kind)) (valueIn (heldField item)) (valueIn (heldField minutes)))
+        ≡ Step (stepOf (valueIn kind) (valueIn item) (valueIn minutes))
+    says e = ap Step (held-step-of kind item minutes e)
+
+held-act :
+    (count : ℕ) (place kind item : Field) (n : ℕ) →
+    actBy count (heldField place) (heldField kind) (heldField item) n ≡ actBy count place kind item n
+held-act count place kind item n = same-judged _ _ _ _ _ _ n shape range says
+  where
+    shape :
+        actsShape count (heldField place) (heldField kind) (valueIn (heldField kind)) (heldField item)
+        ≡ actsShape count place kind (valueIn kind) item
+    shape =
+        rw (
+          held-number place,
+          held-letter kind,
+          held-is kind 68 (omega arith),
+          held-is kind 70 (omega arith),
+          held-number item,
+          held-dash item,
+        )
+
+    range :
+        actsRange (valueIn (heldField place)) (valueIn (heldField kind)) (valueIn (heldField item))
+        ≡ actsRange (valueIn place) (valueIn kind) (valueIn item)
+    range =
+        rw (
+          held-most place 999999 (omega arith),
+          held-is kind 68 (omega arith),
+          held-is kind 70 (omega arith),
+          held-most item 255 (omega arith),
+        )
+
+    says :
+        actsRange (valueIn place) (valueIn kind) (valueIn item) ≡ true →
+        Placed (valueIn (heldField place)) (actOf (valueIn (heldField kind)) (valueIn (heldField item)))
+        ≡ Placed (valueIn place) (actOf (valueIn kind) (valueIn item))
+    says e =
+        let b = acts-bounds (valueIn place) (valueIn kind) (valueIn item) e in
+        rw (
+          held-same place 999999 (omega arith) (b .0),
+          held-is kind 68 (omega arith),
+          held-same item 255 (omega arith) (b .1),
+        )
+
+-- ## A line
+
+-- field j of the fields as they are held
+at-held : (fs : List Field) (j : ℕ) → fieldAt (map heldField fs) j ≡ heldField (fieldAt fs j)
+at-held fs j = List·getD-map heldField fs j Other
+
+module _ (fs : List Field) (n : ℕ) where
+  sizes-held : sizesLine (map heldField fs) n ≡ sizesLine fs n
+  unfolding sizesLine
+  sizes-held = rw (length-map fs heldField, at-held fs 0, at-held fs 1) (held-sizes (length fs) (fieldAt fs 0) (fieldAt fs 1) n)
+
+  item-held : itemLine (map heldField fs) n ≡ itemLine fs n
+  unfolding itemLine
+  item-held =
+      rw (length-map fs heldField, at-held fs 0, at-held fs 1, at-held fs 2, at-held fs 3)
+      (held-item (length fs) (fieldAt fs 0) (fieldAt fs 1) (fieldAt fs 2) (fieldAt fs 3) n)
+
+  step-held : stepLine (map heldField fs) n ≡ stepLine fs n
+  unfolding stepLine
+  step-held =
+      rw (length-map fs heldField, at-held fs 0, at-held fs 1, at-held fs 2)
+      (held-step (length fs) (fieldAt fs 0) (fieldAt fs 1) (fieldAt fs 2) n)
+
+  act-held : actLine (map heldField fs) n ≡ actLine fs n
+  unfolding actLine
+  act-held =
+      rw (length-map fs heldField, at-held fs 0, at-held fs 1, at-held fs 2)
+      (held-act (length fs) (fieldAt fs 0) (fieldAt fs 1) (fieldAt fs 2) n)
+
+-- the line that fields make is the line that they make as they are held
+pub held-line : (table : ℕ) (fs : List Field) (n : ℕ) → lineIn table (map heldField fs) n ≡ lineIn table fs n
+unfolding lineIn
+held-line table fs n = rw (sizes-held fs n, item-held fs n, step-held fs n, act-held fs n)

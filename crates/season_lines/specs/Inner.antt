@@ -1,0 +1,35 @@
+-- What the inner functions of the reader look for, and a field as the program holds it. Assumes nothing.
+use mathlib.Core.Bool.{cond, Bool, true, false}
+use mathlib.Core.List.{List, [], _∷_}
+use Prim.Native.Nat.{ℕ}
+use lib.Dec.{leb, eqb}
+use Rattle.season_lines.specs.declared.Field.{Field}
+use Rattle.season_lines.specs.declared.Field.the-variants.{Number, Letter, Dash, Other}
+
+-- the bytes before the first b, or all of them
+unfoldable pub before : ℕ → List ℕ → List ℕ
+before b [] = []
+before b (x ∷ s) = cond (eqb x b) [] (x ∷ before b s)
+
+-- neither a number nor a letter nor `-`: no line has such a field
+abbrev pub isOther : Field → Bool
+isOther (Number v) = false
+isOther (Letter b) = false
+isOther Dash = false
+isOther Other = true
+
+-- the largest number that the program holds; every range of the tables ends far below it
+abbrev pub beyond : ℕ
+beyond = 4294967295
+
+-- a number as the program holds it
+abbrev pub clipped : ℕ → ℕ
+clipped v = cond (leb v beyond) v beyond
+
+-- A field as the program holds it: a number above `beyond` counts as that one. A line is judged by it as by the field itself
+-- (proofs/Held.antt, held-line).
+abbrev pub heldField : Field → Field
+heldField (Number v) = Number (clipped v)
+heldField (Letter b) = Letter b
+heldField Dash = Dash
+heldField Other = Other

@@ -1,0 +1,33 @@
+-- How many steps and acts a text of at most 65,536 bytes can have, six bytes each; and what the scan leaves in the struct and the
+-- slices, whether it takes the text or refuses it. Assumes nothing.
+use mathlib.Core.List.{List, [], _∷_}
+use Prim.Native.Nat.{ℕ, suc, _≤_}
+use Rattle.season_lines.specs.Fields.{split}
+use Rattle.season_tables.specs.declared.Scanned.{Scanned}
+use Rattle.season_tables.specs.Tables.{Sofar, Led, on, stop, atStart, leads}
+use Rattle.season_tables.specs.Inner.{Holds, Untouched}
+
+-- an accepted text has no more
+abbrev pub Few : Led → Scanned → Type 0
+Few (on v) r = (r .seen .steps ≤ 10922) × (r .seen .acts ≤ 10922)
+Few (stop x) r = Unit {0}
+
+-- a line that leads on is followed by the next; before one that stops, this has been read
+abbrev pub onward : Sofar → Led → (Sofar → Sofar) → Sofar
+onward v (on w) next = next w
+onward v (stop r) next = v
+
+-- what has been read where the reading ends, from line n on: all, or what stands before the first faulty line
+unfoldable pub readUntil : ℕ → List (List ℕ) → Sofar → Sofar
+readUntil n [] v = v
+readUntil n (l ∷ []) v = v
+readUntil n (l ∷ m ∷ rest) v = onward v (leads v l n) (readUntil (suc n) (m ∷ rest))
+
+abbrev pub readIn : List ℕ → Sofar
+readIn s = readUntil 1 (split 10 s) atStart
+
+-- What the scan of s leaves, be it taken or refused: the struct and the slices hold what has been read, and past that the slices are
+-- as they were.
+pub record Leaves (s catalog calls acts : List ℕ) (r : Scanned) (catalog-after calls-after acts-after : List ℕ) : Type 0 where
+  pub holds : Holds (r .seen) catalog-after calls-after acts-after (readIn s)
+  pub past : Untouched (r .seen) catalog calls acts catalog-after calls-after acts-after

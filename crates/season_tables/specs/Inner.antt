@@ -1,0 +1,163 @@
+-- How the program holds what has been read: the sizes and counts in a struct, the catalog as bytes in one lent slice, the steps and
+-- acts as numbers in two; and what a line leaves of them as it was. Assumes nothing.
+use mathlib.Core.Path.{_≡_}
+use mathlib.Core.Bool.{Bool, true, false, cond, not, _&&_}
+use mathlib.Core.List.{List, [], _∷_, _++_, map}
+use Prim.Native.Nat.{ℕ, _+_, _*_, _≤_}
+use lib.ListN.{length, take, drop}
+use lib.Dec.{eqb}
+use Rattle.landlord.specs.declared.Step.{Step}
+use Rattle.landlord.specs.declared.Refusal.{Refusal}
+use Rattle.landlord.specs.declared.Refusal.the-variants.{Heading}
+use Rattle.landlord.specs.Types.{stepKind, stepItem, stepMinutes, actKind, actItem}
+use Rattle.catalog_bytes.specs.Inner.{catalogOfFirst}
+use Rattle.season_lines.specs.declared.Field.{Field}
+use Rattle.season_lines.specs.declared.Line.{Line}
+use Rattle.season_lines.specs.declared.Line.the-variants.{Sizes, Item as ItemLine, Step as StepLine, Act as ActLine, Refused as RefusedLine}
+use Rattle.season_lines.specs.Fields.{fieldsOf}
+use Rattle.season_lines.specs.Inner.{heldField}
+use Rattle.season_tables.specs.declared.Seen.{Seen}
+use Rattle.season_tables.specs.declared.Scanned.{Scanned}
+use Rattle.season_tables.specs.declared.Verdict.{Verdict}
+use Rattle.season_tables.specs.declared.Verdict.the-variants.{Taken, Refused}
+use Rattle.season_tables.specs.Tables.{Placed, Sofar, Led, on, stop, lastPlace, mayEnd, mustEnd}
+
+-- the steps as calls, four numbers each: 0, and then kind, item and minutes
+unfoldable pub callNumbers : List Step → List ℕ
+callNumbers [] = []
+callNumbers (s ∷ steps) = 0 ∷ stepKind s ∷ stepItem s ∷ stepMinutes s ∷ callNumbers steps
+
+-- the acts, three numbers each: place, kind and item
+unfoldable pub actNumbers : List Placed → List ℕ
+actNumbers [] = []
+actNumbers (a ∷ acts) = a .place ∷ actKind (a .act) ∷ actItem (a .act) ∷ actNumbers acts
+
+-- the list with xs in it from place i on
+unfoldable pub putAt : List ℕ → ℕ → List ℕ → List ℕ
+putAt l i xs = take i l ++ (xs ++ drop (i + length xs) l)
+
+-- the struct and the slices hold what has been read
+pub record Holds (q : Seen) (catalog calls acts : List ℕ) (v : Sofar) : Type 0 where
+  pub table : q .table ≡ v .table
+  pub named : q .named ≡ v .named
+  pub k : q .k ≡ v .k
+  pub h : q .h ≡ v .h
+  pub few : q .n ≤ 256
+  pub items : catalogOfFirst (q .n) catalog ≡ v .catalog
+  pub itemCount : q .n ≡ length (v .catalog)
+  pub stepCount : q .steps ≡ length (v .steps)
+  pub actCount : q .acts ≡ length (v .acts)
+  pub last : q .last ≡ lastPlace (v .acts)
+  pub stepsNoted : take (4 * q .steps) calls ≡ callNumbers (v .steps)
+  pub actsNoted : take (3 * q .acts) acts ≡ actNumbers (v .acts)
+
+-- the struct before the first line
+abbrev pub nothingRead : Seen
+nothingRead = record { table = 0; named = false; k = 0; h = 0; n = 0; steps = 0; acts = 0; last = 0 }
+
+-- the verdict at the input's end, on line n
+abbrev pub endVerdict : Seen → ℕ → Verdict
+endVerdict q n = cond (q .named && eqb (q .table) 3) Taken (Refused (Heading n))
+
+-- the answer to a line, or to all of them: taken, with what has been read then; or the refusal
+abbrev pub Leads : Led → Scanned → List ℕ → List ℕ → List ℕ → Type 0
+Leads (on v) r catalog calls acts = (r .verdict ≡ Taken) × Holds (r .seen) catalog calls acts v
+Leads (stop x) r catalog calls acts = r .verdict ≡ Refused x
+
+-- whether the fields of a line of so many bytes are looked at: a value line is due, and this is not the blank line
+unfoldable pub wantsValues : Bool → ℕ → ℕ → ℕ → Bool
+wantsValues isNamed table k bytes =
+    cond isNamed (cond (cond (eqb bytes 0) (mayEnd table k) false) false (not (mustEnd table k))) false
+
+-- if a line is one with values, these are its fields, as the program holds them
+abbrev pub Looked : Seen → List ℕ → List Field → Type 0
+Looked q l fs = wantsValues (q .named) (q .table) (q .k) (length l) ≡ true → fs ≡ map heldField (fieldsOf l)
+
+-- The answer leads where `led` says from what has been read, items, steps and acts being noted in these slices before and after.
+abbrev pub LeadsFrom : Seen → List ℕ → List ℕ → List ℕ → (Sofar → Led) → Scanned → List ℕ → List ℕ → List ℕ → Type 0
+LeadsFrom q catalog calls acts led r catalog-after calls-after acts-after =
+    (v : Sofar) → Holds q catalog calls acts v → Leads (led v) r catalog-after calls-after acts-after
+
+-- and nothing is noted
+abbrev pub LeadsBy : Seen → (Sofar → Led) → Scanned → Type 0
+LeadsBy q led r = (catalog calls acts : List ℕ) → LeadsFrom q catalog calls acts led r catalog calls acts
+
+-- and only an item is
+abbrev pub NotesItem : Seen → List ℕ → (Sofar → Led) → Scanned → List ℕ → Type 0
+NotesItem q catalog led r after = (calls acts : List ℕ) → LeadsFrom q catalog calls acts led r after calls acts
+
+-- and only a step is
+abbrev pub NotesStep : Seen → List ℕ → List ℕ → (Sofar → Led) → Scanned → List ℕ → Type 0
+NotesStep q catalog calls led r after = (acts : List ℕ) → LeadsFrom q catalog calls acts led r catalog after acts
+
+-- and only an act is
+abbrev pub NotesAct : Seen → List ℕ → (Sofar → Led) → Scanned → List ℕ → Type 0
+NotesAct q acts led r after = (catalog calls : List ℕ) → LeadsFrom q catalog calls acts led r catalog calls after
+
+-- a refusal hands back the struct that was handed in
+abbrev pub KeepsSeen : Seen → Scanned → Type 0
+KeepsSeen q r = (x : Refusal) → r .verdict ≡ Refused x → r .seen ≡ q
+
+-- A slice that is noted in: past its first m numbers it is as it was; after a refusal all of it is, and the struct too.
+abbrev pub KeepsPast : ℕ → Seen → List ℕ → Scanned → List ℕ → Type 0
+KeepsPast m q before r after =
+    (drop m after ≡ drop m before) × ((x : Refusal) → r .verdict ≡ Refused x → (r .seen ≡ q) × (after ≡ before))
+
+-- past what has been noted the slices are as they were
+pub record Untouched (q : Seen) (catalog calls acts catalog-after calls-after acts-after : List ℕ) : Type 0 where
+  pub pastItems : drop (5 * q .n) catalog-after ≡ drop (5 * q .n) catalog
+  pub pastSteps : drop (4 * q .steps) calls-after ≡ drop (4 * q .steps) calls
+  pub pastActs : drop (3 * q .acts) acts-after ≡ drop (3 * q .acts) acts
+
+-- the struct and the slices are all as they were
+pub record Unchanged (q : Seen) (catalog calls acts : List ℕ) (p : Seen) (catalog-after calls-after acts-after : List ℕ) : Type 0 where
+  pub sameSeen : p ≡ q
+  pub sameItems : catalog-after ≡ catalog
+  pub sameSteps : calls-after ≡ calls
+  pub sameActs : acts-after ≡ acts
+
+-- What a line leaves as it was: the slices past what has been noted then; after a refusal, all.
+pub record Keeps (q : Seen) (catalog calls acts : List ℕ) (r : Scanned) (catalog-after calls-after acts-after : List ℕ) : Type 0 where
+  pub past : Untouched (r .seen) catalog calls acts catalog-after calls-after acts-after
+  pub refused : (x : Refusal) → r .verdict ≡ Refused x → Unchanged q catalog calls acts (r .seen) catalog-after calls-after acts-after
+
+-- the slices have at least the places of 256 items, and of the steps and acts that 65,536 bytes can hold, six bytes each, and of
+-- one more
+pub record Roomy (catalog calls acts : List ℕ) : Type 0 where
+  pub forItems : 1280 ≤ length catalog
+  pub forSteps : 43692 ≤ length calls
+  pub forActs : 32769 ≤ length acts
+
+-- and a place is left
+pub record Room (q : Seen) (catalog calls acts : List ℕ) : Type 0 where
+  pub forStep : 4 * q .steps ≤ 43688
+  pub forAct : 3 * q .acts ≤ 32766
+  pub roomy : Roomy catalog calls acts
+
+-- an item's number that has a place
+abbrev pub ItemPlaced : Line → Type 0
+ItemPlaced (Sizes k h) = Unit {0}
+ItemPlaced (ItemLine i b l w) = i ≤ 255
+ItemPlaced (StepLine s) = Unit {0}
+ItemPlaced (ActLine place act) = Unit {0}
+ItemPlaced (RefusedLine r) = Unit {0}
+
+-- a line that a line writer may take
+pub record Takeable (q : Seen) (line : Line) (catalog calls acts : List ℕ) : Type 0 where
+  pub room : Room q catalog calls acts
+  pub few : q .n ≤ 256
+  pub numbered : ItemPlaced line
+
+-- what a line asks: the struct and the slices hold what has been read, and its fields were looked at
+pub record Leadable (q : Seen) (l : List ℕ) (fields : List Field) (count : ℕ) (catalog calls acts : List ℕ) : Type 0 where
+  pub room : Room q catalog calls acts
+  pub few : count ≤ 4
+  pub table : q .table ≤ 3
+  pub looked : Looked q l (take count fields)
+  pub read : Sofar
+  pub holds : Holds q catalog calls acts read
+
+-- what scanning asks: a text that is not too long
+pub record Scannable (s catalog calls acts : List ℕ) : Type 0 where
+  pub short : length s ≤ 65536
+  pub roomy : Roomy catalog calls acts

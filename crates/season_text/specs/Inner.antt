@@ -1,0 +1,51 @@
+-- What the inner functions ask and give. Assumes nothing.
+use mathlib.Core.Path.{_≡_}
+use mathlib.Core.List.{List}
+use Prim.Native.Nat.{ℕ, _*_, _≤_}
+use lib.ListN.{length}
+use Rattle.cache_state.specs.View.{view}
+use Rattle.landlord.specs.Figures.{Standing}
+use Rattle.layout.specs.Layout.{stateBytes, cacheOf}
+use Rattle.layout.specs.Valid.{ValidBytes}
+use Rattle.report.specs.declared.Written.{Written}
+use Rattle.report.specs.Report.{Put, longest}
+use Rattle.season_tables.specs.declared.Seen.{Seen}
+use Rattle.season_tables.specs.Tables.{Sofar}
+use Rattle.season_tables.specs.Inner.{Holds}
+use Rattle.season_tables.specs.InnerSound.{Sound}
+use Rattle.season_text.specs.Answer.{closedSeason, reportAgainst}
+
+-- valid bytes where the rule stands
+pub record ClosedAt (v : Standing) (b : List ℕ) : Type 0 where
+  pub valid : ValidBytes b
+  pub stands : view (cacheOf b) ≡ v
+
+-- the slice has a place for the closing behind the steps; the catalog's bytes are those of the text's items alone
+pub record Closable (x : Seen) (xs calls state : List ℕ) : Type 0 where
+  pub few : x .steps ≤ 10922
+  pub places : length calls ≡ 43692
+  pub items : length xs ≡ 5 * x .n
+  pub room : length state ≡ stateBytes
+
+-- whatever accepted text the slices hold, these are the bytes of its closed season
+abbrev pub Closes : Seen → List ℕ → List ℕ → List ℕ → Type 0
+Closes x xs calls left = (acts : List ℕ) (v : Sofar) → Holds x xs calls acts v → Sound v → ClosedAt (closedSeason v) left
+
+-- what the report asks: an accepted text in the slices, and a plan's cost that fits
+pub record Reportable (x : Seen) (xs calls : List ℕ) (cost : ℕ) : Type 0 where
+  pub text : Sofar
+  pub acts : List ℕ
+  pub holds : Holds x xs calls acts text
+  pub sound : Sound text
+  pub few : x .steps ≤ 10922
+  pub places : length calls ≡ 43692
+  pub items : length xs ≡ 5 * x .n
+  pub small : cost ≤ 1000000000000
+
+-- and this is its report, on the page
+abbrev pub Reports : Seen → List ℕ → List ℕ → ℕ → List ℕ → Written → List ℕ → Type 0
+Reports x xs calls cost before r after =
+    (acts : List ℕ) (v : Sofar) →
+    Holds x xs calls acts v →
+    Sound v →
+    Put (reportAgainst v cost) before r after × (length (reportAgainst v cost) ≤ longest)

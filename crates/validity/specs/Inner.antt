@@ -1,0 +1,47 @@
+-- What each test decides, on the numbers that it is handed: a field for each sentence of paper 01's rule for a foul locker
+-- (refusal 17) that it looks at. The crates above say of what these are the numbers. Assumes nothing.
+use mathlib.Core.Path.{_≡_}
+use mathlib.Core.Bool.{Bool, true, false}
+use Prim.Native.Nat.{ℕ, _+_, _*_, _≤_, _∣_}
+use Rattle.landlord.specs.Catalog.{full}
+use Rattle.landlord.specs.Figures.{Totals}
+
+-- a credit is a multiple of the item's blocks, and at most its cost in shares
+pub record CreditOk (blocks cost credit : ℕ) : Type 0 where
+  pub whole : blocks ∣ credit
+  pub top : credit ≤ full cost
+
+-- the marks of an item go together with each other, with its credits and with the closing
+pub record MarksOk (held dirty closed : Bool) (loadCredit writeCredit : ℕ) : Type 0 where
+  pub absentClean : held ≡ false → dirty ≡ false
+  pub absentEmpty : held ≡ false → loadCredit ≡ 0
+  pub cleanEmpty : dirty ≡ false → writeCredit ≡ 0
+  pub closedClean : closed ≡ true → dirty ≡ false
+
+-- all that is asked of one item of the catalog, on its own numbers
+pub record EntryOk (blocks load write : ℕ) (held dirty closed : Bool) (loadCredit writeCredit tenths steps : ℕ) : Type 0 where
+  pub some : 1 ≤ blocks
+  pub small : blocks ≤ 16
+  pub marks : MarksOk held dirty closed loadCredit writeCredit
+  pub loads : CreditOk blocks load loadCredit
+  pub writes : CreditOk blocks write writeCredit
+  pub tenthsTop : tenths ≤ 240 * steps
+
+-- what is asked of the totals alone, and of the capacity
+pub record CountsOk (k : ℕ) (t : Totals) : Type 0 where
+  pub low : 1 ≤ k
+  pub high : k ≤ 4096
+  pub steps : t .hits + t .loads + t .flushes ≡ t .steps
+  pub taken : t .steps ≤ 1000000
+  pub dirtyEvictions : t .dirtyEvictions ≤ t .evictions
+  pub dirtyWritten : t .dirtyEvictions ≤ t .writebacks
+  pub loadCost : t .loadCost ≤ 65535 * t .loads
+  pub writeCost : t .writeCost ≤ 65535 * t .writebacks
+
+-- what is asked of the sums over the items: the blocks held, the items held, the marks set, the loads and the writebacks
+pub record SumsOk (k blocks evictions held loads writebacks marked steps itemLoads itemWritebacks : ℕ) : Type 0 where
+  pub room : blocks ≤ k
+  pub kept : evictions + held ≡ loads
+  pub due : writebacks + marked ≤ steps
+  pub loadsAdd : itemLoads ≡ loads
+  pub writebacksAdd : itemWritebacks ≡ writebacks
