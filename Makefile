@@ -1,33 +1,57 @@
-# Two commands: `make example` runs the main job on an example, `make test` runs everything that must hold.
-.PHONY: example report example-c test bench
+# `make example` runs the main job on an example, `make test` runs everything that must hold; README.md has the rest.
+.PHONY: example report lib example-c example-firmware test bench soak
 
 LIBRARY = target/staticlib/librecorder.a
 SEASON = target/bin/season
 
 # The main job: paper 01's whole example, a season's text on standard input, its report on standard output.
-example: $(SEASON)
-	$(SEASON) <crates/season/stdin
+example:
+	@echo "First the program and the crates below it are proved, each shown as it is done: some five minutes on two cores, nothing" >&2
+	@echo "if that was done before. Then it prints the report of paper 01's whole example (crates/season/stdin)." >&2
+	@$(MAKE) --no-print-directory $(SEASON)
+	@$(SEASON) <crates/season/stdin
 
 # The same on a text of one's own: make report FILE=season.txt
-report: $(SEASON)
-	@$(SEASON) <"$(FILE)"
+report: $(if $(FILE),$(SEASON))
+	@bash scripts/report "$(FILE)"
 
-# Proves the program and all below it, and links it.
+# Proves the program and all below it, and links it. What the prover says goes to standard error.
 $(SEASON): $(wildcard crates/*/src/*.rt crates/*/specs/*.antt) crates.txt
-	rt check season
+	@rt check season >&2
+	@touch $@
+
+# The archive for C.
+lib:
+	@rt staticlib recorder >&2
+	@echo "archive: $(LIBRARY)"
+	@echo "header:  include/recorder.h"
 
 # The recorder's calls from C, on the same example.
-example-c:
-	rt staticlib recorder
+example-c: lib
 	mkdir -p target/examples
 	$(CC) -std=c11 -O2 -Wall -Wextra -Iinclude -o target/examples/season examples/season.c $(LIBRARY)
 	target/examples/season
+
+# A main loop around them, as the firmware has it: evicted records go to a card, which fails, and the loop recovers.
+example-firmware: lib
+	mkdir -p target/examples
+	$(CC) -std=c11 -O2 -Wall -Wextra -pedantic -Iinclude -o target/examples/firmware examples/firmware/*.c $(LIBRARY)
+	target/examples/firmware
 
 test:
 	bash scripts/test
 
 # Not part of the tests: times against plain Rust that does the same checks on the same bytes, and prints the same report.
-bench: $(SEASON)
-	rt staticlib recorder
+bench: $(SEASON) lib
 	bash bench/run
 	bash bench/season/run
+
+# A long differential run of the library and the program against plain Rust; docs/PRACTICE.md has what came of one. With fewer
+# cases it is part of the tests. One case again: make soak SEED=1 ONLY=seasons:123
+SEED = 1
+SEASONS = 100000
+TEXTS = 100000
+STATES = 1000000
+PLANS = 1000000
+soak: $(SEASON) lib
+	bash bench/soak/run seed=$(SEED) seasons=$(SEASONS) texts=$(TEXTS) states=$(STATES) plans=$(PLANS) only=$(ONLY)

@@ -6,10 +6,18 @@
  *
  *     cc -Iinclude main.c librecorder.a
  *
+ * examples/firmware has a main loop around them, with a card that can fail.
+ *
+ * MACHINE. x86-64 only, with the calling convention of Linux: the kit's back end writes code for no other machine. Of the C
+ * library at most memcpy and memset are called.
+ *
  * OWNERSHIP. The state is RECORDER_STATE_BYTES bytes that the caller owns: static, on the stack or anywhere else, at any
- * alignment. The library keeps no pointer, no static data and no heap, takes no lock and does no input or output. A
- * state may be copied, moved, stored and read back byte for byte between calls. Calls on different states may run at the
- * same time; calls on one state may not, and nothing else may write it during a call.
+ * alignment. No call keeps a pointer. The library has no heap and no static data but constants, takes no lock and does no
+ * input or output. A state may be copied, moved, stored and read back byte for byte between calls.
+ *
+ * REENTRANT. Every call works on what it is lent and on nothing else, so two states may be in use at once: calls on
+ * different states may run at the same time, or one in the middle of another. Calls on one state may not, and nothing else
+ * may write it during a call.
  *
  * OVERLAP. The bytes of `state` must not overlap those of `catalog`, `page` or `length`, nor these each other.
  *

@@ -1,4 +1,4 @@
-//! The calls of the library and of the plain implementation, under one type; the library's report by itself.
+//! The calls of the library and of the plain implementation, under one type.
 
 use crate::plain;
 
@@ -26,9 +26,10 @@ pub struct Calls {
     pub open: fn(&mut [u8], u32, &[u8]) -> u32,
     pub step: fn(&mut [u8], u32, u32, u32) -> u32,
     pub close: fn(&mut [u8]) -> u32,
+    pub report: fn(&[u8], &mut [u8], &mut usize) -> u32,
 }
 
-// SAFETY, of each call: the pointer is good for the length beside it, the state's bytes are borrowed alone, and the
+// SAFETY, of each call: the pointer is good for the length beside it, what is written is borrowed alone, and the
 // library has no condition on the values.
 pub const LIBRARY: Calls = Calls {
     open: |s, k, catalog| unsafe {
@@ -38,6 +39,9 @@ pub const LIBRARY: Calls = Calls {
         recorder_step(s.as_mut_ptr(), s.len(), kind, item, minutes)
     },
     close: |s| unsafe { recorder_close(s.as_mut_ptr(), s.len()) },
+    report: |s, page, length| unsafe {
+        recorder_report(s.as_ptr(), s.len(), page.as_mut_ptr(), page.len(), length)
+    },
 };
 
 /// The plain step under a name of its own, as the library's has one, so that callgrind can count what is below it.
@@ -59,18 +63,5 @@ pub const PLAIN: Calls = Calls {
     open: plain::open,
     step: |s, kind, item, minutes| plain_step(s.as_mut_ptr(), s.len(), kind, item, minutes),
     close: plain::close,
+    report: plain::report,
 };
-
-pub fn library_report(state: &[u8], page: &mut [u8]) -> u32 {
-    let mut length = 0;
-    // SAFETY: as above.
-    unsafe {
-        recorder_report(
-            state.as_ptr(),
-            state.len(),
-            page.as_mut_ptr(),
-            page.len(),
-            &mut length,
-        )
-    }
-}

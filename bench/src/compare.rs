@@ -1,9 +1,10 @@
 //! Equal answers and equal bytes: every call is made on both implementations, on openings and logs at random, on damaged
 //! states, and on valid states that no log leads to.
 
-use crate::calls::{LIBRARY, PLAIN};
-use crate::plain::{self, FLUSH, MAX_STEPS, READ, STATE_BYTES, UNIT, WRITE, at};
-use crate::random::{Random, catalog};
+use bench::calls::{LIBRARY, PLAIN};
+use bench::plain::{self, FLUSH, MAX_STEPS, READ, STATE_BYTES, WRITE, at};
+use bench::random::{Random, catalog, some_k, some_n};
+use bench::states;
 
 /// One state for each implementation, always with the same bytes.
 #[derive(Clone)]
@@ -94,14 +95,6 @@ impl Pair {
     }
 }
 
-fn put32(s: &mut [u8], at: usize, value: u32) {
-    s[at..at + 4].copy_from_slice(&value.to_le_bytes());
-}
-
-fn put64(s: &mut [u8], at: usize, value: u64) {
-    s[at..at + 8].copy_from_slice(&value.to_le_bytes());
-}
-
 /// The arguments of a step: mostly good ones, over the first `n` items.
 fn arguments(r: &mut Random, n: usize) -> [u32; 3] {
     if r.one_in(25) {
@@ -124,19 +117,6 @@ fn arguments(r: &mut Random, n: usize) -> [u32; 3] {
         r.below(1441) as u32
     };
     [kind, item, minutes]
-}
-
-fn some_n(r: &mut Random) -> usize {
-    let few = r.below(12) as usize;
-    let any = r.below(257) as usize;
-    r.pick(&[few, few, few, 30, any, 256])
-}
-
-/// A capacity for a catalog: from one item's blocks to all of them.
-fn some_k(r: &mut Random, catalog: &[u8]) -> u32 {
-    let all: u64 = catalog.iter().step_by(5).map(|&b| u64::from(b)).sum();
-    let part = r.between(1, all.clamp(1, 4096)) as u32;
-    r.pick(&[part, part, part.min(16), all.clamp(1, 4096) as u32, 4096])
 }
 
 /// Changes some bytes: any, or a number by little.
@@ -218,97 +198,9 @@ fn random_opening(r: &mut Random, tally: &mut Tally) {
     pair.close(tally);
 }
 
-/// Shares out `total` among the first `n` numbers of the run at `at`.
-fn share_out(r: &mut Random, s: &mut [u8], at: usize, n: usize, total: u32) {
-    let mut rest = total;
-    for i in 0..n {
-        let part = if i + 1 == n {
-            rest
-        } else {
-            r.below(u64::from(rest) + 1) as u32
-        };
-        put32(s, at + 4 * i, part);
-        rest -= part;
-    }
-}
-
-/// A valid state that need not be one that a log leads to: any items held, any credits, figures at the ends of their ranges.
-fn random_valid(r: &mut Random, n: usize) -> Vec<u8> {
-    let catalog = catalog(r, n);
-    let k = some_k(r, &catalog);
-    let mut s = vec![0; STATE_BYTES];
-    assert_eq!(plain::open(&mut s, k, &catalog), 0);
-    let closed = r.one_in(20);
-    let (mut used, mut held, mut dirty) = (0, 0, 0);
-    for (i, &[blocks, load_low, load_high, write_low, write_high]) in
-        catalog.as_chunks().0.iter().enumerate()
-    {
-        if used + u32::from(blocks) > k || r.one_in(4) {
-            continue;
-        }
-        used += u32::from(blocks);
-        held += 1;
-        s[at::HELD + i] = 1;
-        let mut credit = |cost: [u8; 2]| {
-            let most = u64::from(u16::from_le_bytes(cost)) * UNIT / u64::from(blocks);
-            let any = r.below(most + 1);
-            r.pick(&[0, most, any, any]) * u64::from(blocks)
-        };
-        put64(
-            &mut s,
-            at::LOAD_CREDIT + 8 * i,
-            credit([load_low, load_high]),
-        );
-        let write_credit = credit([write_low, write_high]);
-        if !closed && r.one_in(2) {
-            dirty += 1;
-            s[at::DIRTY + i / 8] |= 1 << (i % 8);
-            put64(&mut s, at::WRITE_CREDIT + 8 * i, write_credit);
-        }
-    }
-    let evictions = if n == 0 {
-        0
-    } else {
-        r.pick(&[0, 1, 5, 1000, 300_000])
-    };
-    let loads = held + evictions;
-    let writebacks = if n == 0 {
-        0
-    } else {
-        r.pick(&[0, 1, 5, 1000, 300_000])
-    };
-    let dirty_evictions = r.below(u64::from(evictions.min(writebacks)) + 1) as u32;
-    let least = loads.max(writebacks + dirty);
-    let steps = r.pick(&[least, least + 1, MAX_STEPS - 1, MAX_STEPS]);
-    let hits = r.below(u64::from(steps - loads) + 1) as u32;
-    for (at, count) in [
-        (at::STEPS, steps),
-        (at::HITS, hits),
-        (at::LOADS, loads),
-        (at::FLUSHES, steps - loads - hits),
-        (at::EVICTIONS, evictions),
-        (at::DIRTY_EVICTIONS, dirty_evictions),
-        (at::WRITEBACKS, writebacks),
-    ] {
-        put32(&mut s, at, count);
-    }
-    s[at::CLOSED] = u8::from(closed);
-    for (at, count) in [(at::LOAD_COST, loads), (at::WRITE_COST, writebacks)] {
-        let most = 65_535 * u64::from(count);
-        let any = r.below(most + 1);
-        put64(&mut s, at, r.pick(&[0, most, any]));
-    }
-    share_out(r, &mut s, at::ITEM_LOADS, n, loads);
-    share_out(r, &mut s, at::ITEM_WRITEBACKS, n, writebacks);
-    for i in 0..n {
-        put32(&mut s, at::TENTHS + 4 * i, r.pick(&[0, 1, 240]) * steps);
-    }
-    s
-}
-
 fn from_valid(r: &mut Random, tally: &mut Tally) {
     let n = some_n(r);
-    let start = Pair::of(random_valid(r, n));
+    let start = Pair::of(states::valid(r, n));
     assert_ne!(
         start.clone().close(tally),
         plain::INVALID_STATE,
@@ -329,7 +221,7 @@ fn from_valid(r: &mut Random, tally: &mut Tally) {
 
 /// Every byte of a state in turn, with some other values.
 fn each_byte(r: &mut Random, tally: &mut Tally, n: usize) {
-    let start = Pair::of(random_valid(r, n));
+    let start = Pair::of(states::valid(r, n));
     for place in 0..STATE_BYTES {
         let old = start.plain[place];
         for new in [old.wrapping_add(1), old.wrapping_sub(1), old ^ 0x80, 17] {

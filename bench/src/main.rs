@@ -2,10 +2,7 @@
 //! both give equal answers and equal bytes, then ns per step of both, with their ratio, and the stack of the library's calls.
 //! bench/run builds and runs it, and has callgrind count the instructions of a step.
 
-mod calls;
 mod compare;
-mod plain;
-mod random;
 mod stack;
 mod timing;
 

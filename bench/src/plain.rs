@@ -1,6 +1,8 @@
-//! The recorder's three calls in plain Rust: the same bytes (docs/LAYOUT.md), the same checks, the same answers as the
-//! proved library, which this is the yardstick for. The whole state is tested at every step and close; the rule then
-//! works on the lent bytes in place.
+//! The recorder's four calls in plain Rust: the same bytes (docs/LAYOUT.md), the same checks, the same answers as the
+//! proved library, which this is the yardstick for. The whole state is tested at every step, close and report; the rule
+//! then works on the lent bytes in place.
+
+use std::fmt::{self, Write};
 
 pub const STATE_BYTES: usize = 8_792;
 /// One unit of cost in shares: the least common multiple of 1 to 16.
@@ -14,6 +16,7 @@ pub const UNKNOWN_ITEM: u32 = 6; // stranger
 pub const ITEM_TOO_LARGE: u32 = 7; // too bulky
 pub const LOG_FULL: u32 = 8; // log full
 pub const CLOSED: u32 = 9; // closed
+pub const SHORT_PAGE: u32 = 15; // short page
 pub const INVALID_STATE: u32 = 17; // foul locker
 
 pub const READ: u32 = b'R' as u32;
@@ -378,5 +381,51 @@ pub fn close(state: &mut [u8]) -> u32 {
     }
     flush(s);
     s[at::CLOSED] = 1;
+    TAKEN
+}
+
+/// The report of a valid state, open or closed.
+fn write_report(out: &mut String, s: &Bytes) -> fmt::Result {
+    writeln!(out, "sail tenths loads writebacks")?;
+    for i in 0..get16(s, at::N) as usize {
+        let [tenths, loads, writebacks] =
+            [at::TENTHS, at::ITEM_LOADS, at::ITEM_WRITEBACKS].map(|at| get32(s, at + 4 * i));
+        writeln!(out, "{i} {tenths} {loads} {writebacks}")?;
+    }
+    let [hits, loads, evictions, dirty_evictions, writebacks] = [
+        at::HITS,
+        at::LOADS,
+        at::EVICTIONS,
+        at::DIRTY_EVICTIONS,
+        at::WRITEBACKS,
+    ]
+    .map(|at| get32(s, at));
+    let [load_cost, write_cost] = [at::LOAD_COST, at::WRITE_COST].map(|at| get64(s, at));
+    let total = load_cost + write_cost;
+    writeln!(
+        out,
+        "\nhits loads loadcost drops dirtydrops writebacks writecost total"
+    )?;
+    writeln!(
+        out,
+        "{hits} {loads} {load_cost} {evictions} {dirty_evictions} {writebacks} {write_cost} {total}"
+    )
+}
+
+/// Writes the report at the start of the page, and tells its length.
+pub fn report(state: &[u8], page: &mut [u8], length: &mut usize) -> u32 {
+    let Ok(s): Result<&Bytes, _> = state.try_into() else {
+        return INVALID_STATE;
+    };
+    if used_if_valid(s).is_none() {
+        return INVALID_STATE;
+    }
+    let mut text = String::new();
+    write_report(&mut text, s).expect("a String takes every write");
+    let Some(start) = page.get_mut(..text.len()) else {
+        return SHORT_PAGE;
+    };
+    start.copy_from_slice(text.as_bytes());
+    *length = text.len();
     TAKEN
 }

@@ -1,4 +1,4 @@
-//! Random numbers from a seed (splitmix64), and random catalogs.
+//! Random numbers from a seed (splitmix64), and random catalogs with a capacity for them.
 
 pub struct Random(pub u64);
 
@@ -51,4 +51,18 @@ pub fn catalog(r: &mut Random, n: usize) -> Vec<u8> {
         bytes.extend(cost(r, style).to_le_bytes());
     }
     bytes
+}
+
+/// How many items a catalog has: mostly few, at times all 256.
+pub fn some_n(r: &mut Random) -> usize {
+    let few = r.below(12) as usize;
+    let any = r.below(257) as usize;
+    r.pick(&[few, few, few, 30, any, 256])
+}
+
+/// A capacity for a catalog: from one item's blocks to all of them.
+pub fn some_k(r: &mut Random, catalog: &[u8]) -> u32 {
+    let all: u64 = catalog.iter().step_by(5).map(|&b| u64::from(b)).sum();
+    let part = r.between(1, all.clamp(1, 4096)) as u32;
+    r.pick(&[part, part, part.min(16), all.clamp(1, 4096) as u32, 4096])
 }

@@ -4,8 +4,8 @@
 use std::hint::black_box;
 use std::thread;
 
-use crate::calls::{LIBRARY, library_report};
-use crate::plain::{FLUSH, READ, STATE_BYTES, WRITE};
+use bench::calls::LIBRARY;
+use bench::plain::{FLUSH, READ, STATE_BYTES, WRITE};
 
 /// How far down is painted, in a thread whose stack is larger; and how far the frame of the painter itself may reach.
 const DEPTH: usize = 256 * 1024;
@@ -59,7 +59,7 @@ fn most() -> [usize; 4] {
                 }));
             }
             report = report.max(taken_by(&mut || {
-                assert_eq!(library_report(&state, &mut page), 0);
+                assert_eq!((LIBRARY.report)(&state, &mut page, &mut 0), 0);
             }));
             let mut closed = state.clone();
             close = close.max(taken_by(&mut || {

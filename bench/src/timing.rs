@@ -3,9 +3,9 @@
 use std::hint::black_box;
 use std::time::Instant;
 
-use crate::calls::{Calls, LIBRARY, PLAIN};
-use crate::plain::{self, OUT_OF_RANGE, READ, STATE_BYTES, WRITE, at};
-use crate::random::Random;
+use bench::calls::{Calls, LIBRARY, PLAIN};
+use bench::plain::{self, OUT_OF_RANGE, READ, STATE_BYTES, WRITE, at};
+use bench::random::Random;
 
 const STEPS: usize = 1_000;
 const ROUNDS: usize = 100;

@@ -4,10 +4,12 @@
 
 pub mod cache;
 mod plan;
-mod report;
+pub mod report;
 mod text;
+mod write;
 
 pub use text::MAX_BYTES;
+pub use write::text;
 
 use cache::Cache;
 

@@ -7,16 +7,30 @@ use crate::Refusal;
 
 /// The report on a closed cache of `k` blocks, beside a plan of `h` blocks that costs `rival`.
 pub fn report(counts: &Counts, k: u32, h: u32, rival: u64) -> String {
-    let mut out = String::new();
-    write_report(&mut out, counts, k, h, rival).expect("a String takes every write");
-    out
+    let total = counts.load_cost + counts.write_cost;
+    let left = u64::from(k - h + 1) * total;
+    let right = u64::from(k) * rival;
+    let figures = format!(" {rival} {left} {right}");
+    written(counts, " rival left right", &figures)
+}
+
+/// The report on a cache by itself, open or closed.
+pub fn alone(counts: &Counts) -> String {
+    written(counts, "", "")
 }
 
 pub fn refused(Refusal { reason, line }: Refusal) -> String {
     format!("refusal line\n{} {line}\n", reason as u32)
 }
 
-fn write_report(out: &mut String, counts: &Counts, k: u32, h: u32, rival: u64) -> fmt::Result {
+/// A report whose last two lines end so.
+fn written(counts: &Counts, names: &str, figures: &str) -> String {
+    let mut out = String::new();
+    write_report(&mut out, counts, names, figures).expect("a String takes every write");
+    out
+}
+
+fn write_report(out: &mut String, counts: &Counts, names: &str, figures: &str) -> fmt::Result {
     writeln!(out, "sail tenths loads writebacks")?;
     for (i, item) in counts.items.iter().enumerate() {
         writeln!(
@@ -27,14 +41,11 @@ fn write_report(out: &mut String, counts: &Counts, k: u32, h: u32, rival: u64) -
     }
     writeln!(
         out,
-        "\nhits loads loadcost drops dirtydrops writebacks writecost total rival left right"
+        "\nhits loads loadcost drops dirtydrops writebacks writecost total{names}"
     )?;
-    let total = counts.load_cost + counts.write_cost;
-    let left = u64::from(k - h + 1) * total;
-    let right = u64::from(k) * rival;
     writeln!(
         out,
-        "{} {} {} {} {} {} {} {total} {rival} {left} {right}",
+        "{} {} {} {} {} {} {} {}{figures}",
         counts.hits,
         counts.loads,
         counts.load_cost,
@@ -42,5 +53,6 @@ fn write_report(out: &mut String, counts: &Counts, k: u32, h: u32, rival: u64) -
         counts.dirty_evictions,
         counts.writebacks,
         counts.write_cost,
+        counts.load_cost + counts.write_cost,
     )
 }

@@ -9,12 +9,12 @@ use lib.Dec.{eqb, leb}
 use lib.ListN.{length, set, replicate, getD-replicate, length-replicate}
 use borrow.Author.Count.{below-more}
 use borrow.Author.Tests.{eq-eqb, ne-eqb, le-leb, lt-leb, eqb-true, leb-true}
-use Rattle.landlord.specs.Catalog.{CatalogOk, itemAt}
+use Rattle.landlord.specs.Catalog.{CatalogOk, itemAt, blocksInRange}
 use Rattle.landlord.specs.Figures.{opened}
 use Rattle.landlord.specs.Calls.{openingRefusal}
 use Rattle.landlord.specs.Inner.{ItemFacts, CapacityFacts}
 use Rattle.landlord.proofs.Valid.{ok-opened}
-use Rattle.landlord.proofs.Ranges.{catalog-facts, catalog-ok, capacity-facts, capacity-ok, opening-taken, opening-accepts, range-refused}
+use Rattle.landlord.proofs.Ranges.{catalog-facts, catalog-ok, capacity-facts, capacity-ok, opening-taken, opening-accepts, range-refused, blocks-facts, blocks-ok}
 use Rattle.fields.specs.Inner.{Below}
 use Rattle.catalog_bytes.specs.Catalogs.{itemIn, catalogIn}
 use Rattle.catalog_bytes.specs.Inner.{HasItem}
@@ -39,11 +39,18 @@ pub has-item : {n i : ℕ} {xs : List ℕ} → WholeCatalog n xs → i < n → H
 has-item w l = record { place = omega (arith, w .few); inside = omega (arith, w .count) }
 
 pub no-blocks : (xs : List ℕ) → BlocksIn 0 xs
-no-blocks xs = record { some = λ i l. absurd (let z : i < 0 = l in omega arith); small = λ i l. absurd (let z : i < 0 = l in omega arith) }
+no-blocks xs = record { each = λ i l. absurd (let z : i < 0 = l in omega arith) }
 
 pub more-blocks : (xs : List ℕ) (i : ℕ) → BlocksIn i xs → 1 ≤ itemIn xs i .blocks → itemIn xs i .blocks ≤ 16 → BlocksIn (i + 1) xs
 more-blocks xs i ok low high =
-    record { some = below-more (λ j. 1 ≤ itemIn xs j .blocks) i (ok .some) low; small = below-more (λ j. itemIn xs j .blocks ≤ 16) i (ok .small) high }
+    record { each = below-more (λ j. blocksInRange (itemIn xs j .blocks) ≡ true) i (ok .each) (blocks-ok (itemIn xs i .blocks) low high) }
+
+-- and read off
+pub blocks-low : {n : ℕ} {xs : List ℕ} → BlocksIn n xs → (i : ℕ) → i < n → 1 ≤ itemIn xs i .blocks
+blocks-low {xs = xs} ok i l = blocks-facts (itemIn xs i .blocks) (ok .each i l) .0
+
+pub blocks-high : {n : ℕ} {xs : List ℕ} → BlocksIn n xs → (i : ℕ) → i < n → itemIn xs i .blocks ≤ 16
+blocks-high {xs = xs} ok i l = blocks-facts (itemIn xs i .blocks) (ok .each i l) .1
 
 -- lengths that are right
 pub record Lengths (size : ℕ) (xs : List ℕ) : Type 0 where
@@ -78,7 +85,7 @@ module _ (size k : ℕ) (xs : List ℕ) where
       at i l ok = subst ItemFacts (item-at xs i l) (catalog-facts (catalogIn xs) ok .each i (omega (arith, length-catalogIn xs)))
 
       read : CatalogOk (catalogIn xs) → BlocksIn (length xs / 5) xs
-      read ok = record { some = λ i l. at i l ok .some; small = λ i l. at i l ok .small }
+      read ok = record { each = λ i l. blocks-ok (itemIn xs i .blocks) (at i l ok .some) (at i l ok .small) }
 
   -- costs of two bytes are in range
   pub blocks-taken : Lengths size xs → CapacityFacts k → Below 256 xs → BlocksIn (length xs / 5) xs → 0 ≡ openingNumber size k xs
@@ -88,7 +95,7 @@ module _ (size k : ℕ) (xs : List ℕ) where
       item i l =
           let m : i < length xs / 5 = omega (arith, length-catalogIn xs) in
           subst ItemFacts (sym (item-at xs i m))
-          (record { some = ok .some i m; small = ok .small i m; load = omega (arith, load-lt xs i bytes); write = omega (arith, write-lt xs i bytes) })
+          (record { some = blocks-low ok i m; small = blocks-high ok i m; load = omega (arith, load-lt xs i bytes); write = omega (arith, write-lt xs i bytes) })
 
 -- an opening that was not refused has passed them all
 pub record Right (size k : ℕ) (xs : List ℕ) : Type 0 where

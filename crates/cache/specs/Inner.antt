@@ -1,6 +1,6 @@
 -- What the functions of an opening in lent bytes give. Assumes nothing.
 use mathlib.Core.Path.{_≡_}
-use mathlib.Core.Bool.{Bool}
+use mathlib.Core.Bool.{Bool, true}
 use mathlib.Core.List.{List}
 use Prim.Native.Nat.{ℕ, _/_, _≤_, _<_}
 use lib.ListN.{length, getD}
@@ -10,14 +10,14 @@ use Rattle.cache_state.specs.InnerWith.{withCatalog, withClosed}
 use Rattle.cache_room.specs.InnerStores.{storeTo}
 use Rattle.layout.specs.Inner.{Readable, cleared}
 use Rattle.landlord.specs.Calls.{stepCall, refusalNow}
+use Rattle.landlord.specs.Catalog.{blocksInRange}
 use Rattle.cache_state.specs.View.{view}
 use Rattle.layout.specs.Layout.{cacheOf}
 use Rattle.layout.specs.Valid.{ValidBytes}
 
 -- the blocks of the first n items are in range; costs are by their width
 pub record BlocksIn (n : ℕ) (xs : List ℕ) : Type 0 where
-  pub some : (i : ℕ) → i < n → 1 ≤ itemIn xs i .blocks
-  pub small : (i : ℕ) → i < n → itemIn xs i .blocks ≤ 16
+  pub each : (i : ℕ) → i < n → blocksInRange (itemIn xs i .blocks) ≡ true
 
 -- a catalog of n items that have places in the state
 pub record WholeCatalog (n : ℕ) (xs : List ℕ) : Type 0 where

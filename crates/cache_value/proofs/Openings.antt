@@ -10,7 +10,7 @@ use lib.ListN.{length, getD, set, replicate, getD-replicate}
 use lib.Seq.{getD-set-same, getD-set-other}
 use borrow.Author.Count.{below-more}
 use Rattle.landlord.specs.Fold.{tabFrom, fold}
-use Rattle.landlord.specs.Catalog.{Catalog, Item, CapacityOk, CatalogOk, itemAt, noItem, allInRange, catalogInRange, capacityInRange}
+use Rattle.landlord.specs.Catalog.{Catalog, Item, CapacityOk, CatalogOk, itemAt, noItem, allInRange, catalogInRange, capacityInRange, blocksInRange}
 use Rattle.landlord.specs.Rule.{flush, writeBacks}
 use Rattle.landlord.specs.Figures.{opened, closes}
 use Rattle.landlord.specs.Calls.{openingRefusal}
@@ -18,7 +18,7 @@ use Rattle.landlord.specs.Valid.{StandingOk}
 use Rattle.landlord.specs.Inner.{ItemFacts}
 use Rattle.landlord.proofs.Folds.{either, tab-length, tab-at}
 use Rattle.landlord.proofs.Valid.{ok-opened, ok-closes}
-use Rattle.landlord.proofs.Ranges.{catalog-facts, catalog-ok, capacity-facts, capacity-ok, opening-accepts, range-refused}
+use Rattle.landlord.proofs.Ranges.{catalog-facts, catalog-ok, capacity-ok, opening-accepts, range-refused, blocks-facts, blocks-ok}
 use Rattle.validity.specs.Decided.{Decided}
 use Rattle.cache_state.specs.Valid.{EmptyPlace}
 use Rattle.cache_state.specs.InnerBecomes.{Becomes}
@@ -34,16 +34,24 @@ use Rattle.cache_value.specs.Contract.{catalogFrom, refusedOpening, Open
 -- ---- the tests
 
 pub no-blocks : (bs : List ℕ) → BlocksOk 0 bs
-no-blocks bs = record { some = λ i l. absurd (let z : i < 0 = l in omega arith); small = λ i l. absurd (let z : i < 0 = l in omega arith) }
+no-blocks bs = record { each = λ i l. absurd (let z : i < 0 = l in omega arith) }
 
 pub more-blocks : (bs : List ℕ) (i : ℕ) → BlocksOk i bs → 1 ≤ getD bs i 0 → getD bs i 0 ≤ 16 → BlocksOk (i + 1) bs
 more-blocks bs i ok low high =
-    record { some = below-more (λ j. 1 ≤ getD bs j 0) i (ok .some) low; small = below-more (λ j. getD bs j 0 ≤ 16) i (ok .small) high }
+    record { each = below-more (λ j. blocksInRange (getD bs j 0) ≡ true) i (ok .each) (blocks-ok (getD bs i 0) low high) }
+
+-- and read off
+pub blocks-low : {n : ℕ} {bs : List ℕ} → BlocksOk n bs → (i : ℕ) → i < n → 1 ≤ getD bs i 0
+blocks-low {bs = bs} ok i l = blocks-facts (getD bs i 0) (ok .each i l) .0
+
+pub blocks-high : {n : ℕ} {bs : List ℕ} → BlocksOk n bs → (i : ℕ) → i < n → getD bs i 0 ≤ 16
+blocks-high {bs = bs} ok i l = blocks-facts (getD bs i 0) (ok .each i l) .1
 
 -- the last test decides where the others have come out so
 pub opens-so : (k n : ℕ) (blocks : List ℕ) (r : Bool) → 1 ≤ k → k ≤ 4096 → n ≤ 256 → Decided (BlocksOk n blocks) r → Decided (Opens k n blocks) r
 opens-so k n blocks r low high few d =
-    record { yes = λ e. record { low = low; high = high; few = few; each = d .yes e }; only = λ o. d .only (o .each) }
+    let capacity = capacity-ok k (record { low = low; high = high }) in
+    record { yes = λ e. record { capacity = capacity; few = few; each = d .yes e }; only = λ o. d .only (o .each) }
 
 -- ---- the copied arrays
 
@@ -107,7 +115,12 @@ module _ (k n : ℕ) (blocks load write : List ℕ) where
   item-from i l = tab-at n item i noItem l
 
   opens-from : CapacityOk k × CatalogOk cat → Opens k n blocks
-  opens-from f = record { low = capacity-facts k (f .0) .low; high = capacity-facts k (f .0) .high; few = omega (arith, catalog-facts cat (f .1) .few, length-from); each = record { some = λ i l. at i l .some; small = λ i l. at i l .small } }
+  opens-from f =
+      record {
+        capacity = f .0;
+        few = omega (arith, catalog-facts cat (f .1) .few, length-from);
+        each = record { each = λ i l. blocks-ok (getD blocks i 0) (at i l .some) (at i l .small) };
+      }
     where
       at : (i : ℕ) → i < n → ItemFacts (item i)
       at i l = subst ItemFacts (item-from i l) (catalog-facts cat (f .1) .each i (omega (arith, length-from)))
@@ -118,7 +131,7 @@ module _ (k n : ℕ) (blocks load write : List ℕ) where
       at : (i : ℕ) → i < length cat → ItemFacts (itemAt cat i)
       at i l =
           let m : i < n = omega (arith, length-from) in
-          subst ItemFacts (sym (item-from i m)) (record { some = o .each .some i m; small = o .each .small i m; load = fl i; write = fw i })
+          subst ItemFacts (sym (item-from i m)) (record { some = blocks-low (o .each) i m; small = blocks-high (o .each) i m; load = fl i; write = fw i })
 
   pub open-taken :
       {b l w : List ℕ} (c : Cache) →
@@ -132,7 +145,7 @@ module _ (k n : ℕ) (blocks load write : List ℕ) where
       Opened k cat 0 c
   unfolding catalogFrom
   open-taken {b = b} {l = l} {w = w} c o fb fl fw ll lw e =
-      let room : CapacityOk k = capacity-ok k (record { low = o .low; high = o .high }) in
+      let room : CapacityOk k = o .capacity in
       let good : CatalogOk cat = in-range o ll lw in
       stood k cat 0 c (sym (opening-accepts k cat room good)) (ok-opened k cat room good)
       (empty-becomes k n item false b l w (o .few) fb fl fw) (empty-place k n b l w false) e

@@ -1,10 +1,12 @@
 -- What the functions of an opening give. Assumes nothing.
+use mathlib.Core.Path.{_≡_}
+use mathlib.Core.Logic.{_≢_}
+use mathlib.Core.Bool.{true}
 use mathlib.Core.List.{List}
 use Prim.Native.Nat.{ℕ, _≤_, _<_}
 use lib.ListN.{getD}
+use Rattle.landlord.specs.Catalog.{blocksInRange, CapacityOk}
 use Rattle.cache.specs.Inner.{Column}
-use mathlib.Core.Path.{_≡_}
-use mathlib.Core.Logic.{_≢_}
 use Rattle.cache_value.specs.declared.Answer.{Answer}
 use Rattle.cache_value.specs.Contract.{answerNumber, answerLine}
 
@@ -14,13 +16,11 @@ FirstOf n xs r = Column n (λ i. getD xs i 0) r
 
 -- the blocks of the first n items are in range
 pub record BlocksOk (n : ℕ) (blocks : List ℕ) : Type 0 where
-  pub some : (i : ℕ) → i < n → 1 ≤ getD blocks i 0
-  pub small : (i : ℕ) → i < n → getD blocks i 0 ≤ 16
+  pub each : (i : ℕ) → i < n → blocksInRange (getD blocks i 0) ≡ true
 
 -- what an opening asks of its arguments; load and write costs are in range by their width
 pub record Opens (k n : ℕ) (blocks : List ℕ) : Type 0 where
-  pub low : 1 ≤ k
-  pub high : k ≤ 4096
+  pub capacity : CapacityOk k
   pub few : n ≤ 256
   pub each : BlocksOk n blocks
 

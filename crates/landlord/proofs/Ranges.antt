@@ -8,7 +8,7 @@ use native.Mathlib.Omega.{arith}
 use lib.ListN.{length}
 use lib.Dec.{leb, eqb}
 use borrow.Author.Tests.{leb-true, eq-eqb, ne-eqb, le-leb, lt-leb}
-use Rattle.landlord.specs.Catalog.{Catalog, Item, itemAt, itemInRange, allInRange, catalogInRange, capacityInRange, CatalogOk, CapacityOk}
+use Rattle.landlord.specs.Catalog.{Catalog, Item, itemAt, blocksInRange, costInRange, itemInRange, allInRange, catalogInRange, capacityInRange, CatalogOk, CapacityOk}
 use Rattle.landlord.specs.Calls.{openingRefusal, inRange}
 use Rattle.landlord.specs.Inner.{ItemFacts, CatalogFacts, CapacityFacts}
 
@@ -20,28 +20,29 @@ and-right : (a b : Bool) → a && b ≡ true → b ≡ true
 and-right true b e = e
 and-right false b e = absurd (false≢true e)
 
-four-true : (a b c d : Bool) → a && b && c && d ≡ true → (a ≡ true) × (b ≡ true) × (c ≡ true) × (d ≡ true)
-four-true true true true true e = (refl, refl, refl, refl)
-four-true true true true false e = absurd (false≢true e)
-four-true true true false d e = absurd (false≢true e)
-four-true true false c d e = absurd (false≢true e)
-four-true false b c d e = absurd (false≢true e)
+-- ## Blocks and costs
+
+pub blocks-facts : (b : ℕ) → blocksInRange b ≡ true → (1 ≤ b) × (b ≤ 16)
+blocks-facts b e = (leb-true 1 b (and-left (leb 1 b) (leb b 16) e), leb-true b 16 (and-right (leb 1 b) (leb b 16) e))
+
+pub blocks-ok : (b : ℕ) → 1 ≤ b → b ≤ 16 → blocksInRange b ≡ true
+blocks-ok b low high = rw (le-leb 1 b low, le-leb b 16 high)
 
 -- ## An item
 
 pub item-facts : (x : Item) → itemInRange x ≡ true → ItemFacts x
 item-facts x e =
-    let f = four-true (leb 1 (x .blocks)) (leb (x .blocks) 16) (leb (x .load) 65535) (leb (x .write) 65535) e in
+    let first = and-left (blocksInRange (x .blocks) && costInRange (x .load)) (costInRange (x .write)) e in
+    let blocks = blocks-facts (x .blocks) (and-left (blocksInRange (x .blocks)) (costInRange (x .load)) first) in
     record {
-      some = leb-true 1 (x .blocks) (f .0);
-      small = leb-true (x .blocks) 16 (f .1);
-      load = leb-true (x .load) 65535 (f .2);
-      write = leb-true (x .write) 65535 (f .3);
+      some = blocks .0;
+      small = blocks .1;
+      load = leb-true (x .load) 65535 (and-right (blocksInRange (x .blocks)) (costInRange (x .load)) first);
+      write = leb-true (x .write) 65535 (and-right (blocksInRange (x .blocks) && costInRange (x .load)) (costInRange (x .write)) e);
     }
 
 pub item-ok : (x : Item) → ItemFacts x → itemInRange x ≡ true
-item-ok x f =
-    rw (le-leb 1 (x .blocks) (f .some), le-leb (x .blocks) 16 (f .small), le-leb (x .load) 65535 (f .load), le-leb (x .write) 65535 (f .write))
+item-ok x f = rw (blocks-ok (x .blocks) (f .some) (f .small), le-leb (x .load) 65535 (f .load), le-leb (x .write) 65535 (f .write))
 
 -- ## A catalog
 

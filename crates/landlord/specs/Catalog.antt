@@ -25,9 +25,17 @@ noItem = record { blocks = 0; load = 0; write = 0 }
 abbrev pub itemAt : Catalog → ℕ → Item
 itemAt cat i = getD cat i noItem
 
--- "blocks 1 to 16, a load cost 0 to 65,535 and a write cost 0 to 65,535"
+-- "blocks 1 to 16"
+abbrev pub blocksInRange : ℕ → Bool
+blocksInRange b = leb 1 b && leb b 16
+
+-- "a load cost 0 to 65,535 and a write cost 0 to 65,535"
+abbrev pub costInRange : ℕ → Bool
+costInRange c = leb c 65535
+
+-- an item in range
 abbrev pub itemInRange : Item → Bool
-itemInRange x = leb 1 (x .blocks) && leb (x .blocks) 16 && leb (x .load) 65535 && leb (x .write) 65535
+itemInRange x = blocksInRange (x .blocks) && costInRange (x .load) && costInRange (x .write)
 
 -- every item of a list in range
 unfoldable pub allInRange : Catalog → Bool

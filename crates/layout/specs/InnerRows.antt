@@ -1,13 +1,13 @@
 -- The rows of the layout, each field with its place and its bytes, and which caches it has room for. For the laws that bytes and
 -- caches are one to one (proofs/Rounds.antt); no promise of an entry point cites this file. Assumes nothing.
+use mathlib.Core.Path.{_≡_}
 use mathlib.Core.Bool.{Bool, cond}
-use Prim.Native.Nat.{ℕ, _^_, _<_}
 use mathlib.Core.List.{List, [], _∷_, _++_}
+use Prim.Native.Nat.{ℕ, _^_, _<_}
+use lib.ListN.{length}
 use Rattle.fields.specs.Inner.{le, runOf, flags, Below}
 use Rattle.cache_state.specs.Cache.{Cache}
 use Rattle.layout.specs.Layout.{format, atFormat, atCapacity, atCount, atClosed, atSteps, atHits, atLoads, atEvictions, atDirtyEvictions, atWritebacks, atFlushes, atLoadCost, atWriteCost, atDirty, atLoadCredits, atWriteCredits, atTenths, atItemLoads, atItemWritebacks, atItemLoadCosts, atItemWriteCosts, atBlocks, atHeld}
-use mathlib.Core.Path.{_≡_}
-use lib.ListN.{length}
 
 -- a yes or no as a number
 abbrev pub flag : Bool → ℕ

@@ -32,12 +32,12 @@ pub extern "C" fn recorder_close(state: &mut [u8]) -> u32
 
 // Writes the report of the state on the page, and how long it is in the length's place.
 #[no_mangle]
-pub extern "C" fn recorder_report(state: &[u8], page: &mut [u8], length: &mut usize) -> u32
-    ensures { λ r. ⌜ ReportedLent (now (state .entry)) (now (page .entry)) (now (length .entry)) r (now (page .exit)) (now (length .exit)) ⌝ }
+pub extern "C" fn recorder_report(state: &[u8], page: &mut [u8], told: &mut usize) -> u32
+    ensures { λ r. ⌜ ReportedLent (now (state .entry)) (now (page .entry)) (now (told .entry)) r (now (page .exit)) (now (told .exit)) ⌝ }
 {
     match report::report(state, Rival::Absent, page) {
         Written::Text(n) => {
-            *length = n;
+            *told = n;
             0
         }
         Written::Refused(r) => r.number(),

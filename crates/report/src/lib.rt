@@ -283,10 +283,10 @@ pub fn refused(r: Refusal, page: &mut [u8]) -> Written
     let number = wide(r.number());
     let at = wide(r.line());
     let line = [number, at];
-    let length = 13 + line_length(&line);
-    if page.len() < length {
+    let bytes = 13 + line_length(&line);
+    if page.len() < bytes {
         return Written::Refused(Refusal::ShortBuffer { line: 0 });
     }
     put_table(page, b"refusal line\n", &line);
-    Written::Text(length)
+    Written::Text(bytes)
 }

@@ -7,7 +7,7 @@ use mathlib.Core.Logic.{_⊎_, inl, inr, ⊎-elim}
 use Prim.Native.Nat.{ℕ, zero, suc, _+_, _≤_, _<_}
 use native.Mathlib.Numerals.{add-one}
 use native.Mathlib.Omega.{arith}
-use borrow.Author.Tests.{le-leb, lt-leb, leb-true, eq-eqb, ne-eqb, eqb-true, eqb-false, not-true, not-false}
+use borrow.Author.Tests.{le-leb, lt-leb, eq-eqb, ne-eqb, eqb-true, eqb-false, not-true, not-false}
 use lib.Dec.{leb, eqb}
 use lib.ListN.{length, getD, take, drop, drop-of-length-le}
 use lib.Seq.{drop-cons, length-take-le}
@@ -25,6 +25,7 @@ use Rattle.season_lines.specs.declared.Line.the-variants.{Sizes, Item as
 use Rattle.season_lines.specs.Fields.{markOf, fieldOf, fieldAt, isNumber, isDash, isLetter, valueIn}
 use Rattle.season_lines.specs.Lines.{shapeThenRange, sizesLine, itemFrom, itemLine, isEither, stepShape, stepLine, isActKind, actOf, actLine, lineIn}
 use Rattle.season_lines.specs.Inner.{before, beyond, heldField}
+use Rattle.landlord.proofs.Ranges.{item-facts}
 
 -- ## Tests
 
@@ -214,10 +215,8 @@ module _ (kind : ℕ) (item minutes : Field) where
 pub item-bounds :
     (b l w : ℕ) → itemInRange (itemFrom b l w) ≡ true → (1 ≤ b) × (b ≤ 16) × (l ≤ 65535) × (w ≤ 65535)
 item-bounds b l w e =
-    let three = and-parts (leb 1 b && leb b 16 && leb l 65535) (leb w 65535) e in
-    let two = and-parts (leb 1 b && leb b 16) (leb l 65535) (three .0) in
-    let one = and-parts (leb 1 b) (leb b 16) (two .0) in
-    (leb-true 1 b (one .0), leb-true b 16 (one .1), leb-true l 65535 (two .1), leb-true w 65535 (three .1))
+    let f = item-facts (itemFrom b l w) e in
+    (f .some, f .small, f .load, f .write)
 
 pub equal-or-not : (a b : ℕ) → (a ≡ b → ⊥) ⊎ (a ≡ b)
 equal-or-not a b = go (eqb a b) refl

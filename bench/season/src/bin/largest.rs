@@ -4,10 +4,8 @@
 //! next of them in turn that the cache does not hold just then. A plan of k blocks knows what is to come and needs few
 //! acts, so that nearly every byte behind the catalog goes to a step. What came of it is said on standard error.
 
-use std::fmt::{self, Write};
-
 use plain_season::cache::Cache;
-use plain_season::{Act, Item, Step, MAX_BYTES};
+use plain_season::{text, Act, Item, Step, MAX_BYTES};
 
 const ITEMS: usize = 256;
 
@@ -116,42 +114,6 @@ fn plan(catalog: &[Item], h: u32, steps: &[Step]) -> Vec<(usize, Act)> {
     acts
 }
 
-/// The text of a season with h = k, in the layout of paper 01.
-fn text(k: u32, catalog: &[Item], steps: &[Step], acts: &[(usize, Act)]) -> String {
-    let mut out = String::new();
-    write_text(&mut out, k, catalog, steps, acts).expect("a String takes every write");
-    out
-}
-
-fn write_text(
-    out: &mut String,
-    k: u32,
-    catalog: &[Item],
-    steps: &[Step],
-    acts: &[(usize, Act)],
-) -> fmt::Result {
-    writeln!(out, "locker rival\n{k} {k}\n\nsail blocks load write")?;
-    for (i, item) in catalog.iter().enumerate() {
-        writeln!(out, "{i} {} {} {}", item.blocks, item.load, item.write)?;
-    }
-    writeln!(out, "\nstep sail minutes")?;
-    for step in steps {
-        match step {
-            Step::Read { item } => writeln!(out, "R {item} -"),
-            Step::Write { item, minutes } => writeln!(out, "W {item} {minutes}"),
-            Step::Flush => writeln!(out, "L - -"),
-        }?;
-    }
-    writeln!(out, "\nat act sail")?;
-    for (at, act) in acts {
-        match act {
-            Act::Evict { item } => writeln!(out, "{at} D {item}"),
-            Act::Fetch { item } => writeln!(out, "{at} F {item}"),
-        }?;
-    }
-    Ok(())
-}
-
 /// Fills up a text that lacks so many bytes, by more digits for the minutes of its writes.
 fn lengthen(steps: &mut [Step], mut lacks: usize) {
     for step in steps {
@@ -176,7 +138,7 @@ fn main() {
     let mut steps = misses(r, &catalog, k, sails);
 
     // The most steps for which there is room, together with the acts that they need.
-    let with_plan = |steps: &[Step]| text(k, &catalog, steps, &plan(&catalog, k, steps));
+    let with_plan = |steps: &[Step]| text(k, k, &catalog, steps, &plan(&catalog, k, steps));
     let (mut fits, mut too_many) = (0, steps.len());
     while fits + 1 < too_many {
         let middle = (fits + too_many) / 2;

@@ -4,7 +4,7 @@ use Prim.Native.Nat.{_≤_, _-_}
 use native.Mathlib.Omega.{arith}
 use Rattle.validity.proofs.Decides.{no, sure}
 use Rattle.cache.specs.Inner.{BlocksIn}
-use Rattle.cache.proofs.Openings.{has-item, no-blocks, more-blocks}
+use Rattle.cache.proofs.Openings.{has-item, no-blocks, more-blocks, blocks-low, blocks-high}
 use Rattle.cache.proofs.blocks_ok.Statement.{statement}
 use Rattle.cache.proofs.blocks_ok.Tie as tie
 
@@ -21,10 +21,10 @@ blocks-requires : tie.Need-blocks-requires Inv-loop μ-loop
 blocks-requires c κs = has-item (c .before .before .before .pre) (omega arith)
 
 returns : tie.Need-returns Inv-loop μ-loop
-returns c = no (λ ok. omega (arith, c .before .blocks2 .ensures, ok .some (c .before .before .before .loop .i) (omega arith)))
+returns c = no (λ ok. omega (arith, c .before .blocks2 .ensures, blocks-low ok (c .before .before .before .loop .i) (omega arith)))
 
 returns-2 : tie.Need-returns-2 Inv-loop μ-loop
-returns-2 c = no (λ ok. omega (arith, c .before .before .blocks2 .ensures, ok .small (c .before .before .before .before .loop .i) (omega arith)))
+returns-2 c = no (λ ok. omega (arith, c .before .before .blocks2 .ensures, blocks-high ok (c .before .before .before .before .loop .i) (omega arith)))
 
 add-i : tie.Need-add-i Inv-loop μ-loop
 add-i c = omega arith

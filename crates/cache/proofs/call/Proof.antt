@@ -1,6 +1,6 @@
 -- `cache::call` meets its contract: a step, or the closing. Assumes nothing.
-use Rattle.cache.proofs.Runs.{call-takes, call-closes}
 use borrow.Author.Needs.{needs}
+use Rattle.cache.proofs.Runs.{call-takes, call-closes}
 use Rattle.cache.proofs.call.Statement.{statement}
 use Rattle.cache.proofs.call.Tie as tie
 

@@ -1,7 +1,7 @@
 -- `cache::close_valid` meets its contract: closed, the bytes stay; else it flushes and closes. Assumes nothing.
 use mathlib.Core.Path.{sym, _∙_}
-use Rattle.cache.proofs.Calls.{closed-answers, closing-answers}
 use borrow.Author.Needs.{needs}
+use Rattle.cache.proofs.Calls.{closed-answers, closing-answers}
 use Rattle.cache.proofs.close_valid.Statement.{statement}
 use Rattle.cache.proofs.close_valid.Tie as tie
 

@@ -1,9 +1,9 @@
 -- `cache::open` meets its contract: refused, the bytes stay; else they are cleared, and the catalog is stored. Assumes nothing.
 use mathlib.Core.Path.{refl}
 use native.Mathlib.Omega.{arith}
+use borrow.Author.Needs.{needs}
 use Rattle.layout.proofs.Places.{readable}
 use Rattle.cache.proofs.Openings.{right, opening-refused, opening-done}
-use borrow.Author.Needs.{needs}
 use Rattle.cache.proofs.open.Statement.{statement}
 use Rattle.cache.proofs.open.Tie as tie
 

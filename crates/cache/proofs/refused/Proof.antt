@@ -1,9 +1,9 @@
 -- `cache::refused` meets its contract: each answer is a law of proofs/Table.antt. Assumes nothing.
 use mathlib.Core.Path.{sym, _∙_}
 use borrow.Author.Tests.{not-true, not-false}
+use borrow.Author.Needs.{needs}
 use Rattle.layout.specs.Layout.{cacheOf}
 use Rattle.cache.proofs.Table.{table-closed, table-full, table-range, table-flush, table-unknown, table-large, table-none}
-use borrow.Author.Needs.{needs}
 use Rattle.cache.proofs.refused.Statement.{statement}
 use Rattle.cache.proofs.refused.Tie as tie
 

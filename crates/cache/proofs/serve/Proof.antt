@@ -1,6 +1,6 @@
 -- `cache::serve` meets its contract: each need is a law of proofs/Steps.antt. Assumes nothing.
-use Rattle.cache.proofs.Steps.{passed-steps, passed-flush, passed-wanted, passed-minutes, room-servable, read-took, write-took}
 use borrow.Author.Needs.{needs}
+use Rattle.cache.proofs.Steps.{passed-steps, passed-flush, passed-wanted, passed-minutes, room-servable, read-took, write-took}
 use Rattle.cache.proofs.serve.Statement.{statement}
 use Rattle.cache.proofs.serve.Tie as tie
 

@@ -1,9 +1,9 @@
 -- `cache::step_valid` meets its contract: refused, the bytes stay; else the step is served. Assumes nothing.
 use mathlib.Core.Path.{sym, _∙_}
+use borrow.Author.Needs.{needs}
 use Rattle.landlord.specs.Calls.{stepCall}
 use Rattle.cache.specs.Contract.{lent}
 use Rattle.cache.proofs.Calls.{refused-answers, step-answers}
-use borrow.Author.Needs.{needs}
 use Rattle.cache.proofs.step_valid.Statement.{statement}
 use Rattle.cache.proofs.step_valid.Tie as tie
 

@@ -4,7 +4,7 @@ use Prim.Native.Nat.{_≤_, _-_}
 use native.Mathlib.Omega.{arith}
 use Rattle.validity.proofs.Decides.{no, sure}
 use Rattle.cache_value.specs.Inner.{BlocksOk}
-use Rattle.cache_value.proofs.Openings.{no-blocks, more-blocks}
+use Rattle.cache_value.proofs.Openings.{no-blocks, more-blocks, blocks-low, blocks-high}
 use Rattle.cache_value.proofs.blocks_ok.Statement.{statement}
 use Rattle.cache_value.proofs.blocks_ok.Tie as tie
 
@@ -21,13 +21,13 @@ array-read-if1 : tie.Need-array-read-if1 Inv-loop μ-loop
 array-read-if1 c = omega arith
 
 returns : tie.Need-returns Inv-loop μ-loop
-returns c = no (λ ok. omega (arith, ok .some (c .before .before .loop .i) (omega arith)))
+returns c = no (λ ok. omega (arith, blocks-low ok (c .before .before .loop .i) (omega arith)))
 
 array-read-if2 : tie.Need-array-read-if2 Inv-loop μ-loop
 array-read-if2 c = omega arith
 
 returns-2 : tie.Need-returns-2 Inv-loop μ-loop
-returns-2 c = no (λ ok. omega (arith, ok .small (c .before .before .before .loop .i) (omega arith)))
+returns-2 c = no (λ ok. omega (arith, blocks-high ok (c .before .before .before .loop .i) (omega arith)))
 
 add-i : tie.Need-add-i Inv-loop μ-loop
 add-i c = omega arith

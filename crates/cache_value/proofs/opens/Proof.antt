@@ -5,12 +5,13 @@ use Rattle.validity.proofs.Decides.{no}
 use Rattle.cache_value.proofs.Openings.{opens-so}
 use Rattle.cache_value.proofs.opens.Statement.{statement}
 use Rattle.cache_value.proofs.opens.Tie as tie
+use Rattle.landlord.proofs.Ranges.{capacity-facts}
 
 returns : tie.Need-returns
-returns c = no (λ o. omega (arith, o .low, c .if1 .taken))
+returns c = no (λ o. omega (arith, capacity-facts (c .before .args .k) (o .capacity) .low, c .if1 .taken))
 
 returns-2 : tie.Need-returns-2
-returns-2 c = no (λ o. omega (arith, o .high, c .if2 .taken))
+returns-2 c = no (λ o. omega (arith, capacity-facts (c .before .before .args .k) (o .capacity) .high, c .if2 .taken))
 
 returns-3 : tie.Need-returns-3
 returns-3 c = no (λ o. omega (arith, o .few, c .if3 .taken))

@@ -44,8 +44,8 @@ counted c =
       length-append refusalNames (lineOf (c .before .before .before .before .wide .result ∷ c .before .before .wide2 .result ∷ [])),
     )
 
-add-length : tie.Need-add-length
-add-length c = search needs
+add-bytes : tie.Need-add-bytes
+add-bytes c = search needs
 
 returns : tie.Need-returns
 returns c =
@@ -82,7 +82,7 @@ refused-spec =
     wide-requires-2
     slice-aggregate-line-length
     line-length-requires
-    add-length
+    add-bytes
     returns
     slice-aggregate-put-table
     slice-aggregate-put-table-2

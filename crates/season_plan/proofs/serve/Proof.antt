@@ -4,10 +4,10 @@ use Prim.Native.Nat.{_<_}
 use native.Mathlib.Omega.{arith}
 use lib.ListN.{length}
 use borrow.Author.Tests.{not-true, not-false}
+use borrow.Author.Needs.{needs}
 use Rattle.season_plan.specs.declared.Copies.{Copies}
 use Rattle.season_plan.proofs.Marks.{by-cases}
 use Rattle.season_plan.proofs.Serving.{serve-missing, serve-over, serve-read, serve-write, serve-flush}
-use borrow.Author.Needs.{needs}
 use Rattle.season_plan.proofs.serve.Statement.{statement}
 use Rattle.season_plan.proofs.serve.Tie as tie
 

@@ -1,8 +1,8 @@
 -- `validity::balanced` meets its contract: each test is one field of `SumsOk`. Assumes nothing.
-use Rattle.validity.proofs.Decides.{forced, no}
-use borrow.Author.Needs.{needs}
 use native.Mathlib.Omega.{arith}
+use borrow.Author.Needs.{needs}
 use borrow.Author.Tests.{eqb-true, eqb-false}
+use Rattle.validity.proofs.Decides.{forced, no}
 use Rattle.validity.proofs.balanced.Statement.{statement}
 use Rattle.validity.proofs.balanced.Tie as tie
 

@@ -1,8 +1,8 @@
 -- `validity::counts_ok` meets its contract: each test is one field of `CountsOk`. Assumes nothing.
-use Rattle.validity.proofs.Decides.{forced, no}
-use borrow.Author.Needs.{needs}
 use native.Mathlib.Omega.{arith}
+use borrow.Author.Needs.{needs}
 use borrow.Author.Tests.{leb-true, leb-false}
+use Rattle.validity.proofs.Decides.{forced, no}
 use Rattle.validity.proofs.counts_ok.Statement.{statement}
 use Rattle.validity.proofs.counts_ok.Tie as tie
 

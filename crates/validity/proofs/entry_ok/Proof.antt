@@ -1,8 +1,8 @@
 -- `validity::entry_ok` meets its contract: each test is one field of `EntryOk`. Assumes nothing.
-use Rattle.validity.proofs.Decides.{forced, no, denied, granted}
-use borrow.Author.Needs.{needs}
 use native.Mathlib.Omega.{arith}
+use borrow.Author.Needs.{needs}
 use borrow.Author.Tests.{leb-true, leb-false}
+use Rattle.validity.proofs.Decides.{forced, no, denied, granted}
 use Rattle.validity.proofs.entry_ok.Statement.{statement}
 use Rattle.validity.proofs.entry_ok.Tie as tie
 

@@ -1,0 +1,255 @@
+//! The wear bound against the cheapest plan there is: small seasons, run by the library, beside every h from 1 to k.
+
+use bench::plain::{STATE_BYTES, UNIT, at};
+use bench::random::Random;
+use plain_season::Item;
+
+use crate::cheapest::Problem;
+use crate::layout::get;
+use crate::pair::{Call, Pair};
+use crate::program::{Program, figures, number};
+use crate::run::Run;
+use crate::texts::{Season, arguments, some_plan, some_steps};
+
+const MOST_ITEMS: u64 = 4;
+const MOST_STEPS: usize = 8;
+const MOST_K: usize = 6;
+
+/// Seasons to a case: one at random, and its neighbours.
+pub const TO_A_CLIMB: u64 = 20;
+
+fn product(a: u64, b: u64) -> u128 {
+    u128::from(a) * u128::from(b)
+}
+
+/// A season beside its cheapest plan, with the two sides of the bound.
+pub struct Beside {
+    pub left: u64,
+    pub right: u64,
+    pub text: String,
+}
+
+impl Beside {
+    pub fn ratio(&self) -> f64 {
+        self.left as f64 / self.right as f64
+    }
+}
+
+/// What was seen: how many plans, and the worst of them for each k and h, from 1 on.
+#[derive(Default)]
+pub struct Worst {
+    pub by_sizes: [[Option<Beside>; MOST_K]; MOST_K],
+    /// The worst of all with the sharper left side: (h − 1) × the load credits held at the close added.
+    pub sharpest: f64,
+    pub compared: u64,
+    pub none_legal: u64,
+}
+
+impl Worst {
+    fn note(&mut self, season: &Season, left: u64, right: u64, text: impl FnOnce() -> String) {
+        let place = &mut self.by_sizes[season.k as usize - 1][season.h as usize - 1];
+        let worse = |other: &Beside| product(left, other.right) > product(other.left, right);
+        if right > 0 && place.as_ref().is_none_or(worse) {
+            let text = text();
+            *place = Some(Beside { left, right, text });
+        }
+    }
+}
+
+/// A season of few items, few steps and small blocks.
+fn small_season(r: &mut Random) -> Season {
+    let n = r.between(1, MOST_ITEMS) as usize;
+    let k = r.between(1, MOST_K as u64) as u32;
+    let most_blocks = r.pick(&[1, 1, 2, 3]);
+    let costs: &[u64] = r.pick(&[
+        &[1][..],
+        &[0, 1, 2, 3],
+        &[0, 1],
+        &[0, 1, 10, 100],
+        &[0, 65_535],
+    ]);
+    let item = |r: &mut Random| Item {
+        blocks: r.between(1, most_blocks) as u32,
+        load: r.pick(costs),
+        write: r.pick(costs),
+    };
+    let items: Vec<Item> = (0..n).map(|_| item(r)).collect();
+    let count = r.pick(&[3, MOST_STEPS, MOST_STEPS]);
+    let count = r.below(count as u64 + 1);
+    Season {
+        k,
+        h: 1,
+        catalog: items.iter().flat_map(bytes).collect(),
+        steps: some_steps(r, &items, k, count),
+        items,
+        acts: Vec::new(),
+    }
+}
+
+/// An item of a catalog in bytes.
+fn bytes(item: &Item) -> [u8; 5] {
+    let [a, b] = (item.load as u16).to_le_bytes();
+    let [c, d] = (item.write as u16).to_le_bytes();
+    [item.blocks as u8, a, b, c, d]
+}
+
+/// Runs a season through the calls. Answers the total, and the load credits at the close.
+fn paid(run: &mut Run, r: &mut Random, season: &Season) -> (u64, u64) {
+    let mut pair = Pair::of(r, &[0; STATE_BYTES]);
+    let (k, catalog) = (season.k, &season.catalog);
+    let mut answers = pair.make(run, Call::Open { k, catalog });
+    for &step in &season.steps {
+        answers |= pair.step(run, arguments(step));
+    }
+    answers |= pair.make(run, Call::Close);
+    if answers != 0 {
+        run.differ("a good season is refused", &[season.text()]);
+    }
+    let s = pair.state();
+    let credits = (0..256).map(|i| get(s, at::LOAD_CREDIT + 8 * i, 8)).sum();
+    (
+        get(s, at::LOAD_COST, 8) + get(s, at::WRITE_COST, 8),
+        credits,
+    )
+}
+
+fn problem(season: &Season) -> Problem<'_> {
+    Problem {
+        h: season.h,
+        items: &season.items,
+        steps: &season.steps,
+    }
+}
+
+/// Both lines of the bound for one h. Answers the two sides of the first.
+fn bound(
+    run: &Run,
+    season: &Season,
+    worst: &mut Worst,
+    (total, credits): (u64, u64),
+) -> Option<(u64, u64)> {
+    let Some(cheapest) = problem(season).cost() else {
+        worst.none_legal += 1;
+        return None;
+    };
+    let (k, h) = (u64::from(season.k), u64::from(season.h));
+    let (left, right) = (total * (k - h + 1), k * cheapest);
+    let sharp = left * UNIT + (h - 1) * credits;
+    let with_plan = || with_cheapest(season).text();
+    if left > right || sharp > right * UNIT {
+        let what = format!(
+            "the bound: total {total}, load credits {credits}, k {k}, h {h}, cheapest plan {cheapest}"
+        );
+        run.differ(&what, &[with_plan()]);
+    }
+    worst.compared += 1;
+    worst.note(season, left, right, with_plan);
+    if right > 0 {
+        worst.sharpest = worst.sharpest.max(sharp as f64 / (right * UNIT) as f64);
+    }
+    Some((left, right))
+}
+
+/// The season with a cheapest plan as its rival.
+fn with_cheapest(season: &Season) -> Season {
+    Season {
+        acts: problem(season).plan().expect("there is a legal plan"),
+        catalog: season.catalog.clone(),
+        items: season.items.clone(),
+        steps: season.steps.clone(),
+        ..*season
+    }
+}
+
+/// The cheapest plan is legal and costs what was found, and no other plan costs less: as the plain Rust prices them, and at
+/// times the program.
+fn price(run: &mut Run, r: &mut Random, season: &Season, program: &Program) {
+    let Some(cheapest) = problem(season).cost() else {
+        return;
+    };
+    let mut season = with_cheapest(season);
+    let text = season.text();
+    let output = if r.one_in(50) {
+        program.compare(run, text.as_bytes())
+    } else {
+        plain_season::output(text.as_bytes())
+    };
+    if number(&output) != 0 || figures(&output)[8] != cheapest {
+        let what = format!("a plan that is to cost {cheapest}");
+        run.differ(&what, &[text, output]);
+    }
+    for _ in 0..2 {
+        season.acts = some_plan(r, &season.items, season.h, &season.steps);
+        let output = plain_season::output(season.text().as_bytes());
+        if number(&output) != 0 || figures(&output)[8] < cheapest {
+            let what = format!("a plan that is legal and costs at least {cheapest}");
+            run.differ(&what, &[season.text(), output]);
+        }
+    }
+}
+
+/// A season that differs little: in a step, the order of two steps, or a cost.
+fn neighbour(r: &mut Random, season: &Season) -> Season {
+    let mut other = Season {
+        acts: Vec::new(),
+        catalog: Vec::new(),
+        items: season.items.clone(),
+        steps: season.steps.clone(),
+        ..*season
+    };
+    let i = r.below(other.items.len() as u64) as usize;
+    let costs = [0, 1, 2, other.items[i].load, other.items[i].write];
+    let count = other.steps.len();
+    let place = r.below(count.max(1) as u64) as usize;
+    match r.below(6) {
+        0 => other.items[i].load = r.pick(&costs),
+        1 => other.items[i].write = r.pick(&costs),
+        2 if count > 1 => other.steps.swap(place, count - 1 - place),
+        3 if count > 1 => drop(other.steps.remove(place)),
+        4 if count > 0 => other.steps[place] = some_steps(r, &other.items, other.k, 1)[0],
+        _ if count < MOST_STEPS => {
+            let more = some_steps(r, &other.items, other.k, 1);
+            other.steps.splice(place..place, more);
+        }
+        _ => {}
+    }
+    other.catalog = other.items.iter().flat_map(bytes).collect();
+    other
+}
+
+/// The bound of a season for every h. Answers the two sides for the h that is aimed at.
+fn every_h(
+    run: &mut Run,
+    r: &mut Random,
+    season: &mut Season,
+    worst: &mut Worst,
+    aim: u32,
+) -> (u64, u64) {
+    let paid = paid(run, r, season);
+    let mut sides = (0, 0);
+    for h in 1..=season.k {
+        season.h = h;
+        let found = bound(run, season, worst, paid);
+        if h == aim {
+            sides = found.unwrap_or_default();
+        }
+    }
+    sides
+}
+
+/// One case: a small season, and neighbours of it, each of which is taken in its place if the bound is as close or closer.
+pub fn case(run: &mut Run, program: &Program, worst: &mut Worst) {
+    let r = &mut run.random();
+    let mut best = small_season(r);
+    let aim = r.between(2.min(best.k.into()), best.k.into()) as u32;
+    let mut sides = every_h(run, r, &mut best, worst, aim);
+    for _ in 1..TO_A_CLIMB {
+        let mut season = neighbour(r, &best);
+        let found = every_h(run, r, &mut season, worst, aim);
+        season.h = r.between(1, season.k.into()) as u32;
+        price(run, r, &season, program);
+        if product(found.0, sides.1) >= product(sides.0, found.1) {
+            (best, sides) = (season, found);
+        }
+    }
+}

@@ -1,0 +1,72 @@
+//! The program `season`, run once for each text.
+
+use std::io::{Read, Write};
+use std::path::PathBuf;
+use std::process::{Command, Stdio};
+
+use crate::run::{Asked, Run, kept};
+
+pub struct Program(pub PathBuf);
+
+impl Program {
+    /// What it prints for a text. It may leave bytes of a text that is too long unread.
+    fn output(&self, text: &[u8]) -> std::io::Result<Vec<u8>> {
+        let mut child = Command::new(&self.0)
+            .stdin(Stdio::piped())
+            .stdout(Stdio::piped())
+            .spawn()?;
+        let mut input = child.stdin.take().expect("it is piped");
+        let unread = input.write_all(text).is_err();
+        drop(input);
+        let mut out = Vec::new();
+        let mut output = child.stdout.take().expect("it is piped");
+        output.read_to_end(&mut out)?;
+        let status = child.wait()?;
+        if !status.success() || unread && text.len() <= plain_season::MAX_BYTES {
+            out.extend(format!("(ended with {status}, text left unread: {unread})").bytes());
+        }
+        Ok(out)
+    }
+
+    /// Has the program and the plain Rust answer a text. Answers what both print.
+    pub fn compare(&self, run: &mut Run, text: &[u8]) -> String {
+        let plain = plain_season::output(text);
+        run.calls += 1;
+        let proved = match self.output(text) {
+            Ok(proved) => proved,
+            Err(error) => panic!("{}: {error}", self.0.display()),
+        };
+        if proved != plain.as_bytes() {
+            let what = format!("a text of {} bytes is answered in two ways", text.len());
+            let details = [
+                kept("soak-difference.text", text),
+                format!("the program:\n{}", String::from_utf8_lossy(&proved)),
+                format!("plain Rust:\n{plain}"),
+            ];
+            run.differ(&what, &details);
+        }
+        let number = number(&plain);
+        run.tally.count(Asked::Text, number);
+        let longest_taken = number == 0 && text.len() == plain_season::MAX_BYTES;
+        run.tally.longest_taken += u64::from(longest_taken);
+        plain
+    }
+}
+
+/// The number that a text is refused with, 0 if it is taken.
+pub fn number(output: &str) -> u32 {
+    let refusal = output.strip_prefix("refusal line\n");
+    let number = refusal.and_then(|rest| rest.split(' ').next());
+    number.map_or(0, |number| {
+        number.parse().expect("a refusal has its number")
+    })
+}
+
+/// The last line of a report: from hits to total, rival, left and right.
+pub fn figures(output: &str) -> Vec<u64> {
+    let last = output.lines().next_back().unwrap_or("");
+    let numbers = last.split(' ').map(str::parse);
+    numbers
+        .collect::<Result<_, _>>()
+        .expect("a report's totals are numbers")
+}

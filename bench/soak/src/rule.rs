@@ -1,0 +1,217 @@
+//! Paper 01's rule of a foul locker, sentence by sentence, on a state of the right length: slow, and with no care for anything
+//! but the words. It says which sentences a state breaks.
+
+use bench::plain::at;
+
+use crate::layout::get;
+
+const UNIT: u64 = 720_720;
+
+/// What a state says of an item (paper 01: a sail).
+pub struct Item {
+    pub blocks: u64,
+    pub load: u64,
+    pub write: u64,
+    pub held: u64,
+    pub dirty: bool,
+    pub load_credit: u64,
+    pub write_credit: u64,
+    pub tenths: u64,
+    pub loads: u64,
+    pub writebacks: u64,
+}
+
+/// The numbers of a state.
+pub struct State {
+    pub format: u64,
+    pub k: u64,
+    pub n: u64,
+    pub closed: u64,
+    pub steps: u64,
+    pub hits: u64,
+    pub loads: u64,
+    pub evictions: u64,
+    pub dirty_evictions: u64,
+    pub writebacks: u64,
+    pub flushes: u64,
+    pub load_cost: u64,
+    pub write_cost: u64,
+    /// All 256 places.
+    pub places: Vec<Item>,
+}
+
+fn place(s: &[u8], i: usize) -> Item {
+    Item {
+        blocks: get(s, at::BLOCKS + i, 1),
+        load: get(s, at::LOAD + 2 * i, 2),
+        write: get(s, at::WRITE + 2 * i, 2),
+        held: get(s, at::HELD + i, 1),
+        dirty: get(s, at::DIRTY + 8 * (i / 64), 8) >> (i % 64) & 1 == 1,
+        load_credit: get(s, at::LOAD_CREDIT + 8 * i, 8),
+        write_credit: get(s, at::WRITE_CREDIT + 8 * i, 8),
+        tenths: get(s, at::TENTHS + 4 * i, 4),
+        loads: get(s, at::ITEM_LOADS + 4 * i, 4),
+        writebacks: get(s, at::ITEM_WRITEBACKS + 4 * i, 4),
+    }
+}
+
+impl State {
+    pub fn of(s: &[u8]) -> State {
+        State {
+            format: get(s, at::FORMAT, 4),
+            k: get(s, at::K, 4),
+            n: get(s, at::N, 2),
+            closed: get(s, at::CLOSED, 2),
+            steps: get(s, at::STEPS, 4),
+            hits: get(s, at::HITS, 4),
+            loads: get(s, at::LOADS, 4),
+            evictions: get(s, at::EVICTIONS, 4),
+            dirty_evictions: get(s, at::DIRTY_EVICTIONS, 4),
+            writebacks: get(s, at::WRITEBACKS, 4),
+            flushes: get(s, at::FLUSHES, 4),
+            load_cost: get(s, at::LOAD_COST, 8),
+            write_cost: get(s, at::WRITE_COST, 8),
+            places: (0..256).map(|i| place(s, i)).collect(),
+        }
+    }
+
+    /// The items of the catalog.
+    pub fn items(&self) -> &[Item] {
+        &self.places[..self.n.min(256) as usize]
+    }
+
+    /// The places past the catalog.
+    fn past(&self) -> &[Item] {
+        &self.places[self.n.min(256) as usize..]
+    }
+
+    /// How many places are held.
+    pub fn held(&self) -> u64 {
+        self.places.iter().filter(|it| it.held == 1).count() as u64
+    }
+
+    /// How many marks are set.
+    pub fn dirty(&self) -> u64 {
+        self.places.iter().filter(|it| it.dirty).count() as u64
+    }
+
+    pub fn held_blocks(&self) -> u64 {
+        let held = self.places.iter().filter(|it| it.held == 1);
+        held.map(|it| it.blocks).sum()
+    }
+
+    fn every(&self, holds: fn(&Item) -> bool) -> bool {
+        self.items().iter().all(holds)
+    }
+
+    fn every_past(&self, holds: fn(&Item) -> bool) -> bool {
+        self.past().iter().all(holds)
+    }
+
+    fn sum(&self, of: fn(&Item) -> u64) -> u64 {
+        self.places.iter().map(of).sum()
+    }
+}
+
+/// A sentence of the rule in a few words, and whether a state keeps it.
+type Sentence = (&'static str, fn(&State) -> bool);
+
+/// Sentences that speak of places and items.
+const OF_PLACES: [Sentence; 15] = [
+    ("held is 0 or 1", |s| s.places.iter().all(|it| it.held <= 1)),
+    ("past n: not held", |s| s.every_past(|it| it.held != 1)),
+    ("past n: clean", |s| s.every_past(|it| !it.dirty)),
+    ("past n: no load credit", |s| {
+        s.every_past(|it| it.load_credit == 0)
+    }),
+    ("past n: no write credit", |s| {
+        s.every_past(|it| it.write_credit == 0)
+    }),
+    ("past n: counts 0", |s| {
+        s.every_past(|it| [it.tenths, it.loads, it.writebacks] == [0; 3])
+    }),
+    ("past n: blocks and costs 0", |s| {
+        s.every_past(|it| [it.blocks, it.load, it.write] == [0; 3])
+    }),
+    ("blocks are 1 to 16", |s| {
+        s.every(|it| (1..=16).contains(&it.blocks))
+    }),
+    ("not held: clean", |s| {
+        s.every(|it| it.held > 0 || !it.dirty)
+    }),
+    ("not held: credits 0", |s| {
+        s.every(|it| it.held > 0 || [it.load_credit, it.write_credit] == [0; 2])
+    }),
+    ("clean: write credit 0", |s| {
+        s.every(|it| it.dirty || it.write_credit == 0 || it.held == 0)
+    }),
+    ("load credit: a multiple of the blocks", |s| {
+        s.every(|it| it.held == 0 || it.blocks == 0 || it.load_credit % it.blocks == 0)
+    }),
+    ("write credit: a multiple of the blocks", |s| {
+        s.every(|it| it.held == 0 || it.blocks == 0 || it.write_credit % it.blocks == 0)
+    }),
+    ("load credit: at most load × 720,720", |s| {
+        s.every(|it| it.held == 0 || it.load_credit <= it.load * UNIT)
+    }),
+    ("write credit: at most write × 720,720", |s| {
+        s.every(|it| it.held == 0 || it.write_credit <= it.write * UNIT)
+    }),
+];
+
+/// Sentences that speak of the state as a whole.
+const OF_THE_WHOLE: [Sentence; 17] = [
+    ("the number of the layout is 1", |s| s.format == 1),
+    ("closed is 0 or 1", |s| s.closed <= 1),
+    ("k is 1 to 4,096", |s| (1..=4096).contains(&s.k)),
+    ("n is at most 256", |s| s.n <= 256),
+    ("held blocks are at most k", |s| s.held_blocks() <= s.k),
+    ("hits + loads + flushes = steps", |s| {
+        s.hits + s.loads + s.flushes == s.steps
+    }),
+    ("steps are at most 1,000,000", |s| s.steps <= 1_000_000),
+    ("evictions + held = loads", |s| {
+        s.evictions + s.held() == s.loads
+    }),
+    ("dirtyevictions are at most evictions", |s| {
+        s.dirty_evictions <= s.evictions
+    }),
+    ("dirtyevictions are at most writebacks", |s| {
+        s.dirty_evictions <= s.writebacks
+    }),
+    ("writebacks + dirty are at most steps", |s| {
+        s.writebacks + s.dirty() <= s.steps
+    }),
+    ("loadcost is at most 65,535 × loads", |s| {
+        s.load_cost <= 65_535 * s.loads
+    }),
+    ("writecost is at most 65,535 × writebacks", |s| {
+        s.write_cost <= 65_535 * s.writebacks
+    }),
+    ("items' loads add up", |s| s.sum(|it| it.loads) == s.loads),
+    ("items' writebacks add up", |s| {
+        s.sum(|it| it.writebacks) == s.writebacks
+    }),
+    ("tenths are at most 240 × steps", |s| {
+        s.items().iter().all(|it| it.tenths <= 240 * s.steps)
+    }),
+    ("closed: nothing dirty", |s| s.closed == 0 || s.dirty() == 0),
+];
+
+pub const SENTENCES: usize = OF_PLACES.len() + OF_THE_WHOLE.len();
+
+fn sentences() -> impl Iterator<Item = Sentence> {
+    OF_THE_WHOLE.into_iter().chain(OF_PLACES)
+}
+
+pub fn names() -> Vec<&'static str> {
+    sentences().map(|(name, _)| name).collect()
+}
+
+/// The sentences that a state breaks, by their place in `names`.
+pub fn broken(state: &State) -> Vec<usize> {
+    let all = sentences().enumerate();
+    all.filter(|(_, (_, kept))| !kept(state))
+        .map(|(i, _)| i)
+        .collect()
+}

@@ -1,0 +1,292 @@
+//! Random seasons through the exported calls. Beside the plain calls on the same bytes goes a model that has no bytes: the
+//! table of refusals over the arguments, and the step rule of the plain program `season`.
+
+use bench::plain::{
+    CLOSED, FLUSH, INVALID_STATE, ITEM_TOO_LARGE, LOG_FULL, MAX_STEPS, OUT_OF_RANGE, READ,
+    SHORT_PAGE, STATE_BYTES, TAKEN, UNKNOWN_ITEM, WRITE,
+};
+use bench::random::{Random, catalog, some_k, some_n};
+use plain_season::cache::Cache;
+use plain_season::{Item, Step, report};
+
+use crate::pair::{Call, Pair};
+use crate::run::Run;
+
+/// The longest report there can be (RECORDER_REPORT_BYTES).
+pub const LONGEST_REPORT: usize = 7_931;
+
+/// The season that follows from an accepted opening and the calls alone.
+pub struct Model<'a> {
+    k: u32,
+    catalog: &'a [Item],
+    steps: u32,
+    closed: bool,
+    cache: Cache<'a>,
+}
+
+impl<'a> Model<'a> {
+    pub fn open(k: u32, catalog: &'a [Item]) -> Model<'a> {
+        Model {
+            k,
+            catalog,
+            steps: 0,
+            closed: false,
+            cache: Cache::open(k, catalog),
+        }
+    }
+
+    fn refusal(&self, [kind, item, minutes]: [u32; 3]) -> u32 {
+        if self.closed {
+            return CLOSED;
+        }
+        if self.steps == MAX_STEPS {
+            return LOG_FULL;
+        }
+        if kind == FLUSH {
+            return TAKEN;
+        }
+        let read_or_write = kind == READ || kind == WRITE && minutes <= 1440;
+        if !read_or_write || item > 255 {
+            return OUT_OF_RANGE;
+        }
+        match self.catalog.get(item as usize) {
+            None => UNKNOWN_ITEM,
+            Some(item) if item.blocks > self.k => ITEM_TOO_LARGE,
+            Some(_) => TAKEN,
+        }
+    }
+
+    pub fn step(&mut self, arguments: [u32; 3]) -> u32 {
+        let answer = self.refusal(arguments);
+        if answer == TAKEN {
+            let [kind, item, minutes] = arguments;
+            let item = item as usize;
+            self.steps += 1;
+            self.cache.step(match kind {
+                READ => Step::Read { item },
+                WRITE => Step::Write { item, minutes },
+                _ => Step::Flush,
+            });
+        }
+        answer
+    }
+
+    pub fn close(&mut self) -> u32 {
+        if self.closed {
+            return CLOSED;
+        }
+        self.closed = true;
+        self.cache.close();
+        TAKEN
+    }
+
+    pub fn report(&self) -> String {
+        report::alone(&self.cache.counts)
+    }
+}
+
+/// The items of a catalog in bytes.
+pub fn items(catalog: &[u8]) -> Vec<Item> {
+    let chunks = catalog.as_chunks::<5>().0.iter();
+    chunks
+        .map(|&[blocks, a, b, c, d]| Item {
+            blocks: blocks.into(),
+            load: u16::from_le_bytes([a, b]).into(),
+            write: u16::from_le_bytes([c, d]).into(),
+        })
+        .collect()
+}
+
+fn any_bytes(r: &mut Random, len: usize) -> Vec<u8> {
+    (0..len).map(|_| r.next() as u8).collect()
+}
+
+/// Whether paper 01 has an opening of a state of the right length taken.
+fn in_range(k: u32, catalog: &[u8]) -> bool {
+    let (items, rest) = catalog.as_chunks::<5>();
+    let blocks = |item: &[u8; 5]| (1..=16).contains(&item[0]);
+    (1..=4096).contains(&k) && rest.is_empty() && items.len() <= 256 && items.iter().all(blocks)
+}
+
+/// Twists a catalog: blocks out of range, cut off, too long.
+fn twisted(r: &mut Random, mut catalog: Vec<u8>) -> Vec<u8> {
+    let n = catalog.len() / 5;
+    match r.below(3) {
+        0 if n > 0 => {
+            let i = r.pick(&[0, n - 1, r.0 as usize % n]);
+            catalog[5 * i] = r.pick(&[0, 17, 18, 128, 255]);
+        }
+        1 => catalog.truncate(r.below(catalog.len() as u64 + 1) as usize),
+        _ => catalog.resize(r.pick(&[1, 1279, 1281, 1284, 1285, 1286, 2560, 66_816]), 1),
+    }
+    catalog
+}
+
+/// An opening that is refused: for the capacity, for the catalog, for the state's length, or for several of these.
+fn refused_opening(run: &mut Run, r: &mut Random, pair: &mut Pair) {
+    let n = some_n(r);
+    let mut bytes = catalog(r, n);
+    let mut k = some_k(r, &bytes);
+    if r.one_in(2) {
+        bytes = twisted(r, bytes);
+    }
+    if in_range(k, &bytes) || r.one_in(4) {
+        let any = r.next() as u32;
+        k = r.pick(&[0, 4097, 4098, 65_537, 1 << 31, u32::MAX, any | 8192]);
+    }
+    let call = Call::Open { k, catalog: &bytes };
+    agree(pair.make(run, call), OUT_OF_RANGE, run);
+    if r.one_in(4) {
+        wrong_length(run, r, call);
+    }
+}
+
+/// All calls on a state that is too short or too long.
+fn wrong_length(run: &mut Run, r: &mut Random, opening: Call) {
+    let len = r.pick(&[0, 1, STATE_BYTES - 1, STATE_BYTES + 1, 2 * STATE_BYTES]);
+    let bytes = any_bytes(r, len);
+    let mut pair = Pair::of(r, &bytes);
+    agree(pair.make(run, opening), INVALID_STATE, run);
+    agree(pair.step(run, [READ, 0, 0]), INVALID_STATE, run);
+    agree(pair.step(run, arguments(r, 1)), INVALID_STATE, run);
+    agree(pair.make(run, Call::Close), INVALID_STATE, run);
+    agree(pair.report(run, LONGEST_REPORT).0, INVALID_STATE, run);
+    agree(pair.report(run, 0).0, INVALID_STATE, run);
+}
+
+/// Some number, whether it makes sense or not.
+fn wild(r: &mut Random) -> u32 {
+    let any = r.next() as u32;
+    r.pick(&[
+        0,
+        1,
+        FLUSH,
+        READ,
+        WRITE,
+        READ + 32,
+        WRITE + 256,
+        255,
+        256,
+        1440,
+        1441,
+        65_536,
+        u32::MAX,
+        any,
+        any,
+        any % 300,
+    ])
+}
+
+/// The arguments of a step: good ones, ones that are to be refused, and wild ones. Some items are asked for more often.
+pub fn arguments(r: &mut Random, n: usize) -> [u32; 3] {
+    if r.one_in(25) {
+        return [wild(r), wild(r), wild(r)];
+    }
+    let few = n.min(5) as u64;
+    let item = match n {
+        0 => wild(r),
+        _ if r.one_in(3) => r.below(few) as u32,
+        _ => r.below(n as u64) as u32,
+    };
+    let minutes = r.below(1441) as u32;
+    let mut arguments = match r.below(12) {
+        0 => [FLUSH, wild(r), wild(r)],
+        1..=6 => [WRITE, item, minutes],
+        _ => [READ, item, wild(r)],
+    };
+    if r.one_in(12) {
+        let which = r.below(3) as usize;
+        arguments[which] = wild(r);
+    }
+    if r.one_in(40) {
+        arguments[1] = r.between(n as u64, 256) as u32;
+    }
+    arguments
+}
+
+/// How many calls a season has: mostly some dozens.
+fn some_calls(r: &mut Random) -> u64 {
+    let most = r.pick(&[5, 30, 60, 100, 100, 200, 400]);
+    if r.one_in(1000) { 5_000 } else { r.below(most) }
+}
+
+/// A season from an accepted opening: its calls, compared one by one, and its reports.
+fn season(run: &mut Run, r: &mut Random, pair: &mut Pair, full: bool) {
+    let n = if full { 4 } else { some_n(r) };
+    let bytes = catalog(r, n);
+    let k = some_k(r, &bytes);
+    let opening = Call::Open { k, catalog: &bytes };
+    if r.one_in(8) {
+        wrong_length(run, r, opening);
+    }
+    let items = items(&bytes);
+    let mut model = Model::open(k, &items);
+    agree(pair.make(run, opening), TAKEN, run);
+    let mut left = some_calls(r);
+    while left > 0 || full && model.steps < MAX_STEPS {
+        left = left.saturating_sub(1);
+        if !full && r.one_in(120) {
+            agree(pair.make(run, Call::Close), model.close(), run);
+            left = left.min(8);
+        }
+        let arguments = arguments(r, n);
+        agree(pair.step(run, arguments), model.step(arguments), run);
+        if !full && r.one_in(200) {
+            reports(run, r, pair, &model);
+            refused_opening(run, r, pair);
+        }
+    }
+    reports(run, r, pair, &model);
+    for _ in 0..2 {
+        let arguments = arguments(r, n);
+        agree(pair.step(run, arguments), model.step(arguments), run);
+        agree(pair.make(run, Call::Close), model.close(), run);
+    }
+    reports(run, r, pair, &model);
+}
+
+/// What both answer has to be what the model has.
+fn agree(both: u32, model: u32, run: &Run) {
+    if both != model {
+        let what = format!("both answer {both}, the table of refusals has {model}");
+        run.differ(&what, &[]);
+    }
+}
+
+/// The report on pages of just the right size, of a byte less, of one more, large ones and small ones.
+fn reports(run: &mut Run, r: &mut Random, pair: &mut Pair, model: &Model) {
+    let text = model.report().into_bytes();
+    let fits = text.len();
+    let short = r.below(fits as u64) as usize;
+    let large = fits + r.below(1000) as usize;
+    for page in [fits, fits - 1, fits + 1, LONGEST_REPORT, large, short, 0] {
+        let expected = if page < fits {
+            (SHORT_PAGE, Vec::new())
+        } else {
+            (TAKEN, text.clone())
+        };
+        if pair.report(run, page) != expected {
+            let what = format!("both report otherwise than the model on a page of {page}");
+            run.differ(&what, &[String::from_utf8_lossy(&text).into_owned()]);
+        }
+    }
+}
+
+/// How many seasons there are to one of 1,000,000 steps.
+const SEASONS_TO_A_FULL_ONE: u64 = 50_000;
+
+/// One case: openings that are refused, and one season or two on the same bytes.
+pub fn case(run: &mut Run) {
+    let r = &mut run.random();
+    let bytes = any_bytes(r, STATE_BYTES);
+    let mut pair = Pair::of(r, &bytes);
+    for _ in 0..r.pick(&[0, 0, 1, 3]) {
+        refused_opening(run, r, &mut pair);
+    }
+    for _ in 0..r.pick(&[1, 1, 1, 2]) {
+        season(run, r, &mut pair, false);
+    }
+    if run.number % SEASONS_TO_A_FULL_ONE == SEASONS_TO_A_FULL_ONE / 2 {
+        season(run, r, &mut pair, true);
+    }
+}

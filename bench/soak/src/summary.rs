@@ -1,0 +1,70 @@
+//! What is printed at the end of a run without a difference.
+
+use crate::Soak;
+use crate::hostile::Seen;
+use crate::plans::{Beside, Worst};
+use crate::rule;
+use crate::run::{ASKED, Tally};
+
+fn answers(tally: &Tally) {
+    println!("answers, 0 for taken:");
+    for (name, answers) in ASKED.iter().zip(tally.answers) {
+        let answers = answers.iter().enumerate().filter(|(_, count)| **count > 0);
+        let words: Vec<String> = answers.map(|(n, count)| format!("{n}: {count}")).collect();
+        println!("  {name:<7} {}", words.join(", "));
+    }
+    println!("  {} texts of 65,536 bytes were taken", tally.longest_taken);
+}
+
+fn states(seen: &Seen) {
+    let Seen { states, valid, .. } = seen;
+    println!("{states} states, {valid} of them valid; of the others, those that break");
+    println!("   it alone  with others");
+    for (i, name) in rule::names().iter().enumerate() {
+        println!("{:>11} {:>12}  {name}", seen.alone[i], seen.with_others[i]);
+    }
+}
+
+fn worst(worst: &Worst) {
+    let Worst {
+        compared,
+        none_legal,
+        ..
+    } = worst;
+    println!(
+        "the bound holds beside {compared} cheapest plans; {none_legal} times no plan was legal"
+    );
+    println!("the worst total × (k − h + 1) / (k × cheapest), for h from 1 to k:");
+    for (k, row) in worst.by_sizes.iter().enumerate() {
+        let ratio = |beside: &Option<Beside>| match beside {
+            Some(beside) => format!("{:.3}", beside.ratio()),
+            None => "-".to_string(),
+        };
+        let ratios: Vec<String> = row[..=k].iter().map(ratio).collect();
+        println!("  k {}:  {}", k + 1, ratios.join(" "));
+    }
+    let sharpest = worst.sharpest;
+    println!("the worst of the sharper line, with the load credits on the left: {sharpest:.3}");
+    let rows = worst.by_sizes.iter();
+    let above_one = rows.flat_map(|row| row[1..].iter().flatten());
+    if let Some(beside) = above_one.max_by(|a, b| a.ratio().total_cmp(&b.ratio())) {
+        let Beside { left, right, text } = beside;
+        println!("the worst with h above 1, {left} / {right}, with a cheapest plan:");
+        text.lines()
+            .for_each(|line| println!("{}", format!("  {line}").trim_end()));
+    }
+}
+
+pub fn print(soak: &Soak) {
+    answers(&soak.tally);
+    states(&soak.seen);
+    worst(&soak.worst);
+    let [seasons, texts, states, plans] = soak.done;
+    let (questions, time) = (soak.tally.questions(), soak.begun.elapsed());
+    println!(
+        "seed {}: {seasons} seasons, {texts} texts, {states} hostile states, {plans} small seasons beside their cheapest plans: \
+         {questions} answers compared in {} s, no difference",
+        soak.seed,
+        time.as_secs()
+    );
+}

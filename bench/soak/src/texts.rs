@@ -1,0 +1,244 @@
+//! Seasons written as text, with a rival plan; then damaged. The program and the plain Rust answer each.
+
+use bench::plain::STATE_BYTES;
+use bench::random::{Random, catalog, some_k, some_n};
+use plain_season::{Act, Item, MAX_BYTES, Step, text};
+
+use crate::damage::damage;
+use crate::pair::{Call, Pair};
+use crate::program::{Program, figures, number};
+use crate::run::Run;
+use crate::seasons::{LONGEST_REPORT, items};
+
+/// Texts to a case: a season's own, and those that are made of it by damage.
+pub const TO_A_SEASON: u64 = 4;
+
+pub struct Season {
+    pub k: u32,
+    pub h: u32,
+    pub catalog: Vec<u8>,
+    pub items: Vec<Item>,
+    pub steps: Vec<Step>,
+    pub acts: Vec<(usize, Act)>,
+}
+
+impl Season {
+    pub fn text(&self) -> String {
+        text(self.k, self.h, &self.items, &self.steps, &self.acts)
+    }
+}
+
+/// The item that a step asks for.
+pub fn requested(step: Step) -> Option<usize> {
+    match step {
+        Step::Read { item } | Step::Write { item, .. } => Some(item),
+        Step::Flush => None,
+    }
+}
+
+/// The arguments of the call for a step.
+pub fn arguments(step: Step) -> [u32; 3] {
+    match step {
+        Step::Read { item } => [b'R'.into(), item as u32, 0],
+        Step::Write { item, minutes } => [b'W'.into(), item as u32, minutes],
+        Step::Flush => [b'L'.into(), 0, 0],
+    }
+}
+
+/// Steps over the items of at most so many blocks.
+pub fn some_steps(r: &mut Random, items: &[Item], most: u32, count: u64) -> Vec<Step> {
+    let fitting: Vec<usize> = (0..items.len())
+        .filter(|&i| items[i].blocks <= most)
+        .collect();
+    let step = |r: &mut Random| match r.below(8) {
+        _ if fitting.is_empty() => Step::Flush,
+        0 => Step::Flush,
+        1..=4 => Step::Write {
+            item: r.pick(&fitting),
+            minutes: r.pick(&[0, 5, 6, 90, 600, 1440]),
+        },
+        _ => Step::Read {
+            item: r.pick(&fitting),
+        },
+    };
+    (0..count).map(|_| step(r)).collect()
+}
+
+/// A plan that is legal if every requested item has at most `h` blocks: before each step it drops and fetches on a whim, has
+/// the requested item, and then makes room by dropping any others.
+pub fn some_plan(r: &mut Random, items: &[Item], h: u32, steps: &[Step]) -> Vec<(usize, Act)> {
+    let whims = r.pick(&[2, 4, 20, 1000]);
+    let mut held: Vec<usize> = Vec::new();
+    let mut acts = Vec::new();
+    for (at, &step) in steps.iter().enumerate() {
+        let mut turn = |held: &mut Vec<usize>, item: usize| {
+            let place = held.iter().position(|&other| other == item);
+            let act = match place {
+                Some(place) => {
+                    held.swap_remove(place);
+                    Act::Evict { item }
+                }
+                None => {
+                    held.push(item);
+                    Act::Fetch { item }
+                }
+            };
+            acts.push((at, act));
+        };
+        while !items.is_empty() && r.one_in(whims) {
+            turn(&mut held, r.below(items.len() as u64) as usize);
+        }
+        let wanted = requested(step);
+        if let Some(item) = wanted.filter(|item| !held.contains(item)) {
+            turn(&mut held, item);
+        }
+        while held.iter().map(|&i| items[i].blocks).sum::<u32>() > h {
+            let others: Vec<usize> = held
+                .iter()
+                .copied()
+                .filter(|&i| Some(i) != wanted)
+                .collect();
+            if others.is_empty() {
+                break;
+            }
+            turn(&mut held, r.pick(&others));
+        }
+    }
+    acts
+}
+
+/// A season, mostly small, and mostly with a legal plan.
+fn some_season(r: &mut Random) -> Season {
+    let n = if r.one_in(3) {
+        some_n(r)
+    } else {
+        r.below(6) as usize
+    };
+    let catalog = catalog(r, n);
+    let items = items(&catalog);
+    let mut k = some_k(r, &catalog);
+    if r.one_in(5) {
+        k = r.between(1, 16) as u32;
+    }
+    let largest = items.iter().map(|item| item.blocks).max().unwrap_or(1);
+    let part = r.between(1, k.into()) as u32;
+    let h = r.pick(&[k, part, largest.min(k), 1]);
+    let most = match r.below(20) {
+        0 | 1 => 16,
+        2 => k,
+        _ => h,
+    };
+    let count = r.pick(&[0, 1, 4, 12, 30, 60]);
+    let count = if r.one_in(200) {
+        3_000
+    } else {
+        r.below(count + 1)
+    };
+    let steps = some_steps(r, &items, most, count);
+    let acts = some_plan(r, &items, h, &steps);
+    Season {
+        k,
+        h,
+        catalog,
+        items,
+        steps,
+        acts,
+    }
+}
+
+/// Spoils the plan: an act more or less, of another kind, of another item, or before another step.
+fn spoil_plan(r: &mut Random, season: &mut Season) {
+    let some = |r: &mut Random, end: usize| r.below(end.max(1) as u64) as usize;
+    let item = some(r, season.items.len());
+    let at = some(r, season.steps.len());
+    let new = r.pick(&[Act::Evict { item }, Act::Fetch { item }]);
+    let place = some(r, season.acts.len());
+    if season.acts.is_empty() || r.one_in(3) {
+        let place = season.acts.partition_point(|&(other, _)| other <= at);
+        season.acts.insert(place, (at, new));
+        return;
+    }
+    match r.below(4) {
+        0 => drop(season.acts.remove(place)),
+        1 => season.acts[place].1 = new,
+        2 => season.acts[place].0 = at,
+        _ => season.acts.truncate(place),
+    }
+}
+
+/// Lengthens the text of a season to so many bytes, by writes behind its last step that need no act, with more digits for
+/// the minutes of some.
+fn lengthen(season: &mut Season, bytes: usize) {
+    let last = season.steps.iter().rev().find_map(|&step| requested(step));
+    let Some(item) = last else {
+        return;
+    };
+    let line = format!("W {item} 6\n").len();
+    let mut lacks = bytes.saturating_sub(season.text().len());
+    let count = lacks / line;
+    lacks -= count * line;
+    for _ in 0..count {
+        let more = lacks.min(3);
+        lacks -= more;
+        let minutes = [6, 60, 600, 1200][more];
+        season.steps.push(Step::Write { item, minutes });
+    }
+}
+
+/// The report of a state alone with the rival's figures added to its last two lines.
+fn beside_rival(alone: &str, figures: &[u64]) -> String {
+    let (head, last) = alone.trim_end().rsplit_once('\n').unwrap_or_default();
+    let [.., rival, left, right] = figures else {
+        return String::new();
+    };
+    format!("{head} rival left right\n{last} {rival} {left} {right}\n")
+}
+
+/// The steps of an accepted text, and its closing, as calls: the report of the state is the text's but for the rival.
+fn compare_calls(run: &mut Run, r: &mut Random, season: &Season, output: &str) {
+    let mut pair = Pair::of(r, &[0; STATE_BYTES]);
+    let (k, catalog) = (season.k, &season.catalog);
+    let mut answers = pair.make(run, Call::Open { k, catalog });
+    for &step in &season.steps {
+        answers |= pair.step(run, arguments(step));
+    }
+    answers |= pair.make(run, Call::Close);
+    let (reported, alone) = pair.report(run, LONGEST_REPORT);
+    let alone = String::from_utf8_lossy(&alone);
+    let figures = figures(output);
+    if answers | reported != 0 || output != beside_rival(&alone, &figures) {
+        let details = [season.text(), output.to_string(), alone.into_owned()];
+        run.differ("an accepted text, and its steps as calls", &details);
+    }
+    if figures[9] > figures[10] {
+        let details = [season.text(), output.to_string()];
+        run.differ("left is above right", &details);
+    }
+}
+
+/// One case: a season's text, then the same with a spoilt plan or damaged.
+pub fn case(run: &mut Run, program: &Program) {
+    let r = &mut run.random();
+    let mut season = some_season(r);
+    if r.one_in(60) {
+        let bytes = r.pick(&[MAX_BYTES - 1, MAX_BYTES, MAX_BYTES, MAX_BYTES + 1]);
+        lengthen(&mut season, bytes);
+    }
+    let whole = season.text();
+    let output = program.compare(run, whole.as_bytes());
+    if number(&output) == 0 {
+        compare_calls(run, r, &season, &output);
+    }
+    for _ in 1..TO_A_SEASON {
+        if r.one_in(5) {
+            spoil_plan(r, &mut season);
+            program.compare(run, season.text().as_bytes());
+            continue;
+        }
+        let mut text = whole.clone().into_bytes();
+        for _ in 0..r.pick(&[1, 1, 1, 2, 4]) {
+            damage(r, &mut text);
+        }
+        program.compare(run, &text);
+    }
+}

@@ -1,0 +1,103 @@
+//! Valid states that need not be ones that a log leads to: any items held, any credits, figures at the ends of their ranges.
+
+use crate::plain::{self, MAX_STEPS, STATE_BYTES, UNIT, at};
+use crate::random::{Random, catalog, some_k};
+
+fn put32(s: &mut [u8], at: usize, value: u32) {
+    s[at..at + 4].copy_from_slice(&value.to_le_bytes());
+}
+
+fn put64(s: &mut [u8], at: usize, value: u64) {
+    s[at..at + 8].copy_from_slice(&value.to_le_bytes());
+}
+
+/// Shares out `total` among the first `n` numbers of the run at `at`.
+fn share_out(r: &mut Random, s: &mut [u8], at: usize, n: usize, total: u32) {
+    let mut rest = total;
+    for i in 0..n {
+        let part = if i + 1 == n {
+            rest
+        } else {
+            r.below(u64::from(rest) + 1) as u32
+        };
+        put32(s, at + 4 * i, part);
+        rest -= part;
+    }
+}
+
+/// A credit of an item: none, full, or any multiple of its blocks.
+fn credit(r: &mut Random, blocks: u8, cost: [u8; 2]) -> u64 {
+    let most = u64::from(u16::from_le_bytes(cost)) * UNIT / u64::from(blocks);
+    let any = r.below(most + 1);
+    r.pick(&[0, most, any, any]) * u64::from(blocks)
+}
+
+/// Puts some items into an empty cache of `k` blocks. Answers how many are held, and how many of these are dirty.
+fn fill(r: &mut Random, s: &mut [u8], k: u32, catalog: &[u8], closed: bool) -> (u32, u32) {
+    let (mut used, mut held, mut dirty) = (0, 0, 0);
+    for (i, &[blocks, load_low, load_high, write_low, write_high]) in
+        catalog.as_chunks().0.iter().enumerate()
+    {
+        if used + u32::from(blocks) > k || r.one_in(4) {
+            continue;
+        }
+        used += u32::from(blocks);
+        held += 1;
+        s[at::HELD + i] = 1;
+        let load_credit = credit(r, blocks, [load_low, load_high]);
+        put64(s, at::LOAD_CREDIT + 8 * i, load_credit);
+        if !closed && r.one_in(2) {
+            dirty += 1;
+            s[at::DIRTY + i / 8] |= 1 << (i % 8);
+            let write_credit = credit(r, blocks, [write_low, write_high]);
+            put64(s, at::WRITE_CREDIT + 8 * i, write_credit);
+        }
+    }
+    (held, dirty)
+}
+
+/// Figures that go with so many items held and dirty.
+fn count(r: &mut Random, s: &mut [u8], n: usize, held: u32, dirty: u32) {
+    let some = if n == 0 { 0 } else { u32::MAX };
+    let evictions = some & r.pick(&[0, 1, 5, 1000, 300_000]);
+    let writebacks = some & r.pick(&[0, 1, 5, 1000, 300_000]);
+    let loads = held + evictions;
+    let dirty_evictions = r.below(u64::from(evictions.min(writebacks)) + 1) as u32;
+    let least = loads.max(writebacks + dirty);
+    let steps = r.pick(&[least, least + 1, MAX_STEPS - 1, MAX_STEPS]);
+    let hits = r.below(u64::from(steps - loads) + 1) as u32;
+    for (at, count) in [
+        (at::STEPS, steps),
+        (at::HITS, hits),
+        (at::LOADS, loads),
+        (at::FLUSHES, steps - loads - hits),
+        (at::EVICTIONS, evictions),
+        (at::DIRTY_EVICTIONS, dirty_evictions),
+        (at::WRITEBACKS, writebacks),
+    ] {
+        put32(s, at, count);
+    }
+    for (at, count) in [(at::LOAD_COST, loads), (at::WRITE_COST, writebacks)] {
+        let most = 65_535 * u64::from(count);
+        let any = r.below(most + 1);
+        put64(s, at, r.pick(&[0, most, any]));
+    }
+    share_out(r, s, at::ITEM_LOADS, n, loads);
+    share_out(r, s, at::ITEM_WRITEBACKS, n, writebacks);
+    for i in 0..n {
+        put32(s, at::TENTHS + 4 * i, r.pick(&[0, 1, 240]) * steps);
+    }
+}
+
+/// A valid state with a catalog of `n` items.
+pub fn valid(r: &mut Random, n: usize) -> Vec<u8> {
+    let catalog = catalog(r, n);
+    let k = some_k(r, &catalog);
+    let mut s = vec![0; STATE_BYTES];
+    assert_eq!(plain::open(&mut s, k, &catalog), 0);
+    let closed = r.one_in(20);
+    s[at::CLOSED] = u8::from(closed);
+    let (held, dirty) = fill(r, &mut s, k, &catalog, closed);
+    count(r, &mut s, n, held, dirty);
+    s
+}

@@ -1,0 +1,372 @@
+/*
+ * The recorder's main loop, in small: a season of a few steps with a card that fails, a state that is damaged, and a night
+ * without power. It prints what it does; examples/firmware/run compares that with expected.txt.
+ *
+ * THE ORDER OF A STEP. (1) Keep a copy of the state. (2) Make the call. (3) Compare the marks of both states. (4) Write back
+ * the records that have to go to the card. (5) Fetch the one that was loaded. (6) Store the new state, with the number of the
+ * step that comes next.
+ *
+ * WHY IT MAY BREAK OFF ANYWHERE. Until (6) is done the card has the old state, and by that state the step has not begun. So
+ * the loop goes back to the stored state and takes the step once more:
+ *   - the call works on nothing but the bytes of the state and its arguments, so from the old state it evicts and loads the
+ *     same items again and leaves the same bytes;
+ *   - a record that was already written back is written again with the same contents, and a torn one is made whole. Its place
+ *     in working memory is kept until (6) is done, so it is still there to be written;
+ *   - in between nobody reads it from the card: by the old state it is held, and the held record is the one that counts.
+ * A break costs accesses that are made twice, never a record. With (6) before (4) it would: the stored state would call an
+ * item clean or evicted whose last contents the card does not have.
+ *
+ * WHEN WORKING MEMORY IS LOST TOO, at a power cut, the old state still stands and the step is still repeated, but what was
+ * written since the last writeback is gone. No order of card accesses can save it; a flush does (the paper's landing), and
+ * so the boat is switched off after one. And a torn record is whole nowhere then, so a card on which this can happen writes a
+ * record as card.c stores the state: into a free place, which is then taken into use.
+ */
+#include "card.h"
+#include "recorder.h"
+
+#include <stdio.h>
+#include <string.h>
+
+/* An item of the catalogue in its five bytes (the paper's sail): blocks, load cost, write cost; low byte first. */
+#define ITEM(blocks, load, write) (blocks), (load) & 255, (load) >> 8, (write) & 255, (write) >> 8
+
+#define K 4     /* the cache's blocks (the paper's locker) */
+#define TRIES 3 /* so often one step is tried before the loop gives up */
+
+static const uint8_t catalog[] = {
+    ITEM(1, 4, 6), ITEM(2, 6, 2), ITEM(1, 3, 9), ITEM(3, 300, 700), ITEM(5, 1, 1), /* the last is larger than the cache */
+};
+
+/*
+ * The log. On the boat each step is put on the card as it comes in, before it is taken, so that it can be taken again.
+ * Step 1 is the first; the one behind the last stands for the close.
+ */
+static const struct {
+    uint32_t kind, item, minutes;
+} steps[] = {
+    { RECORDER_WRITE, 0, 90 },
+    { RECORDER_READ, 1, 0 },
+    { RECORDER_WRITE, 2, 45 },
+    { RECORDER_READ, 3, 0 },
+    { RECORDER_WRITE, 3, 600 },
+    { RECORDER_FLUSH, 0, 0 },
+    { RECORDER_READ, 4, 0 },
+    { RECORDER_WRITE, 2, 30 },
+    { RECORDER_WRITE, 0, 12 },
+    { RECORDER_READ, 2, 0 },
+    { RECORDER_WRITE, 3, 6 },
+    { RECORDER_FLUSH, 0, 0 },
+    { RECORDER_WRITE, 1, 20 },
+    { RECORDER_READ, 0, 0 },
+    { RECORDER_WRITE, 2, 5 },
+};
+
+enum { ITEMS = sizeof catalog / RECORDER_ITEM_BYTES, CLOSE = sizeof steps / sizeof *steps + 1 };
+
+_Static_assert(ITEMS == CARD_RECORDS, "the card has a record for each item");
+
+/* The faults of the demonstration, each before the step is tried for the first time. */
+static const struct fault {
+    uint32_t step;
+    enum { CARD_FAILS, MEMORY_FLIPS, POWER_GOES } what;
+    uint32_t accesses; /* that the card still does */
+} faults[] = {
+    { 4, CARD_FAILS, 1 },    /* an evicted record is written back, the fetch fails */
+    { 6, CARD_FAILS, 1 },    /* the second record of a flush is torn */
+    { 9, CARD_FAILS, 2 },    /* an evicted record is written back, another one fetched; the store of the state is torn */
+    { 10, MEMORY_FLIPS, 0 }, /* a bit of the state in working memory */
+    { 13, POWER_GOES, 0 },   /* and overnight a bit of the stored state flips */
+};
+
+static uint8_t state[RECORDER_STATE_BYTES], before[RECORDER_STATE_BYTES];
+
+/*
+ * Working memory, with a place for each item, so that a fetch never lands on a record that was evicted in the same step and
+ * may have to be written once more. Memory of K blocks needs for this as many blocks on top as the largest item has.
+ */
+static struct card_record memory[ITEMS];
+
+/* The card's accesses by their reason; and reads of the boat that found another record than the one last written. */
+static struct {
+    uint32_t loads, writebacks;       /* of steps that are done */
+    uint32_t lost_reads, lost_writes; /* of tries that broke off */
+    uint32_t power_on_reads;
+    uint32_t wrong_records;
+} tally;
+
+/* What a call asks of the card. */
+struct moves {
+    bool evicted[ITEMS], written[ITEMS], loaded[ITEMS];
+};
+
+enum outcome { DONE, REFUSED, DAMAGED, CARD_FAILED };
+enum end { CLOSED, POWERED_OFF, GAVE_UP };
+
+/* The marks before and after a call tell which items left, which of them were dirty, and which came in. */
+static struct moves compare(void)
+{
+    struct moves m;
+    for (uint32_t i = 0; i < ITEMS; i++) {
+        bool was_held = recorder_is_held(before, sizeof before, i), is_held = recorder_is_held(state, sizeof state, i);
+        bool was_dirty = recorder_is_dirty(before, sizeof before, i), is_dirty = recorder_is_dirty(state, sizeof state, i);
+        m.evicted[i] = was_held && !is_held;
+        m.loaded[i] = !was_held && is_held;
+        m.written[i] = was_dirty && !is_dirty; /* evicted while dirty, or held on and clean after a flush or the close */
+    }
+    return m;
+}
+
+static void say_moves(const struct moves *m)
+{
+    for (uint32_t i = 0; i < ITEMS; i++)
+        if (m->evicted[i])
+            printf(", evicts %u%s", i, m->written[i] ? " (dirty)" : "");
+        else if (m->written[i])
+            printf(", writes back %u", i);
+    for (uint32_t i = 0; i < ITEMS; i++)
+        if (m->loaded[i])
+            printf(", loads %u", i);
+    putchar('\n');
+}
+
+/* Writebacks first, then the fetch: what leaves working memory is on the card before anything new comes in. */
+static bool serve_card(const struct moves *m)
+{
+    for (uint32_t i = 0; i < ITEMS; i++)
+        if (m->written[i] && !card_write(i, &memory[i]))
+            return false;
+    for (uint32_t i = 0; i < ITEMS; i++)
+        if (m->loaded[i] && !card_read(i, &memory[i]))
+            return false;
+    return true;
+}
+
+static uint32_t call(uint32_t step)
+{
+    if (step == CLOSE)
+        return recorder_close(state, sizeof state);
+    return recorder_step(state, sizeof state, steps[step - 1].kind, steps[step - 1].item, steps[step - 1].minutes);
+}
+
+static void say_call(uint32_t step)
+{
+    if (step == CLOSE)
+        printf("close");
+    else if (steps[step - 1].kind == RECORDER_FLUSH)
+        printf("step %u: L", step);
+    else
+        printf("step %u: %c %u", step, (int)steps[step - 1].kind, steps[step - 1].item);
+}
+
+/* The step before `step` that wrote an item last: what its record has to say. (The log has no write that is refused.) */
+static uint32_t last_write(uint32_t item, uint32_t step)
+{
+    while (--step > 0)
+        if (steps[step - 1].kind == RECORDER_WRITE && steps[step - 1].item == item)
+            return step;
+    return 0;
+}
+
+/*
+ * Serves the boat from working memory. A write puts new contents into the place: done twice it is the same as done once,
+ * which would not be so of adding to the old ones.
+ */
+static void serve_boat(uint32_t step)
+{
+    if (step == CLOSE || steps[step - 1].kind == RECORDER_FLUSH)
+        return;
+    uint32_t item = steps[step - 1].item;
+    if (steps[step - 1].kind == RECORDER_WRITE)
+        memory[item].written_by = step;
+    else if (memory[item].written_by != last_write(item, step))
+        tally.wrong_records++;
+}
+
+/* (4), (5) and (6) of the order above. */
+static bool carry_out(uint32_t step, const struct moves *m)
+{
+    if (!serve_card(m))
+        return false;
+    serve_boat(step);
+    if (!card_store(state, step + 1))
+        return false;
+    for (uint32_t i = 0; i < ITEMS; i++)
+        if (m->evicted[i])
+            memory[i].written_by = UINT32_MAX; /* the place is free from here on, and not before */
+    return true;
+}
+
+/* One try at a step. Refused, it moved nothing, so there is nothing to store: should it come again, it is refused again. */
+static enum outcome take(uint32_t step)
+{
+    memcpy(before, state, sizeof before);
+    uint32_t answer = call(step);
+    say_call(step);
+    if (answer != RECORDER_TAKEN) {
+        printf(", answer %u\n", answer);
+        return answer == RECORDER_INVALID_STATE ? DAMAGED : REFUSED;
+    }
+    struct moves m = compare();
+    say_moves(&m);
+
+    struct card_counts start = card_counts();
+    bool done = carry_out(step, &m);
+    struct card_counts now = card_counts();
+    if (done) {
+        tally.loads += now.reads - start.reads;
+        tally.writebacks += now.writes - start.writes;
+        return DONE;
+    }
+    tally.lost_reads += now.reads - start.reads;
+    tally.lost_writes += now.writes - start.writes;
+    puts("  the card fails");
+    return CARD_FAILED;
+}
+
+/*
+ * A state from the catalogue, taken through the log again. The calls depend on nothing else, so this comes to the bytes that
+ * were lost, figures and all; the card has done its part of these steps already. Without a log the season's figures would
+ * begin at 0 again.
+ */
+static bool reopen(uint32_t next)
+{
+    uint32_t answer = recorder_open(state, sizeof state, K, catalog, sizeof catalog);
+    if (answer != RECORDER_TAKEN) {
+        printf("  the catalogue is refused: %u\n", answer);
+        return false;
+    }
+    for (uint32_t step = 1; step < next; step++)
+        (void)call(step); /* what was refused is refused again */
+    printf("  opened from the catalogue, %u steps taken again without the card\n", next - 1);
+    return card_store(state, next);
+}
+
+/*
+ * Back to the stored state, and to the step that follows on it. The card has been without power for a moment or a night, so
+ * the state is tested before its marks are used: a report on no page answers 17 for a damaged state and 15 for a good one.
+ *
+ * 17 means that a rule of validity is broken. A flip that breaks none (in the tenths of an hour, say) is not seen by the
+ * library; where the card does not check its bytes itself, a checksum should be stored with them and the step's number.
+ */
+static bool restore(uint32_t *next)
+{
+    size_t length;
+    card_restart();
+    if (!card_recall(state, next))
+        return false;
+    if (*next == 0)
+        *next = 1; /* a new card */
+    uint32_t answer = recorder_report(state, sizeof state, NULL, 0, &length);
+    if (answer != RECORDER_INVALID_STATE) {
+        printf("  back to the stored state, step %u is next\n", *next);
+        return true;
+    }
+    printf("  no good state on the card: %u\n", answer);
+    return reopen(*next);
+}
+
+/*
+ * At power on working memory is empty, and what the state calls held is fetched again. The report does not count these
+ * reads, for the rule knows of no power cuts. A record that is dirty here goes back to its last writeback.
+ */
+static bool power_on(uint32_t *next)
+{
+    uint32_t held = 0, dirty = 0;
+    puts("power on");
+    memset(memory, 0xFF, sizeof memory); /* nothing is left of either */
+    memset(state, 0xFF, sizeof state);
+    if (!restore(next))
+        return false;
+    for (uint32_t i = 0; i < ITEMS; i++) {
+        if (!recorder_is_held(state, sizeof state, i))
+            continue;
+        if (!card_read(i, &memory[i]))
+            return false;
+        held++;
+        dirty += recorder_is_dirty(state, sizeof state, i);
+    }
+    tally.power_on_reads += held;
+    printf("  %u held records fetched again, writes lost in %u\n", held, dirty);
+    return true;
+}
+
+/* Lets the next fault happen if its time has come; answers whether the power is still on. */
+static bool suffer(uint32_t step)
+{
+    static size_t past;
+    if (past == sizeof faults / sizeof *faults || faults[past].step != step)
+        return true;
+    const struct fault *f = &faults[past++];
+    if (f->what == CARD_FAILS)
+        card_fail_after(f->accesses);
+    else if (f->what == MEMORY_FLIPS)
+        state[RECORDER_AT_HITS] ^= 4;
+    else
+        card_flip(RECORDER_AT_WRITEBACKS);
+    return f->what != POWER_GOES;
+}
+
+/* The main loop, from power on. Whatever goes wrong in a step, the way out is the same: back to what is stored. */
+static enum end run(void)
+{
+    uint32_t step;
+    unsigned tries = 0;
+    if (!power_on(&step))
+        return GAVE_UP;
+    while (step <= CLOSE) {
+        if (!suffer(step))
+            return POWERED_OFF;
+        enum outcome outcome = take(step);
+        if (outcome == DONE || outcome == REFUSED) {
+            step++;
+            tries = 0;
+        } else if (++tries == TRIES || !restore(&step)) {
+            return GAVE_UP;
+        }
+    }
+    return CLOSED;
+}
+
+/* Holds a figure of the report against the card's accesses for that reason, and all accesses against all reasons. */
+static bool agree(const char *what, uint32_t reported, uint32_t counted, uint32_t lost, uint32_t power_on_reads, uint32_t all)
+{
+    bool well = counted == reported && all == counted + lost + power_on_reads;
+    printf("%s: %u in the report, %u on the card: %s (and %u of tries that broke off, %u at power on)\n", what, reported,
+           counted, well ? "equal" : "NOT EQUAL", lost, power_on_reads);
+    return well;
+}
+
+/* The report, and the card's counts and records held against it. */
+static bool finish(void)
+{
+    static char page[RECORDER_REPORT_BYTES + 1]; /* the text has no zero behind it; this one is for strstr and sscanf */
+    size_t length = 0;
+    uint32_t loads, writebacks;
+    if (recorder_report(state, sizeof state, (uint8_t *)page, RECORDER_REPORT_BYTES, &length) != RECORDER_TAKEN)
+        return false;
+    fwrite(page, 1, length, stdout);
+    const char *totals = strstr(page, "\n\n");
+    if (totals == NULL || sscanf(totals, " %*[^\n] %*u %u %*u %*u %*u %u", &loads, &writebacks) != 2)
+        return false;
+
+    struct card_counts card = card_counts();
+    bool equal = agree("loads", loads, tally.loads, tally.lost_reads, tally.power_on_reads, card.reads);
+    equal &= agree("writebacks", writebacks, tally.writebacks, tally.lost_writes, 0, card.writes);
+    for (uint32_t i = 0; i < ITEMS; i++) {
+        struct card_record record;
+        if (!card_read(i, &record) || record.written_by != last_write(i, CLOSE))
+            tally.wrong_records++;
+    }
+    printf("records that are not the one last written, read by the boat or left on the card: %u\n", tally.wrong_records);
+    return equal && tally.wrong_records == 0;
+}
+
+int main(void)
+{
+    enum end end;
+    while ((end = run()) == POWERED_OFF)
+        puts("power off");
+    if (end == GAVE_UP)
+        puts("gave up");
+    return end == CLOSED && finish() ? 0 : 1;
+}
