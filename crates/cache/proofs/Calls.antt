@@ -13,15 +13,13 @@ use Rattle.landlord.specs.Calls.{Call, stepCall, close, stepOf, refusalAt, refu
 use Rattle.landlord.specs.Valid.{StandingOk}
 use Rattle.landlord.proofs.Slots.{write-first-ok}
 use Rattle.landlord.proofs.Valid.{ok-after}
-use Rattle.cache_state.specs.Cache.{Cache}
-use Rattle.cache_state.specs.View.{catalogOf, slotsOf, usesOf, stateOf, countsOf, view}
-use Rattle.cache_state.specs.Valid.{Normal}
+use Rattle.cache_state.specs.Cache.{Cache, catalogOf, slotsOf, usesOf, view, Normal}
+use Rattle.cache_state.specs.InnerView.{stateOf, countsOf}
 use Rattle.cache_state.specs.InnerBecomes.{Becomes}
 use Rattle.cache_state.specs.InnerWith.{withClosed}
 use Rattle.cache_state.proofs.Normals.{figures-normal}
-use Rattle.layout.specs.Layout.{cacheOf}
+use Rattle.layout.specs.Layout.{cacheOf, ValidBytes}
 use Rattle.layout.specs.Inner.{Stands, BecomesAt}
-use Rattle.layout.specs.Valid.{ValidBytes}
 use Rattle.layout.proofs.Places.{stands-become, becomes-valid}
 use Rattle.cache.specs.Contract.{Kind, lent, Answers, Called}
 

@@ -14,9 +14,8 @@ use Rattle.landlord.specs.Rule.{emptied}
 use Rattle.landlord.specs.Figures.{Standing, nothing, noUse, totalsOf}
 use Rattle.landlord.proofs.Folds.{tab-length, tab-eq}
 use Rattle.marks.specs.Marks.{bit, marked}
-use Rattle.cache_state.specs.Cache.{Cache}
-use Rattle.cache_state.specs.View.{slotOf, usageOf, catalogOf, slotsOf, usesOf}
-use Rattle.cache_state.specs.Valid.{EmptyPlace, Blank}
+use Rattle.cache_state.specs.Cache.{Cache, slotOf, catalogOf, slotsOf, usesOf, EmptyPlace, Blank}
+use Rattle.cache_state.specs.InnerView.{usageOf}
 use Rattle.cache_state.specs.InnerBecomes.{Becomes}
 use Rattle.cache.specs.Inner.{emptyWith, Column}
 

@@ -7,20 +7,18 @@ use Prim.Native.Nat.{ℕ, _+_, _/_, _%_, _≤_, _<_}
 use native.Mathlib.Omega.{arith}
 use lib.Dec.{eqb, leb}
 use lib.ListN.{length, set, replicate, getD-replicate, length-replicate}
-use borrow.Author.Count.{below-more}
 use borrow.Author.Tests.{eq-eqb, ne-eqb, le-leb, lt-leb, eqb-true, leb-true}
-use Rattle.landlord.specs.Catalog.{CatalogOk, itemAt, blocksInRange}
+use Rattle.landlord.specs.Catalog.{CatalogOk}
 use Rattle.landlord.specs.Figures.{opened}
 use Rattle.landlord.specs.Calls.{openingRefusal}
-use Rattle.landlord.specs.Inner.{ItemFacts, CapacityFacts}
+use Rattle.landlord.specs.Inner.{CapacityFacts}
 use Rattle.landlord.proofs.Valid.{ok-opened}
-use Rattle.landlord.proofs.Ranges.{catalog-facts, catalog-ok, capacity-facts, capacity-ok, opening-taken, opening-accepts, range-refused, blocks-facts, blocks-ok}
+use Rattle.landlord.proofs.Ranges.{capacity-facts, capacity-ok, opening-taken, opening-accepts, range-refused}
 use Rattle.fields.specs.Inner.{Below}
 use Rattle.catalog_bytes.specs.Catalogs.{itemIn, catalogIn}
 use Rattle.catalog_bytes.specs.Inner.{HasItem}
-use Rattle.catalog_bytes.proofs.Laws.{length-catalogIn, item-at, load-lt, write-lt}
-use Rattle.cache_state.specs.Cache.{Cache}
-use Rattle.cache_state.specs.Valid.{EmptyPlace}
+use Rattle.catalog_bytes.proofs.Laws.{load-lt, write-lt}
+use Rattle.cache_state.specs.Cache.{Cache, EmptyPlace}
 use Rattle.cache_state.specs.InnerBecomes.{Becomes}
 use Rattle.cache_state.specs.InnerWith.{withCapacity, withCount, withCatalog, withBlocks, withItemLoadCost, withItemWriteCost}
 use Rattle.layout.specs.Layout.{stateBytes, cacheOf}
@@ -29,7 +27,8 @@ use Rattle.layout.proofs.Places.{stands-as, stands-become, becomes-valid}
 use Rattle.cache_room.specs.InnerStores.{storeTo}
 use Rattle.cache_room.proofs.Laws.{store-more, store-past, store-at}
 use Rattle.cache.specs.Contract.{openingNumber, OpenedLent}
-use Rattle.cache.specs.Inner.{BlocksIn, WholeCatalog, enteredOf, Column}
+use Rattle.cache.specs.Inner.{BlocksOk, WholeCatalog, enteredOf, Column}
+use Rattle.cache.proofs.Blocks.{catalog-blocks, blocks-catalog}
 use Rattle.cache.proofs.Empty.{empty-place, empty-becomes}
 
 -- ---- the tests
@@ -37,20 +36,6 @@ use Rattle.cache.proofs.Empty.{empty-place, empty-becomes}
 -- item i of n is there
 pub has-item : {n i : ℕ} {xs : List ℕ} → WholeCatalog n xs → i < n → HasItem xs i
 has-item w l = record { place = omega (arith, w .few); inside = omega (arith, w .count) }
-
-pub no-blocks : (xs : List ℕ) → BlocksIn 0 xs
-no-blocks xs = record { each = λ i l. absurd (let z : i < 0 = l in omega arith) }
-
-pub more-blocks : (xs : List ℕ) (i : ℕ) → BlocksIn i xs → 1 ≤ itemIn xs i .blocks → itemIn xs i .blocks ≤ 16 → BlocksIn (i + 1) xs
-more-blocks xs i ok low high =
-    record { each = below-more (λ j. blocksInRange (itemIn xs j .blocks) ≡ true) i (ok .each) (blocks-ok (itemIn xs i .blocks) low high) }
-
--- and read off
-pub blocks-low : {n : ℕ} {xs : List ℕ} → BlocksIn n xs → (i : ℕ) → i < n → 1 ≤ itemIn xs i .blocks
-blocks-low {xs = xs} ok i l = blocks-facts (itemIn xs i .blocks) (ok .each i l) .0
-
-pub blocks-high : {n : ℕ} {xs : List ℕ} → BlocksIn n xs → (i : ℕ) → i < n → itemIn xs i .blocks ≤ 16
-blocks-high {xs = xs} ok i l = blocks-facts (itemIn xs i .blocks) (ok .each i l) .1
 
 -- lengths that are right
 pub record Lengths (size : ℕ) (xs : List ℕ) : Type 0 where
@@ -78,24 +63,20 @@ module _ (size k : ℕ) (xs : List ℕ) where
   pub no-capacity : Lengths size xs → (CapacityFacts k → ⊥) → 3 ≡ openingNumber size k xs
   no-capacity s bad = range-refused k (catalogIn xs) (λ f. bad (capacity-facts k (f .0))) ∙ sym (asks s)
 
-  pub blocks-refused : Lengths size xs → (BlocksIn (length xs / 5) xs → ⊥) → 3 ≡ openingNumber size k xs
-  blocks-refused s bad = range-refused k (catalogIn xs) (λ f. bad (read (f .1))) ∙ sym (asks s)
-    where
-      at : (i : ℕ) → i < length xs / 5 → CatalogOk (catalogIn xs) → ItemFacts (itemIn xs i)
-      at i l ok = subst ItemFacts (item-at xs i l) (catalog-facts (catalogIn xs) ok .each i (omega (arith, length-catalogIn xs)))
+  -- the blocks of the catalog's items
+  abbrev blocks : ℕ → ℕ
+  blocks i = itemIn xs i .blocks
 
-      read : CatalogOk (catalogIn xs) → BlocksIn (length xs / 5) xs
-      read ok = record { each = λ i l. blocks-ok (itemIn xs i .blocks) (at i l ok .some) (at i l ok .small) }
+  pub blocks-refused : Lengths size xs → (BlocksOk (length xs / 5) blocks → ⊥) → 3 ≡ openingNumber size k xs
+  unfolding catalogIn
+  blocks-refused s bad = range-refused k (catalogIn xs) (λ f. bad (catalog-blocks (length xs / 5) (itemIn xs) (f .1))) ∙ sym (asks s)
 
   -- costs of two bytes are in range
-  pub blocks-taken : Lengths size xs → CapacityFacts k → Below 256 xs → BlocksIn (length xs / 5) xs → 0 ≡ openingNumber size k xs
-  blocks-taken s room bytes ok = sym (asks s ∙ opening-accepts k (catalogIn xs) (capacity-ok k room) (catalog-ok (catalogIn xs) (record { few = omega (arith, length-catalogIn xs, s .few); each = item })))
-    where
-      item : (i : ℕ) → i < length (catalogIn xs) → ItemFacts (itemAt (catalogIn xs) i)
-      item i l =
-          let m : i < length xs / 5 = omega (arith, length-catalogIn xs) in
-          subst ItemFacts (sym (item-at xs i m))
-          (record { some = blocks-low ok i m; small = blocks-high ok i m; load = omega (arith, load-lt xs i bytes); write = omega (arith, write-lt xs i bytes) })
+  pub blocks-taken : Lengths size xs → CapacityFacts k → Below 256 xs → BlocksOk (length xs / 5) blocks → 0 ≡ openingNumber size k xs
+  unfolding catalogIn
+  blocks-taken s room bytes ok =
+      let good : CatalogOk (catalogIn xs) = blocks-catalog (length xs / 5) (itemIn xs) (omega (arith, s .few)) ok (λ i. omega (arith, load-lt xs i bytes)) (λ i. omega (arith, write-lt xs i bytes)) in
+      sym (asks s ∙ opening-accepts k (catalogIn xs) (capacity-ok k room) good)
 
 -- an opening that was not refused has passed them all
 pub record Right (size k : ℕ) (xs : List ℕ) : Type 0 where

@@ -17,8 +17,8 @@ use Rattle.landlord.proofs.Calls.{log-allowed, joins-either, logged-allowed, sa
 use Rattle.landlord.proofs.Competitive.{competitive-bound}
 use Rattle.landlord.proofs.Ranges.{opening-taken}
 use Rattle.catalog_bytes.specs.Catalogs.{catalogIn}
-use Rattle.cache.specs.Contract.{Kind, lent, OpenedLent}
-use Rattle.cache.specs.Chain.{Follows, none, then, BeginsAt, TableAnswers, Closing, Bounded, Season, Prefix, ChainLent, SeasonLent}
+use Rattle.cache.specs.Contract.{Kind, lent, OpenedLent, Follows, none, then, TableAnswers, Closing, Bounded, Season, Prefix, ChainLent, SeasonLent}
+use Rattle.cache.specs.Inner.{BeginsAt}
 use Rattle.cache.proofs.Openings.{right}
 
 module _ {C : Type 0} (kind : Kind C) (k : ℕ) (cat : Catalog) (good : CatalogOk cat) where

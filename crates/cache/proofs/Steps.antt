@@ -18,9 +18,8 @@ use Rattle.landlord.specs.Calls.{stepOf, inRange, refusalAt}
 use Rattle.landlord.proofs.Slots.{write-first-ok}
 use Rattle.landlord.proofs.Keeps.{make-room}
 use Rattle.landlord.proofs.Valid.{CanServe, room-ready, moved-joined}
-use Rattle.cache_state.specs.Cache.{Cache}
-use Rattle.cache_state.specs.View.{catalogOf, stateOf, view}
-use Rattle.cache_state.specs.Valid.{Valid}
+use Rattle.cache_state.specs.Cache.{Cache, catalogOf, view, Valid}
+use Rattle.cache_state.specs.InnerView.{stateOf}
 use Rattle.cache_state.proofs.Views.{size-is, blocks-is}
 use Rattle.layout.specs.Layout.{cacheOf}
 use Rattle.layout.specs.Inner.{BecomesAt}

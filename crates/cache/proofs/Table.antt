@@ -10,8 +10,7 @@ use borrow.Author.Tests.{ne-eqb, le-leb, lt-leb, lt-ltb, le-ltb}
 use Rattle.landlord.specs.declared.Step.the-variants.{Read, Write, Flush}
 use Rattle.landlord.specs.Catalog.{Catalog, itemAt}
 use Rattle.landlord.specs.Calls.{stepCall, stepOf, inRange, itemRefusal, refusalAt, refusalNow}
-use Rattle.cache_state.specs.Cache.{Cache}
-use Rattle.cache_state.specs.View.{catalogOf, view}
+use Rattle.cache_state.specs.Cache.{Cache, catalogOf, view}
 use Rattle.cache_state.proofs.Views.{size-is, blocks-is}
 
 -- a step in range that is no flush asks for its item

@@ -6,10 +6,9 @@ use Prim.Native.Nat.{ℕ}
 use Rattle.fields.specs.Inner.{Below}
 use Rattle.landlord.specs.Figures.{Standing}
 use Rattle.landlord.specs.Calls.{Call}
-use Rattle.cache_state.specs.View.{view}
-use Rattle.layout.specs.Layout.{cacheOf}
+use Rattle.cache_state.specs.Cache.{view}
+use Rattle.layout.specs.Layout.{cacheOf, ValidBytes}
 use Rattle.layout.specs.Inner.{BecomesAt}
-use Rattle.layout.specs.Valid.{ValidBytes}
 use Rattle.layout.proofs.Places.{valid-reads, becomes-one}
 use Rattle.cache.specs.Contract.{lent, Answers}
 

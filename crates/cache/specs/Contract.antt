@@ -1,20 +1,12 @@
--- What the calls promise. One record says it for every kind of state, in lent bytes or by value; the contracts of the functions and
--- the season theorem both cite it. Assumes nothing.
-use mathlib.Core.Path.{_≡_}
-use mathlib.Core.Logic.{_≢_}
-use mathlib.Core.Bool.{Bool, cond, _&&_}
-use mathlib.Core.List.{List}
-use Prim.Native.Nat.{ℕ, _%_, _<_}
-use lib.Dec.{eqb, leb}
-use lib.ListN.{length}
-use Rattle.landlord.specs.Slot.{writeFirst}
-use Rattle.landlord.specs.Figures.{Standing, opened}
-use Rattle.landlord.specs.Calls.{Call, openingRefusal, refusalNow, after}
+-- The calls in place: what each promises, the season theorem's hypothesis and conclusions, and a list of calls run by one function.
+-- One record, `Called`, is what a call promises of any kind of state; the contracts and the season theorem both cite it. Assumes nothing.
+use mathlib.Core.{Path._≡_, Logic._≢_, Bool.{cond, _&&_}, List.{List, [], _∷_}}
+use Prim.Native.Nat.{ℕ, _%_, _<_, _+_, _*_, _/_}
+use lib.{Dec.{eqb, leb}, ListN.{length, getD, take, drop}, Seq.sets}
+use Rattle.landlord.specs.{Slot.writeFirst, Figures.{Standing, opened, season, totalCost}, Calls.{Call, openingRefusal, refusalNow, after, close, logOf, refusal, ruleOver, stepCall}, Catalog.Catalog, Claims.WithinBound, Fold.tab}
 use Rattle.catalog_bytes.specs.Catalogs.{catalogIn}
-use Rattle.cache_state.specs.View.{view}
-use Rattle.cache_state.specs.Valid.{EmptyPlace}
-use Rattle.layout.specs.Layout.{stateBytes, cacheOf}
-use Rattle.layout.specs.Valid.{ValidBytes}
+use Rattle.cache_state.specs.Cache.{view, EmptyPlace}
+use Rattle.layout.specs.Layout.{stateBytes, cacheOf, ValidBytes, numberAt}
 
 -- a kind of state: where the rule stands in one, and which are valid
 pub record Kind (C : Type 0) : Type 1 where
@@ -38,14 +30,11 @@ pub record Called {C : Type 0} (kind : Kind C) (c : C) (call : Call) (number : �
   pub fine : kind .Valid c → Answers kind c call number d
   pub invalid : (kind .Valid c → ⊥) → (number ≡ 17) × (d ≡ c)
 
--- "a length that is no multiple of 5, or above 1,280, is 3"
-abbrev pub sized : List ℕ → Bool
-sized xs = eqb (length xs % 5) 0 && leb (length xs) 1280
-
--- The opening in lent bytes checks the state's length (17), then k and the catalog (3). It looks at how many bytes there are, and at
--- none of them.
+-- The opening in lent bytes checks the state's length (17), then k and the catalog (3), whose length is a multiple of 5 and at most
+-- 1,280. It looks at how many bytes the state has, and at none of them.
 unfoldable pub openingNumber : ℕ → ℕ → List ℕ → ℕ
-openingNumber size k xs = cond (eqb size stateBytes) (cond (sized xs) (openingRefusal k (catalogIn xs)) 3) 17
+openingNumber size k xs =
+    cond (eqb size stateBytes) (cond (eqb (length xs % 5) 0 && leb (length xs) 1280) (openingRefusal k (catalogIn xs)) 3) 17
 
 pub record OpenedLent (b : List ℕ) (k : ℕ) (xs : List ℕ) (number : ℕ) (left : List ℕ) : Type 0 where
   pub answer : number ≡ openingNumber (length b) k xs
@@ -54,3 +43,76 @@ pub record OpenedLent (b : List ℕ) (k : ℕ) (xs : List ℕ) (number : ℕ) (l
   -- "It has 256 places, one for each sail number, empty at opening"
   pub empty : number ≡ 0 → (i : ℕ) → i < 256 → EmptyPlace (cacheOf left) i
   pub refused : number ≢ 0 → left ≡ b
+
+-- ---- the season as one list: each call is handed the state that the last one handed back or left in the lent bytes
+
+-- from c, by these calls with these numbers as answers, to d
+pub data Follows {C : Type 0} (kind : Kind C) : C → List Call → List ℕ → C → Type 0 where
+  none : {c : C} → Follows kind c [] [] c
+  then :
+      {c d e : C} {call : Call} {calls : List Call} {answer : ℕ} {numbers : List ℕ} →
+      Called kind c call answer d →
+      Follows kind d calls numbers e →
+      Follows kind c (call ∷ calls) (answer ∷ numbers) e
+
+-- the answer to call i is the number that the table gives it, from the opening's arguments and the calls before it: never 17
+pub record TableAnswers (k : ℕ) (cat : Catalog) (calls : List Call) (numbers : List ℕ) : Type 0 where
+  pub count : length numbers ≡ length calls
+  pub each : (i : ℕ) → i < length calls → getD numbers i 0 ≡ refusal k cat (take i calls) (getD calls i close)
+
+-- some closing of the list was answered 0
+pub record Closing (calls : List Call) (numbers : List ℕ) : Type 0 where
+  pub place : ℕ
+  pub within : place < length calls
+  pub isClose : getD calls place close ≡ close
+  pub answered : getD numbers place 0 ≡ 0
+
+-- The cost of a closed season: exactly the rule's total over the log and its closing, and within the bound: for every h from 1 to k
+-- and every plan of h blocks that is legal over the same steps at cost c, total × (k - h + 1) ≤ k × c.
+pub record Bounded (k : ℕ) (cat : Catalog) (calls : List Call) (total : ℕ) : Type 0 where
+  pub exact : total ≡ totalCost (season writeFirst k cat (logOf k cat calls .steps) .figures)
+  pub bound : WithinBound k cat (logOf k cat calls .steps) total
+
+-- the three conclusions, after the whole list, refused calls after the closing included
+pub record Season {C : Type 0} (kind : Kind C) (k : ℕ) (cat : Catalog) (calls : List Call) (numbers : List ℕ) (d : C) : Type 0 where
+  pub answers : TableAnswers k cat calls numbers
+  pub valid : kind .Valid d
+  pub stands : kind .view d ≡ ruleOver writeFirst k cat (logOf k cat calls)
+  pub cost : Closing calls numbers → Bounded k cat calls (totalCost (kind .view d .figures))
+
+-- The state after the first i calls of a list: it is on the way, valid, and stands where the rule stands over the log of those calls.
+pub record Prefix {C : Type 0} (kind : Kind C) (k : ℕ) (cat : Catalog) (first : C) (calls : List Call) (numbers : List ℕ) (d : C) (i : ℕ) : Type 0 where
+  pub state : C
+  pub reached : Follows kind first (take i calls) (take i numbers) state
+  pub rest : Follows kind state (drop i calls) (drop i numbers) d
+  pub valid : kind .Valid state
+  pub stands : kind .view state ≡ ruleOver writeFirst k cat (logOf k cat (take i calls))
+
+-- the list starts from an opening that was not refused; nothing else writes the bytes meanwhile
+pub record ChainLent (k : ℕ) (xs : List ℕ) (calls : List Call) (numbers d : List ℕ) : Type 0 where
+  pub before : List ℕ
+  pub first : List ℕ
+  pub opening : OpenedLent before k xs 0 first
+  pub follows : Follows lent first calls numbers d
+
+-- the three conclusions; the total is that of the two numbers at the layout's places of load cost and write cost
+pub record SeasonLent (k : ℕ) (cat : Catalog) (calls : List Call) (numbers d : List ℕ) : Type 0 where
+  pub season : Season lent k cat calls numbers d
+  pub cost : Closing calls numbers → Bounded k cat calls (numberAt d 40 8 + numberAt d 48 8)
+
+-- ---- a list of calls as one slice of numbers, and what running it gives
+
+-- The calls that numbers stand for, four to a call: 0 and then a step's kind, item and minutes; or another number, and it is the
+-- closing. A remainder is no call.
+unfoldable pub callsOf : List ℕ → List Call
+callsOf xs =
+    tab (length xs / 4) λ i.
+    cond (eqb (getD xs (4 * i) 0) 0) (stepCall (getD xs (4 * i + 1) 0) (getD xs (4 * i + 2) 0) (getD xs (4 * i + 3) 0)) close
+
+-- The season theorem of the arguments alone: a refused opening leaves every byte and every answer as it was; else the three
+-- conclusions hold of the answers noted and of the bytes left.
+pub record RanLent (b : List ℕ) (k : ℕ) (xs : List ℕ) (calls : List Call) (before after : List ℕ) (number : ℕ) (left : List ℕ) : Type 0 where
+  pub answer : number ≡ openingNumber (length b) k xs
+  pub refused : number ≢ 0 → (left ≡ b) × (after ≡ before)
+  pub numbers : List ℕ
+  pub season : number ≡ 0 → SeasonLent k (catalogIn xs) calls numbers left × (after ≡ sets before 0 numbers)

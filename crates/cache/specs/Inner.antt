@@ -1,23 +1,17 @@
--- What the functions of an opening in lent bytes give. Assumes nothing.
-use mathlib.Core.Path.{_≡_}
-use mathlib.Core.Bool.{Bool, true}
-use mathlib.Core.List.{List}
-use Prim.Native.Nat.{ℕ, _/_, _≤_, _<_}
-use lib.ListN.{length, getD}
+-- What the functions of an opening in lent bytes give, and what is said of calls made one after another. Assumes nothing.
+use Prim.Native.Nat.{_+_, _*_, _%_, ℕ, _/_, _≤_, _<_}
+use Rattle.landlord.specs.{Catalog.{Catalog, blocksInRange}, Figures.opened, Calls.{openingRefusal, Call, close, stepCall, refusalNow}}
+use mathlib.Core.{Bool.{_&&_, cond, Bool, true}, Path._≡_, List.List}
+use lib.{Dec.{leb, eqb}, Seq.sets, ListN.{length, getD}}
+use Rattle.cache.specs.Contract.{Kind, Follows}
 use Rattle.catalog_bytes.specs.Catalogs.{itemIn}
-use Rattle.cache_state.specs.Cache.{Cache}
-use Rattle.cache_state.specs.InnerWith.{withCatalog, withClosed}
+use Rattle.cache_state.specs.{Cache.{Cache, view}, InnerWith.{withCatalog, withClosed}}
 use Rattle.cache_room.specs.InnerStores.{storeTo}
-use Rattle.layout.specs.Inner.{Readable, cleared}
-use Rattle.landlord.specs.Calls.{stepCall, refusalNow}
-use Rattle.landlord.specs.Catalog.{blocksInRange}
-use Rattle.cache_state.specs.View.{view}
-use Rattle.layout.specs.Layout.{cacheOf}
-use Rattle.layout.specs.Valid.{ValidBytes}
+use Rattle.layout.specs.{Inner.{Readable, cleared}, Layout.{cacheOf, ValidBytes}}
 
 -- the blocks of the first n items are in range; costs are by their width
-pub record BlocksIn (n : ℕ) (xs : List ℕ) : Type 0 where
-  pub each : (i : ℕ) → i < n → blocksInRange (itemIn xs i .blocks) ≡ true
+pub record BlocksOk (n : ℕ) (blocks : ℕ → ℕ) : Type 0 where
+  pub each : (i : ℕ) → i < n → blocksInRange (blocks i) ≡ true
 
 -- a catalog of n items that have places in the state
 pub record WholeCatalog (n : ℕ) (xs : List ℕ) : Type 0 where
@@ -50,3 +44,27 @@ pub record Enterable (b : List ℕ) (n : ℕ) (xs : List ℕ) : Type 0 where
 pub record TablePasses (b : List ℕ) (kind item minutes : ℕ) : Type 0 where
   pub valid : ValidBytes b
   pub free : refusalNow (view (cacheOf b)) (stepCall kind item minutes) ≡ 0
+
+-- a call from four numbers
+abbrev pub callFrom : ℕ → ℕ → ℕ → ℕ → Call
+callFrom which kind item minutes = cond (eqb which 0) (stepCall kind item minutes) close
+
+-- call i of a list of numbers
+abbrev pub callAt : List ℕ → ℕ → Call
+callAt xs i = callFrom (getD xs (4 * i) 0) (getD xs (4 * i + 1) 0) (getD xs (4 * i + 2) 0) (getD xs (4 * i + 3) 0)
+
+-- the calls were made, each on the state that the last one left, and their answers noted as far as there was place
+pub record RanCalls {C : Type 0} (kind : Kind C) (c : C) (calls : List Call) (before after : List ℕ) (d : C) : Type 0 where
+  pub numbers : List ℕ
+  pub follows : Follows kind c calls numbers d
+  pub noted : after ≡ sets before 0 numbers
+
+-- a catalog's bytes have a length that an opening takes
+abbrev pub sized : List ℕ → Bool
+sized xs = eqb (length xs % 5) 0 && leb (length xs) 1280
+
+-- what an opening that was not refused gives
+pub record BeginsAt {C : Type 0} (kind : Kind C) (k : ℕ) (cat : Catalog) (first : C) : Type 0 where
+  pub accepted : openingRefusal k cat ≡ 0
+  pub valid : kind .Valid first
+  pub stands : kind .view first ≡ opened k cat

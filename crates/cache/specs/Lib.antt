@@ -1,4 +1,2 @@
 pub mod Contract
-pub mod Chain
-pub mod Run
 pub mod Inner

@@ -5,14 +5,13 @@ ghost use lib.ListN.{set};
 ghost use Rattle.landlord.specs.Slot.{writeFirst};
 ghost use Rattle.landlord.specs.Figures.{took};
 ghost use Rattle.landlord.specs.Calls.{refusalNow, stepOf, stepCall, close};
-ghost use Rattle.validity.specs.Decided.{Decided};
-ghost use Rattle.cache_state.specs.View.{view};
-ghost use Rattle.layout.specs.Layout.{cacheOf};
+ghost use Rattle.validity.specs.InnerDecided.{Decided};
+ghost use Rattle.catalog_bytes.specs.Catalogs.{itemIn};
+ghost use Rattle.cache_state.specs.Cache.{view};
+ghost use Rattle.layout.specs.Layout.{cacheOf, ValidBytes};
 ghost use Rattle.layout.specs.Inner.{Stands, BecomesAt};
-ghost use Rattle.layout.specs.Valid.{ValidBytes};
-ghost use Rattle.cache.specs.Contract.{lent, Answers, Called, openingNumber, OpenedLent};
-ghost use Rattle.cache.specs.Inner.{BlocksIn, WholeCatalog, Enterable, enteredOf, TablePasses};
-ghost use Rattle.cache.specs.Run.{callFrom, callsOf, RanCalls, RanLent};
+ghost use Rattle.cache.specs.Contract.{lent, Answers, Called, openingNumber, OpenedLent, callsOf, RanLent};
+ghost use Rattle.cache.specs.Inner.{callFrom, RanCalls, BlocksOk, WholeCatalog, Enterable, enteredOf, TablePasses};
 
 // ---- a step
 
@@ -116,7 +115,7 @@ pub fn close(b: &mut [u8]) -> u32
 // Whether each of the first `n` items of a catalog has 1 to 16 blocks.
 fn blocks_ok(catalog: &[u8], n: usize) -> bool
     requires { ⌜ WholeCatalog n (now catalog) ⌝ }
-    ensures { λ r. ⌜ Decided (BlocksIn n (now (catalog .entry))) r ⌝ }
+    ensures { λ r. ⌜ Decided (BlocksOk n (λ i. itemIn (now (catalog .entry)) i .blocks)) r ⌝ }
 {
     let mut i = 0;
     while i < n {

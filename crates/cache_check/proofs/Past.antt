@@ -11,11 +11,12 @@ use borrow.Author.Tests.{leb-true, le-leb}
 use Rattle.marks.specs.Marks.{marked}
 use Rattle.marks.specs.Inner.{marks, firstSet}
 use Rattle.marks.proofs.Laws.{NextMark, next-is}
-use Rattle.cache_state.specs.Valid.{Blank}
+use Rattle.cache_state.specs.Cache.{Blank}
 use Rattle.cache_state.specs.InnerParts.{PastOk}
-use Rattle.validity.specs.Decided.{Decided}
+use Rattle.validity.specs.InnerDecided.{Decided}
 use Rattle.validity.proofs.Decides.{clash}
-use Rattle.layout.specs.Layout.{cacheOf, atLoadCredits, atWriteCredits, atTenths, atItemLoads, atItemWritebacks, atItemLoadCosts, atItemWriteCosts, atBlocks, atHeld}
+use Rattle.layout.specs.Layout.{cacheOf}
+use Rattle.layout.specs.InnerRows.{atLoadCredits, atWriteCredits, atTenths, atItemLoads, atItemWritebacks, atItemLoadCosts, atItemWriteCosts, atBlocks, atHeld}
 use Rattle.cache_check.specs.Inner.{BlankRun, BlankFlags}
 
 -- what the nine tests of runs find; the tenth is of the dirty marks

@@ -7,13 +7,12 @@ ghost use Prim.Native.Nat.{_≤_, _<_};
 ghost use lib.ListN.{length, getD};
 ghost use Rattle.landlord.specs.Fold.{sumTo};
 ghost use Rattle.landlord.specs.Rule.{used, heldCount};
-ghost use Rattle.validity.specs.Decided.{Decided};
+ghost use Rattle.validity.specs.InnerDecided.{Decided};
 ghost use Rattle.validity.specs.Inner.{CountsOk};
-ghost use Rattle.cache_state.specs.View.{stateOf, countsOf};
-ghost use Rattle.cache_state.specs.Valid.{Valid};
+ghost use Rattle.cache_state.specs.Cache.{Valid};
+ghost use Rattle.cache_state.specs.InnerView.{stateOf, countsOf};
 ghost use Rattle.cache_state.specs.InnerParts.{PastOk, EntriesOk, SumsOf};
-ghost use Rattle.layout.specs.Layout.{stateBytes, cacheOf};
-ghost use Rattle.layout.specs.Valid.{ValidBytes};
+ghost use Rattle.layout.specs.Layout.{stateBytes, cacheOf, ValidBytes};
 ghost use Rattle.cache_check.specs.Inner.{Zeros, BlankRun, BlankFlags, RunAt, CountedItems};
 
 // Whether every byte from one place to another is 0. One test at the end, so that the loop goes by vectors.

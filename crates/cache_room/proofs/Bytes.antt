@@ -10,9 +10,8 @@ use Rattle.landlord.specs.Slot.{writeFirst}
 use Rattle.landlord.specs.Rule.{victim, evict}
 use Rattle.landlord.specs.Figures.{moved}
 use Rattle.marks.specs.Inner.{marks}
-use Rattle.cache_state.specs.Cache.{Cache}
-use Rattle.cache_state.specs.View.{dirtyAt, stateOf, view}
-use Rattle.cache_state.specs.Valid.{Normal}
+use Rattle.cache_state.specs.Cache.{Cache, dirtyAt, view, Normal}
+use Rattle.cache_state.specs.InnerView.{stateOf}
 use Rattle.cache_state.specs.InnerWith.{withHeld, withLoadCredit, withWriteCredit, withDirty, withEvictions, withDirtyEvictions, withWritebacks, withWriteCost, withItemWritebacks}
 use Rattle.layout.specs.Layout.{cacheOf}
 use Rattle.layout.specs.Inner.{Stands, Readable, ValidAt, BecomesAt}

@@ -14,9 +14,8 @@ use Rattle.landlord.proofs.Folds.{tab-eq}
 use Rattle.landlord.proofs.Keeps.{victim-least}
 use Rattle.landlord.proofs.Valid.{line-writebacks}
 use Rattle.marks.specs.Inner.{marks}
-use Rattle.cache_state.specs.Cache.{Cache}
-use Rattle.cache_state.specs.View.{dirtyAt, slotOf, catalogOf, slotsOf, usesOf, stateOf, figuresOf, view}
-use Rattle.cache_state.specs.Valid.{Normal, Valid}
+use Rattle.cache_state.specs.Cache.{Cache, dirtyAt, slotOf, catalogOf, slotsOf, usesOf, view, Normal, Valid}
+use Rattle.cache_state.specs.InnerView.{stateOf, figuresOf}
 use Rattle.cache_state.specs.InnerBecomes.{Becomes}
 use Rattle.cache_state.proofs.Views.{size-is, slot-is, blocks-is, use-is}
 use Rattle.cache_room.specs.Inner.{chargedOf, droppedOf, Dropped, countedOf, Countable}

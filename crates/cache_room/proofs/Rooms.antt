@@ -14,9 +14,8 @@ use Rattle.landlord.specs.Valid.{StandingOk}
 use Rattle.landlord.proofs.Slots.{write-first-ok}
 use Rattle.landlord.proofs.Keeps.{victim-least, evict-used, evict-count, evict-catalog}
 use Rattle.landlord.proofs.Valid.{ok-evict, moved-joined}
-use Rattle.cache_state.specs.Cache.{Cache}
-use Rattle.cache_state.specs.View.{stateOf, view}
-use Rattle.cache_state.specs.Valid.{Normal, Valid}
+use Rattle.cache_state.specs.Cache.{Cache, view, Normal, Valid}
+use Rattle.cache_state.specs.InnerView.{stateOf}
 use Rattle.cache_state.specs.InnerBecomes.{Becomes}
 use Rattle.cache_state.proofs.Views.{size-is, blocks-is, held-is}
 

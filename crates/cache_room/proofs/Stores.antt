@@ -20,9 +20,8 @@ use Rattle.landlord.proofs.Folds.{tab-eq}
 use Rattle.marks.specs.Marks.{marked}
 use Rattle.marks.specs.Inner.{marks}
 use Rattle.marks.proofs.Laws.{marked-set-same, marked-set-other}
-use Rattle.cache_state.specs.Cache.{Cache}
-use Rattle.cache_state.specs.View.{dirtyAt, slotFrom, slotOf, usageOf, catalogOf, slotsOf, usesOf, stateOf, countsOf, figuresOf, view}
-use Rattle.cache_state.specs.Valid.{Blank, Emptied, EmptyPlace, Normal}
+use Rattle.cache_state.specs.Cache.{Cache, dirtyAt, slotOf, catalogOf, slotsOf, usesOf, view, Blank, Emptied, EmptyPlace, Normal}
+use Rattle.cache_state.specs.InnerView.{usageOf, slotFrom, stateOf, countsOf, figuresOf}
 use Rattle.cache_state.proofs.Views.{size-is, item-is, use-is}
 use Rattle.cache_state.proofs.Normals.{figures-normal}
 use Rattle.cache_room.specs.Inner.{loadLeft, writeLeft, chargedOf, droppedOf, countedOf, mostCredit, withSlots}

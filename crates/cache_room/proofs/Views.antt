@@ -15,9 +15,8 @@ use Rattle.landlord.specs.Slot.{Slot, held, isDirty, loadCredit, writeCredit}
 use Rattle.landlord.specs.Rule.{size, slotAt, blocksAt, rank, goesBefore, victim}
 use Rattle.landlord.specs.Claims.{SlotKept}
 use Rattle.landlord.specs.Inner.{ItemFacts}
-use Rattle.cache_state.specs.Cache.{Cache}
-use Rattle.cache_state.specs.View.{dirtyAt, stateOf}
-use Rattle.cache_state.specs.Valid.{Normal, Valid}
+use Rattle.cache_state.specs.Cache.{Cache, dirtyAt, Normal, Valid}
+use Rattle.cache_state.specs.InnerView.{stateOf}
 use Rattle.cache_state.proofs.Views.{size-is, slot-is, slot-past, blocks-is, held-is, from-dirty, from-load, from-write}
 use Rattle.cache_room.specs.Inner.{mostCredit, Ranked}
 use Rattle.cache_room.proofs.Laws.{best-start, best-more}

@@ -1,21 +1,13 @@
 -- What the functions of this crate ask for, and the caches that they hand back, field by field. Assumes nothing.
-use mathlib.Core.Path.{_≡_}
-use mathlib.Core.Bool.{Bool, true, false}
-use mathlib.Core.List.{List}
+use mathlib.Core.{Path._≡_, Bool.{Bool, true, false}, List.List}
 use Prim.Native.Nat.{ℕ, _+_, _*_, _-_, _≤_, _<_}
 use lib.ListN.{getD, set}
-use Rattle.landlord.specs.Catalog.{full}
-use Rattle.landlord.specs.Rule.{used}
-use Rattle.landlord.specs.Figures.{totalsOf}
+use Rattle.landlord.specs.{Catalog.full, Rule.used, Figures.totalsOf}
 use Rattle.marks.specs.Inner.{marks}
-use Rattle.cache_state.specs.Cache.{Cache}
-use Rattle.cache_state.specs.View.{stateOf}
-use Rattle.cache_state.specs.Valid.{Normal}
-pub use Rattle.cache_state.specs.InnerWith.{withSlots, withFigures}
-use Rattle.layout.specs.Layout.{cacheOf}
-use Rattle.layout.specs.Inner.{Readable, ValidAt}
-use Rattle.layout.specs.Valid.{ValidBytes}
+use Rattle.cache_state.specs.{Cache.{Cache, Normal}, InnerView.stateOf}
+use Rattle.layout.specs.{Layout.{cacheOf, ValidBytes}, Inner.{Readable, ValidAt}}
 use Rattle.cache_room.specs.InnerStores.{storeTo}
+pub use Rattle.cache_state.specs.InnerWith.{withSlots, withFigures}
 
 -- no credit is greater than this
 abbrev pub mostCredit : ℕ

@@ -8,9 +8,8 @@ use Rattle.landlord.specs.Fold.{sumTo}
 use Rattle.landlord.specs.Figures.{Use, useAt}
 use Rattle.landlord.specs.Rule.{size}
 use Rattle.landlord.specs.Inner.{ItemFacts}
-use Rattle.cache_state.specs.Cache.{Cache}
-use Rattle.cache_state.specs.View.{itemOf, catalogOf, stateOf, figuresOf}
-use Rattle.cache_state.specs.Valid.{Valid}
+use Rattle.cache_state.specs.Cache.{Cache, catalogOf, Valid}
+use Rattle.cache_state.specs.InnerView.{itemOf, stateOf, figuresOf}
 use Rattle.cache_state.proofs.Views.{size-is, item-is, use-is}
 use Rattle.landlord.proofs.Ranges.{catalog-facts}
 

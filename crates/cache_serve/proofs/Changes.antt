@@ -15,9 +15,8 @@ use Rattle.landlord.specs.Fold.{tab, fold}
 use Rattle.landlord.specs.Rule.{Event, size, putSlot}
 use Rattle.landlord.specs.Figures.{Use, useOf, usage, isAbout, plusTotals, plusUse, noUse, adds, tally, moved}
 use Rattle.landlord.proofs.Folds.{tab-set, tab-eq}
-use Rattle.cache_state.specs.Cache.{Cache}
-use Rattle.cache_state.specs.View.{dirtyAt, slotFrom, slotOf, usageOf, catalogOf, slotsOf, usesOf, stateOf, countsOf, figuresOf, view}
-use Rattle.cache_state.specs.Valid.{Blank, Emptied, Normal}
+use Rattle.cache_state.specs.Cache.{Cache, dirtyAt, slotOf, catalogOf, slotsOf, usesOf, view, Blank, Emptied, Normal}
+use Rattle.cache_state.specs.InnerView.{usageOf, slotFrom, stateOf, countsOf, figuresOf}
 use Rattle.cache_state.proofs.Views.{size-is, use-is}
 
 -- nothing of item j has changed

@@ -9,8 +9,7 @@ use Rattle.landlord.specs.Catalog.{full}
 use Rattle.landlord.specs.Figures.{tenthsOf}
 use Rattle.marks.specs.Inner.{marks}
 use Rattle.cache_state.specs.Cache.{Cache}
-use Rattle.cache_state.specs.InnerWith.{withSteps, withHits, withLoads, withWritebacks, withFlushes, withLoadCost, withWriteCost}
-use Rattle.cache_state.specs.InnerWith.{withHeld, withDirty, withLoadCredit, withWriteCredit, withTenths, withItemLoads, withItemWritebacks}
+use Rattle.cache_state.specs.InnerWith.{withSteps, withHits, withLoads, withWritebacks, withFlushes, withLoadCost, withWriteCost, withHeld, withDirty, withLoadCredit, withWriteCredit, withTenths, withItemLoads, withItemWritebacks}
 use Rattle.layout.specs.Layout.{cacheOf}
 use Rattle.layout.specs.Inner.{Stands}
 use Rattle.layout.proofs.Places.{readable, stands-as}

@@ -12,13 +12,11 @@ use Rattle.landlord.specs.Slot.{writeFirst}
 use Rattle.landlord.specs.Rule.{State, Moved, serveRead, serveWrite, flush, step}
 use Rattle.landlord.specs.Figures.{Standing, moved}
 use Rattle.marks.specs.Inner.{marks, firstSet}
-use Rattle.cache_state.specs.Cache.{Cache}
-use Rattle.cache_state.specs.View.{stateOf, view}
-use Rattle.cache_state.specs.Valid.{Valid}
+use Rattle.cache_state.specs.Cache.{Cache, view, Valid}
+use Rattle.cache_state.specs.InnerView.{stateOf}
 use Rattle.cache_state.specs.InnerBecomes.{Becomes}
-use Rattle.layout.specs.Layout.{cacheOf}
+use Rattle.layout.specs.Layout.{cacheOf, ValidBytes}
 use Rattle.layout.specs.Inner.{Stands, Readable, BecomesAt}
-use Rattle.layout.specs.Valid.{ValidBytes}
 use Rattle.layout.proofs.Rounds.{whole}
 use Rattle.layout.proofs.Places.{readable, valid-reads}
 use Rattle.cache_serve.specs.InnerStores.{hitOf, loadedOf, refilledOf, flushedOf, WroteAt, WroteBackAt}

@@ -18,9 +18,8 @@ use Rattle.landlord.proofs.Slots.{read-held}
 use Rattle.landlord.proofs.Keeps.{put-same}
 use Rattle.marks.specs.Inner.{marks}
 use Rattle.marks.proofs.Laws.{marked-set-same, marked-set-other}
-use Rattle.cache_state.specs.Cache.{Cache}
-use Rattle.cache_state.specs.View.{dirtyAt, slotFrom, slotOf, usageOf, catalogOf, stateOf, countsOf, figuresOf, view}
-use Rattle.cache_state.specs.Valid.{Normal}
+use Rattle.cache_state.specs.Cache.{Cache, dirtyAt, slotOf, catalogOf, view, Normal}
+use Rattle.cache_state.specs.InnerView.{usageOf, slotFrom, stateOf, countsOf, figuresOf}
 use Rattle.cache_state.specs.InnerBecomes.{Becomes}
 use Rattle.cache_state.proofs.Views.{size-is, slots-length, item-is, slot-is, use-is, held-is}
 use Rattle.layout.specs.InnerRows.{WholeArrays}

@@ -16,9 +16,8 @@ use Rattle.landlord.specs.Figures.{Standing, plusTotals, adds, moved}
 use Rattle.landlord.specs.Valid.{StandingOk}
 use Rattle.marks.specs.Inner.{marks, firstSet}
 use Rattle.marks.proofs.Laws.{marked-set-same, marked-set-other, NextMark, next-is}
-use Rattle.cache_state.specs.Cache.{Cache}
-use Rattle.cache_state.specs.View.{dirtyAt, slotFrom, slotOf, usageOf, catalogOf, slotsOf, usesOf, stateOf, countsOf, view}
-use Rattle.cache_state.specs.Valid.{Normal, Valid}
+use Rattle.cache_state.specs.Cache.{Cache, dirtyAt, slotOf, catalogOf, slotsOf, usesOf, view, Normal, Valid}
+use Rattle.cache_state.specs.InnerView.{usageOf, slotFrom, stateOf, countsOf}
 use Rattle.cache_state.specs.InnerBecomes.{Becomes}
 use Rattle.cache_state.proofs.Views.{size-is, slots-length, item-is, slot-is, from-dirty}
 use Rattle.cache_state.proofs.Normals.{figures-normal}

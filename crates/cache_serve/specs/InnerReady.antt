@@ -2,11 +2,8 @@
 use mathlib.Core.List.{List}
 use Prim.Native.Nat.{ℕ, _*_, _<_, _≤_}
 use lib.ListN.{getD}
-use Rattle.cache_state.specs.Cache.{Cache}
-use Rattle.cache_state.specs.Valid.{Valid}
-use Rattle.layout.specs.Layout.{cacheOf}
-use Rattle.layout.specs.Inner.{Readable}
-use Rattle.layout.specs.Valid.{ValidBytes}
+use Rattle.cache_state.specs.Cache.{Cache, Valid}
+use Rattle.layout.specs.{Layout.{cacheOf, ValidBytes}, Inner.Readable}
 
 -- one step more can be counted: "at most 1,000,000"
 pub record Steppable (c : Cache) : Type 0 where

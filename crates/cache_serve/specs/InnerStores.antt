@@ -1,17 +1,12 @@
 -- What each small store leaves: the cache that it hands back, field by field. Assumes nothing.
-use mathlib.Core.Path.{_≡_}
-use mathlib.Core.Bool.{true, false}
-use mathlib.Core.List.{List}
+use mathlib.Core.{Path._≡_, Bool.{true, false}, List.List}
 use Prim.Native.Nat.{ℕ, _+_}
 use lib.ListN.{getD, set}
-use Rattle.landlord.specs.Catalog.{full}
-use Rattle.landlord.specs.Figures.{totalsOf, tenthsOf}
+use Rattle.landlord.specs.{Catalog.full, Figures.{totalsOf, tenthsOf}}
 use Rattle.marks.specs.Inner.{marks}
-use Rattle.cache_state.specs.Cache.{Cache}
-use Rattle.cache_state.specs.View.{countsOf}
+use Rattle.cache_state.specs.{Cache.Cache, InnerView.countsOf}
+use Rattle.layout.specs.{Layout.cacheOf, Inner.Readable}
 pub use Rattle.cache_state.specs.InnerWith.{withSlots, withFigures}
-use Rattle.layout.specs.Layout.{cacheOf}
-use Rattle.layout.specs.Inner.{Readable}
 
 -- a hit counted: one step, one hit
 abbrev pub hitOf : Cache → Cache

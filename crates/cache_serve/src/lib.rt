@@ -8,10 +8,10 @@ ghost use Rattle.landlord.specs.Catalog.{full};
 ghost use Rattle.landlord.specs.Slot.{writeFirst};
 ghost use Rattle.landlord.specs.Rule.{serveRead, serveWrite, flush, step};
 ghost use Rattle.landlord.specs.Figures.{tenthsOf, moved};
-ghost use Rattle.cache_state.specs.View.{stateOf, view};
-ghost use Rattle.layout.specs.Layout.{cacheOf};
+ghost use Rattle.cache_state.specs.Cache.{view};
+ghost use Rattle.cache_state.specs.InnerView.{stateOf};
+ghost use Rattle.layout.specs.Layout.{cacheOf, ValidBytes};
 ghost use Rattle.layout.specs.Inner.{Stands, Readable, BecomesAt};
-ghost use Rattle.layout.specs.Valid.{ValidBytes};
 ghost use Rattle.cache_serve.specs.InnerStores.{hitOf, loadedOf, refilledOf, flushedOf, WroteAt, WroteBackAt};
 ghost use Rattle.cache_serve.specs.InnerReady.{SteppableAt, ServableAt, WritableAt, FlushableAt};
 

@@ -19,12 +19,11 @@ use Rattle.landlord.proofs.Sums.{sum-eq}
 use Rattle.landlord.proofs.Ranges.{catalog-facts, catalog-ok, capacity-facts, capacity-ok}
 use Rattle.marks.specs.Marks.{marked}
 use Rattle.marks.specs.Inner.{marksFrom, marks, countSet}
-use Rattle.cache_state.specs.Cache.{Cache}
-use Rattle.cache_state.specs.View.{itemOf, dirtyAt, catalogOf, stateOf, countsOf, figuresOf, view}
-use Rattle.cache_state.specs.Valid.{Normal, Valid}
+use Rattle.cache_state.specs.Cache.{Cache, dirtyAt, catalogOf, view, Normal, Valid}
+use Rattle.cache_state.specs.InnerView.{itemOf, stateOf, countsOf, figuresOf}
 use Rattle.validity.specs.Inner.{CountsOk}
 use Rattle.cache_state.specs.InnerParts.{PastOk, EntryAt, EntriesOk, SumsOf}
-use Rattle.validity.specs.Decided.{Decided}
+use Rattle.validity.specs.InnerDecided.{Decided}
 use Rattle.validity.proofs.Decides.{no, sure, denied}
 use Rattle.cache_state.proofs.Views.{size-is, slots-length, uses-length, item-is, slot-is, use-is, from-dirty, from-load, from-write}
 

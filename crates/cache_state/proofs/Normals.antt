@@ -6,9 +6,8 @@ use mathlib.Core.List.{List}
 use Prim.Native.Nat.{ℕ, _≤_, _<_}
 use lib.ListN.{getD}
 use Rattle.landlord.specs.Figures.{Totals}
-use Rattle.cache_state.specs.Cache.{Cache}
+use Rattle.cache_state.specs.Cache.{Cache, Emptied, Blank, Normal}
 use Rattle.cache_state.specs.InnerWith.{withFigures, withClosed}
-use Rattle.cache_state.specs.Valid.{Emptied, Blank, Normal}
 
 module _ (c : Cache) (ws : List ℕ) (t : Totals) (isClosed : Bool) (ok : Normal c) (none : (i : ℕ) → c .n ≤ i → i < 256 → getD ws i 0 ≡ 0) where
   abbrev counted : Cache

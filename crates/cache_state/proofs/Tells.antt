@@ -14,9 +14,8 @@ use Rattle.landlord.specs.Rule.{size, slotAt}
 use Rattle.landlord.specs.Figures.{Standing, Use, useAt}
 use Rattle.marks.specs.Inner.{marks}
 use Rattle.marks.proofs.Laws.{length-marks, marked-at, marks-tell}
-use Rattle.cache_state.specs.Cache.{Cache}
-use Rattle.cache_state.specs.View.{itemOf, usageOf, stateOf, view}
-use Rattle.cache_state.specs.Valid.{Normal, Valid}
+use Rattle.cache_state.specs.Cache.{Cache, view, Normal, Valid}
+use Rattle.cache_state.specs.InnerView.{itemOf, usageOf, stateOf}
 use Rattle.cache_state.specs.InnerBecomes.{Becomes}
 use Rattle.cache_state.proofs.Views.{size-is, item-is, use-is, held-is}
 use Rattle.cache_state.proofs.Checks.{dirty-here, load-here, write-here}

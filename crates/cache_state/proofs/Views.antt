@@ -10,8 +10,8 @@ use Rattle.landlord.specs.Rule.{size, slotAt, blocksAt, used, heldCount}
 use Rattle.landlord.specs.Figures.{useAt, noUse}
 use Rattle.landlord.proofs.Folds.{tab-length, tab-at, tab-past}
 use Rattle.landlord.proofs.Sums.{sum-eq}
-use Rattle.cache_state.specs.Cache.{Cache}
-use Rattle.cache_state.specs.View.{itemOf, dirtyAt, slotFrom, slotOf, usageOf, catalogOf, slotsOf, usesOf, stateOf, figuresOf}
+use Rattle.cache_state.specs.Cache.{Cache, dirtyAt, slotOf, catalogOf, slotsOf, usesOf}
+use Rattle.cache_state.specs.InnerView.{itemOf, usageOf, slotFrom, stateOf, figuresOf}
 
 pub size-is : (c : Cache) → size (stateOf c) ≡ c .n
 unfolding catalogOf

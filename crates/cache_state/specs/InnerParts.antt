@@ -3,13 +3,10 @@
 use Prim.Native.Nat.{ℕ, _≤_, _<_}
 use mathlib.Core.Bool.{false}
 use lib.ListN.{getD}
-use Rattle.landlord.specs.Fold.{sumTo}
-use Rattle.landlord.specs.Rule.{used, heldCount}
+use Rattle.landlord.specs.{Fold.sumTo, Rule.{used, heldCount}}
 use Rattle.marks.specs.Inner.{marks, countSet}
 use Rattle.validity.specs.Inner.{EntryOk, SumsOk}
-use Rattle.cache_state.specs.Cache.{Cache}
-use Rattle.cache_state.specs.Valid.{Blank}
-use Rattle.cache_state.specs.View.{dirtyAt, stateOf}
+use Rattle.cache_state.specs.{Cache.{Cache, Blank, dirtyAt}, InnerView.stateOf}
 
 -- every place past the catalog is blank
 pub record PastOk (c : Cache) : Type 0 where

@@ -1,12 +1,10 @@
 -- A cache with some of its fields replaced, from which the functions above it say what they store. First the four groups of fields,
 -- then each field by itself. Assumes nothing.
-use mathlib.Core.Bool.{Bool}
-use mathlib.Core.List.{List}
+use mathlib.Core.{Bool.Bool, List.List}
 use Prim.Native.Nat.{ℕ}
 use lib.ListN.{set}
 use Rattle.landlord.specs.Figures.{Totals, totalsOf}
-use Rattle.cache_state.specs.Cache.{Cache}
-use Rattle.cache_state.specs.View.{countsOf}
+use Rattle.cache_state.specs.{Cache.Cache, InnerView.countsOf}
 
 -- a cache with another capacity and catalog
 abbrev pub withCatalog : Cache → ℕ → ℕ → List ℕ → List ℕ → List ℕ → Cache

@@ -1,6 +1,5 @@
 pub mod Cache
-pub mod View
-pub mod Valid
+pub mod InnerView
 pub mod InnerBecomes
 pub mod InnerParts
 pub mod InnerWith

@@ -1,5 +1,6 @@
 mod Openings
 mod Calls
+mod Answers
 pub mod Season
 mod Runs
 pub mod Tells

@@ -7,40 +7,37 @@ use mathlib.Core.List.{List, []}
 use Prim.Native.Nat.{ℕ}
 use lib.Dec.{eqb}
 use borrow.Author.Tests.{ne-eqb}
+use Rattle.landlord.specs.Types.{telling}
 use Rattle.landlord.specs.Catalog.{Catalog}
 use Rattle.landlord.specs.Figures.{Standing, opened, totalCost}
 use Rattle.landlord.specs.Calls.{Call}
-use Rattle.cache_state.specs.View.{view}
-use Rattle.cache_state.specs.Valid.{Valid}
+use Rattle.cache_state.specs.Cache.{view, Valid}
 use Rattle.layout.specs.Layout.{cacheOf}
 use Rattle.layout.specs.Inner.{Stands}
-use Rattle.cache.specs.Contract.{lent}
-use Rattle.cache.specs.Chain.{Bounded, BeginsAt, Season}
-use Rattle.cache.specs.Run.{RanCalls}
+use Rattle.cache.specs.Contract.{lent, Bounded, Season}
+use Rattle.cache.specs.Inner.{BeginsAt, RanCalls}
 use Rattle.cache.proofs.Season.{season-theorem}
 use Rattle.cache_value.specs.declared.Cache.{Cache}
 use Rattle.cache_value.specs.declared.Answered.{Answered}
 use Rattle.cache_value.specs.declared.Answer.the-variants.{Taken}
-use Rattle.cache_value.specs.Struct.{recordOf, byValue}
-use Rattle.cache_value.specs.Contract.{refusedOpening, Opened}
-use Rattle.cache_value.specs.Chain.{SeasonByValue, Ran}
-use Rattle.cache_value.specs.Inner.{AnswerNumbered}
+use Rattle.cache_value.specs.Inner.{Opened}
+use Rattle.cache_value.specs.Contract.{recordOf, byValue, refusedOpening, answerTold, SeasonByValue, Ran}
+use Rattle.cache_value.proofs.Answers.{number-told}
 use Rattle.cache_value.proofs.Calls.{valid-there, same-view}
 
 pub run-refused :
     (k : ℕ) (cat : Catalog) (calls : List Call) (before : List ℕ) (n : ℕ) (c : Cache) (r : Answered) →
     Opened k cat n c →
     n ≢ 0 →
-    AnswerNumbered n (r .answer) →
+    answerTold (r .answer) ≡ telling n 0 →
     r .cache ≡ c →
     Ran k cat calls before before r
-run-refused k cat calls before n c r o d a e =
+run-refused k cat calls before n c r o d t e =
     record {
-      answer = a .number ∙ o .answer;
-      line = a .line;
+      tells = t ∙ ap (λ (m : ℕ). telling m 0) (o .answer);
       refused = λ z. (refl, ap (λ (q : Cache). view (recordOf q)) e ∙ o .stands ∙ rw (ne-eqb n 0 d));
       numbers = [];
-      season = λ z. absurd (d (sym (a .number) ∙ z));
+      season = λ z. absurd (d (sym (number-told t) ∙ z));
     }
 
 -- the bytes of an opened cache begin a season in place
@@ -75,8 +72,7 @@ pub run-taken :
     Ran k cat calls before after (record { answer = Taken; cache = d })
 run-taken k cat calls before n c d {b = b} {left = left} o z s ran e =
     record {
-      answer = sym z ∙ o .answer;
-      line = refl;
+      tells = ap (λ (m : ℕ). telling m 0) (sym z ∙ o .answer);
       refused = λ w. absurd (w refl);
       numbers = ran .numbers;
       season = λ w. (season-carried k cat calls (ran .numbers) left d e (season-theorem lent (bytes-begin k cat n c b o z s) (ran .follows)), ran .noted);

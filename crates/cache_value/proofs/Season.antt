@@ -1,18 +1,20 @@
 -- The season theorem by value, read off the one for every kind of state. Assumes nothing.
-use mathlib.Core.Path.{_≡_, refl, sym, subst, _∙_}
-use mathlib.Core.List.{List, [], _∷_, map}
+use mathlib.Core.Path.{_≡_, refl, sym, ap, subst, _∙_}
+use mathlib.Core.List.{List, map}
 use Prim.Native.Nat.{ℕ, zero, suc}
 use lib.ListN.{getD, length-map}
+use Rattle.landlord.specs.Types.{telling}
 use Rattle.landlord.specs.Catalog.{Catalog}
 use Rattle.landlord.specs.Calls.{Call}
-use Rattle.cache.specs.Chain.{Follows, none, then, BeginsAt, Season, Prefix}
+use Rattle.cache.specs.Contract.{Follows, none, then, Season, Prefix}
+use Rattle.cache.specs.Inner.{BeginsAt}
 use Rattle.cache.proofs.Season.{season-theorem, season-prefix}
 use Rattle.cache_value.specs.declared.Cache.{Cache}
 use Rattle.cache_value.specs.declared.Answer.{Answer}
 use Rattle.cache_value.specs.declared.Answer.the-variants.{Taken}
-use Rattle.cache_value.specs.Struct.{byValue}
-use Rattle.cache_value.specs.Contract.{Opened, answerNumber, answerLine}
-use Rattle.cache_value.specs.Chain.{Chain, SeasonByValue, FollowsBy, noCall, thenCall, ChainBy, SeasonByMethods}
+use Rattle.cache_value.specs.Contract.{byValue, answerTold, answerNumber, SeasonByValue, FollowsBy, noCall, thenCall, ChainBy, SeasonByMethods}
+use Rattle.cache_value.specs.Inner.{Opened, Chain}
+use Rattle.cache_value.proofs.Answers.{opened-by}
 
 -- an opening that was not refused
 value-begins : (k : ℕ) (cat : Catalog) (first : Cache) → Opened k cat 0 first → BeginsAt byValue k cat first
@@ -38,22 +40,18 @@ pub method-follows : {c d : Cache} {calls : List Call} {answers : List Answer} �
 method-follows noCall = none
 method-follows (thenCall m f) = then (m .called) (method-follows f)
 
-number-at : (answers : List Answer) (i : ℕ) → answerNumber (getD answers i Taken) ≡ getD (map answerNumber answers) i 0
-number-at [] i = refl
-number-at (a ∷ answers) zero = refl
-number-at (a ∷ answers) (suc i) = number-at answers i
-
-no-line : {c d : Cache} {calls : List Call} {answers : List Answer} → FollowsBy c calls answers d → (i : ℕ) → answerLine (getD answers i Taken) ≡ 0
-no-line noCall i = refl
-no-line (thenCall m f) zero = m .line
-no-line (thenCall m f) (suc i) = no-line f i
+-- an answer tells the number that is in its place, and no line
+told-at : {c d : Cache} {calls : List Call} {answers : List Answer} → FollowsBy c calls answers d → (i : ℕ) → answerTold (getD answers i Taken) ≡ telling (getD (map answerNumber answers) i 0) 0
+told-at noCall i = refl
+told-at (thenCall m f) zero = m .tells
+told-at (thenCall m f) (suc i) = told-at f i
 
 -- so from an opening on
 numbered : {k : ℕ} {cat : Catalog} {calls : List Call} {answers : List Answer} {d : Cache} → ChainBy k cat calls answers d → Chain k cat calls (map answerNumber answers) d
 numbered {k = k} {cat = cat} chain =
     record {
       first = chain .reply .cache;
-      opening = subst (λ (n : ℕ). Opened k cat n (chain .reply .cache)) (chain .taken) (chain .opening .opening);
+      opening = subst (λ (n : ℕ). Opened k cat n (chain .reply .cache)) (chain .taken) (opened-by k cat (chain .reply) (chain .opening));
       follows = method-follows (chain .follows);
     }
 
@@ -62,8 +60,7 @@ pub season-by-methods : (k : ℕ) (cat : Catalog) (calls : List Call) (answers :
 season-by-methods k cat calls answers d chain =
     record {
       count = sym (length-map answers answerNumber) ∙ s .season .answers .count;
-      each = λ i l. number-at answers i ∙ s .season .answers .each i l;
-      line = λ i l. no-line (chain .follows) i;
+      each = λ i l. told-at (chain .follows) i ∙ ap (λ (n : ℕ). telling n 0) (s .season .answers .each i l);
       byNumber = s;
     }
   where

@@ -1,11 +1,10 @@
 -- The contracts of the methods leave no choice: there is exactly one valid struct that stands where the rule stands, and one answer
--- of a number and a line. Assumes nothing.
-use mathlib.Core.Path.{_≡_, refl, sym, _∙_}
-use mathlib.Core.List.{[], _∷_}
+-- that tells so much. Assumes nothing.
+use mathlib.Core.Path.{_≡_, refl, sym, ap, _∙_}
 use Prim.Native.Nat.{ℕ}
-use lib.ListN.{getD}
-use Rattle.landlord.specs.declared.Refusal.the-variants.{Malformed, Heading, OutOfRange, OutOfSequence, PlanTooLarge, UnknownItem, ItemTooLarge, LogFull, Closed, ActOutOfOrder, NotHeld, AlreadyHeld, OverCapacity, RequestNotHeld, ShortBuffer, InputTooLong, InvalidState}
+use Rattle.landlord.specs.Types.{telling}
 use Rattle.landlord.specs.Calls.{Call}
+use Rattle.landlord.proofs.Refusals.{refusal-one, refused-some}
 use Rattle.cache_state.proofs.Tells.{Sizes}
 use Rattle.cache_state.proofs.Tells as records
 use Rattle.cache.specs.Contract.{Answers}
@@ -13,8 +12,7 @@ use Rattle.cache_value.specs.declared.Cache.{Cache}
 use Rattle.cache_value.specs.declared.Answer.{Answer}
 use Rattle.cache_value.specs.declared.Answer.the-variants.{Taken, Refused}
 use Rattle.cache_value.specs.declared.Answered.{Answered}
-use Rattle.cache_value.specs.Struct.{recordOf, byValue}
-use Rattle.cache_value.specs.Contract.{answerNumber, answerLine, CalledBy}
+use Rattle.cache_value.specs.Contract.{recordOf, byValue, answerTold, CalledBy}
 
 -- structs that are one record are one struct
 pub record-one : (c d : Cache) → recordOf c ≡ recordOf d → c ≡ d
@@ -59,37 +57,11 @@ answers-one c d e call n m sd se p q = (p .answer ∙ sym (q .answer), valid-one
 
 -- ---- answers
 
--- the answer of a number and a line: a place for each number, from 0
-abbrev answerOf : ℕ → ℕ → Answer
-answerOf n l =
-    getD
-    (Taken ∷ Refused (Malformed l) ∷ Refused (Heading l) ∷ Refused (OutOfRange l) ∷ Refused (OutOfSequence l) ∷ Refused (PlanTooLarge l)
-    ∷ Refused (UnknownItem l) ∷ Refused (ItemTooLarge l) ∷ Refused (LogFull l) ∷ Refused (Closed l) ∷ Refused (ActOutOfOrder l) ∷ Refused (NotHeld l)
-    ∷ Refused (AlreadyHeld l) ∷ Refused (OverCapacity l) ∷ Refused (RequestNotHeld l) ∷ Refused (ShortBuffer l) ∷ Refused (InputTooLong l) ∷ Refused (InvalidState l) ∷ [])
-    n Taken
-
-answer-of : (a : Answer) → answerOf (answerNumber a) (answerLine a) ≡ a
-answer-of Taken = refl
-answer-of (Refused (Malformed l)) = refl
-answer-of (Refused (Heading l)) = refl
-answer-of (Refused (OutOfRange l)) = refl
-answer-of (Refused (OutOfSequence l)) = refl
-answer-of (Refused (PlanTooLarge l)) = refl
-answer-of (Refused (UnknownItem l)) = refl
-answer-of (Refused (ItemTooLarge l)) = refl
-answer-of (Refused (LogFull l)) = refl
-answer-of (Refused (Closed l)) = refl
-answer-of (Refused (ActOutOfOrder l)) = refl
-answer-of (Refused (NotHeld l)) = refl
-answer-of (Refused (AlreadyHeld l)) = refl
-answer-of (Refused (OverCapacity l)) = refl
-answer-of (Refused (RequestNotHeld l)) = refl
-answer-of (Refused (ShortBuffer l)) = refl
-answer-of (Refused (InputTooLong l)) = refl
-answer-of (Refused (InvalidState l)) = refl
-
-pub answer-one : (a b : Answer) → answerNumber a ≡ answerNumber b → answerLine a ≡ answerLine b → a ≡ b
-answer-one a b p q = sym (answer-of a) ∙ (λ j. answerOf (p j) (q j)) ∙ answer-of b
+pub answer-one : (a b : Answer) → answerTold a ≡ answerTold b → a ≡ b
+answer-one Taken Taken e = refl
+answer-one Taken (Refused r) e = absurd (refused-some r (λ j. sym e j .number))
+answer-one (Refused r) Taken e = absurd (refused-some r (λ j. e j .number))
+answer-one (Refused r) (Refused z) e = ap Refused (refusal-one r z e)
 
 -- so of a method on a valid struct: one answer, and one struct handed back
 pub method-one :
@@ -102,4 +74,4 @@ pub method-one :
     (r .answer ≡ s .answer) × (r .cache ≡ s .cache)
 method-one c call r s ok sr ss p q =
     let one = answers-one c (r .cache) (s .cache) call _ _ sr ss (p .called .fine ok) (q .called .fine ok) in
-    (answer-one (r .answer) (s .answer) (one .0) (p .line ∙ sym (q .line)), one .1)
+    (answer-one (r .answer) (s .answer) (p .tells ∙ ap (λ (n : ℕ). telling n 0) (one .0) ∙ sym (q .tells)), one .1)

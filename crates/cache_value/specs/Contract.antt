@@ -1,23 +1,43 @@
--- What the methods promise. Assumes nothing.
-use mathlib.Core.Path.{_≡_}
-use mathlib.Core.Bool.{true, cond}
-use mathlib.Core.List.{List, []}
-use Prim.Native.Nat.{ℕ, _<_}
-use lib.Dec.{eqb}
-use lib.ListN.{getD}
-use Rattle.landlord.specs.Types.{refusalNumber, refusalLine}
-use Rattle.landlord.specs.Fold.{tab}
-use Rattle.landlord.specs.Catalog.{Catalog}
-use Rattle.landlord.specs.Rule.{emptied}
-use Rattle.landlord.specs.Figures.{Standing, nothing, opened}
-use Rattle.landlord.specs.Calls.{Call, openingRefusal}
-use Rattle.cache_state.specs.Valid.{EmptyPlace}
-use Rattle.cache.specs.Contract.{Called}
-use Rattle.cache_value.specs.declared.Cache.{Cache}
-use Rattle.cache_value.specs.declared.Answer.{Answer}
-use Rattle.cache_value.specs.declared.Answer.the-variants.{Taken, Refused}
-use Rattle.cache_value.specs.declared.Answered.{Answered}
-use Rattle.cache_value.specs.Struct.{recordOf, byValue}
+-- The cache as a struct by value, its calls as methods: what each promises, and the season theorem by value. Assumes nothing.
+use mathlib.Core.{Path._≡_, Bool.{true, cond}, List.{List, [], _∷_, map}, Logic._≢_}
+use Prim.Native.Nat.{ℕ, _<_, _+_}
+use lib.{Dec.eqb, ListN.{getD, length, take}, Seq.sets}
+use Rattle.landlord.specs.{Types.{telling, nothingTold, told, Told}, Fold.tab, Catalog.Catalog, Rule.emptied, Figures.{Standing, nothing, opened}, Calls.{Call, openingRefusal, close, refusal}}
+use Rattle.cache_state.specs.Cache.{Cache as Record, view, Valid, EmptyPlace}
+use Rattle.cache.specs.Contract.{Kind, Called, Closing, Bounded, Season}
+use Rattle.cache_value.specs.declared.{Cache.Cache, Answer.{Answer, the-variants.{Taken, Refused}}, Answered.Answered}
+
+-- the struct as the record of the specification: the same fields
+abbrev pub recordOf : Cache → Record
+recordOf c =
+    record {
+      k = c .k;
+      n = c .n;
+      blocks = c .blocks;
+      load = c .load;
+      write = c .write;
+      held = c .held;
+      loadcredit = c .loadcredit;
+      writecredit = c .writecredit;
+      dirty = c .dirty;
+      tenths = c .tenths;
+      itemloads = c .itemloads;
+      itemwritebacks = c .itemwritebacks;
+      steps = c .steps;
+      hits = c .hits;
+      loads = c .loads;
+      loadcost = c .loadcost;
+      evictions = c .evictions;
+      dirtyevictions = c .dirtyevictions;
+      writebacks = c .writebacks;
+      writecost = c .writecost;
+      flushes = c .flushes;
+      closed = c .closed;
+    }
+
+-- the struct as a kind of state
+abbrev pub byValue : Kind Cache
+byValue = record { view = λ c. view (recordOf c); Valid = λ c. Valid (recordOf c) }
 
 -- the catalog that an opening is given: of arrays of blocks, load costs and write costs, the first n places
 unfoldable pub catalogFrom : ℕ → List ℕ → List ℕ → List ℕ → Catalog
@@ -27,32 +47,63 @@ catalogFrom n blocks load write = tab n (λ i. record { blocks = getD blocks i 0
 abbrev pub refusedOpening : Standing
 refusedOpening = record { k = 1; state = emptied []; figures = nothing []; closed = true }
 
--- an opening: 0 or 3, and the one valid cache that stands at the opening, or that of a refused one, all its places empty
-pub record Opened (k : ℕ) (cat : Catalog) (number : ℕ) (c : Cache) : Type 0 where
-  pub answer : number ≡ openingRefusal k cat
-  pub valid : byValue .Valid c
-  pub stands : byValue .view c ≡ cond (eqb number 0) (opened k cat) refusedOpening
-  -- "It has 256 places, one for each sail number, empty at opening"
-  pub empty : (i : ℕ) → i < 256 → EmptyPlace (recordOf c) i
+-- what a method's answer tells
+abbrev pub answerTold : Answer → Told
+answerTold Taken = nothingTold
+answerTold (Refused r) = told r
 
--- ---- answers
-
--- paper 01's number for an answer: 0 if the call was taken
+-- paper 01's number for it: 0 if the call was taken
 abbrev pub answerNumber : Answer → ℕ
-answerNumber Taken = 0
-answerNumber (Refused r) = refusalNumber r
+answerNumber a = answerTold a .number
 
--- the line that an answer names
-abbrev pub answerLine : Answer → ℕ
-answerLine Taken = 0
-answerLine (Refused r) = refusalLine r
-
--- a step or the closing as a method: the answer with the call's number, which names no line, and the next cache
+-- a step or the closing as a method: the answer tells the call's number and no line, and the next cache comes with it
 pub record CalledBy (c : Cache) (call : Call) (r : Answered) : Type 0 where
   pub called : Called byValue c call (answerNumber (r .answer)) (r .cache)
-  pub line : answerLine (r .answer) ≡ 0
+  pub tells : answerTold (r .answer) ≡ telling (answerNumber (r .answer)) 0
 
--- the opening
+-- the opening: 0 or 3, and the one valid cache that stands at the opening, or that of a refused one, all its places empty
 pub record OpenedBy (k : ℕ) (cat : Catalog) (r : Answered) : Type 0 where
-  pub opening : Opened k cat (answerNumber (r .answer)) (r .cache)
-  pub line : answerLine (r .answer) ≡ 0
+  pub tells : answerTold (r .answer) ≡ telling (openingRefusal k cat) 0
+  pub valid : byValue .Valid (r .cache)
+  pub stands : byValue .view (r .cache) ≡ cond (eqb (openingRefusal k cat) 0) (opened k cat) refusedOpening
+  -- "It has 256 places, one for each sail number, empty at opening"
+  pub empty : (i : ℕ) → i < 256 → EmptyPlace (recordOf (r .cache)) i
+
+-- ---- the season: each call is handed the cache that the last one handed back
+
+-- the three conclusions; the total is that of the struct's own two fields
+pub record SeasonByValue (k : ℕ) (cat : Catalog) (calls : List Call) (numbers : List ℕ) (d : Cache) : Type 0 where
+  pub season : Season byValue k cat calls numbers d
+  pub cost : Closing calls numbers → Bounded k cat calls (d .loadcost + d .writecost)
+
+-- from c, by these calls as methods, each on the cache that the last one handed back, with these answers, to d
+pub data FollowsBy : Cache → List Call → List Answer → Cache → Type 0 where
+  noCall : {c : Cache} → FollowsBy c [] [] c
+  thenCall :
+      {c d : Cache} {call : Call} {calls : List Call} {answers : List Answer} {r : Answered} →
+      CalledBy c call r →
+      FollowsBy (r .cache) calls answers d →
+      FollowsBy c (call ∷ calls) (r .answer ∷ answers) d
+
+-- the list starts from what an opening handed back, which was not refused
+pub record ChainBy (k : ℕ) (cat : Catalog) (calls : List Call) (answers : List Answer) (d : Cache) : Type 0 where
+  pub reply : Answered
+  pub opening : OpenedBy k cat reply
+  pub taken : answerNumber (reply .answer) ≡ 0
+  pub follows : FollowsBy (reply .cache) calls answers d
+
+-- The first conclusion for the answers themselves: answer i tells the number that the table gives, from the opening's arguments and
+-- the calls before it, and no line. The other two are stated for the numbers.
+pub record SeasonByMethods (k : ℕ) (cat : Catalog) (calls : List Call) (answers : List Answer) (d : Cache) : Type 0 where
+  pub count : length answers ≡ length calls
+  pub each :
+      (i : ℕ) → i < length calls → answerTold (getD answers i Taken) ≡ telling (refusal k cat (take i calls) (getD calls i close)) 0
+  pub byNumber : SeasonByValue k cat calls (map answerNumber answers) d
+
+-- The season theorem of the arguments alone: a refused opening answers 3 and notes nothing; else the three conclusions hold of
+-- the answers noted and of the cache handed back.
+pub record Ran (k : ℕ) (cat : Catalog) (calls : List Call) (before after : List ℕ) (r : Answered) : Type 0 where
+  pub tells : answerTold (r .answer) ≡ telling (openingRefusal k cat) 0
+  pub refused : answerNumber (r .answer) ≢ 0 → (after ≡ before) × (byValue .view (r .cache) ≡ refusedOpening)
+  pub numbers : List ℕ
+  pub season : answerNumber (r .answer) ≡ 0 → SeasonByValue k cat calls numbers (r .cache) × (after ≡ sets before 0 numbers)

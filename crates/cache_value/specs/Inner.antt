@@ -1,34 +1,31 @@
 -- What the functions of an opening give. Assumes nothing.
-use mathlib.Core.Path.{_≡_}
-use mathlib.Core.Logic.{_≢_}
-use mathlib.Core.Bool.{true}
-use mathlib.Core.List.{List}
+use mathlib.Core.{Path._≡_, Bool.cond, List.List}
 use Prim.Native.Nat.{ℕ, _≤_, _<_}
-use lib.ListN.{getD}
-use Rattle.landlord.specs.Catalog.{blocksInRange, CapacityOk}
-use Rattle.cache.specs.Inner.{Column}
-use Rattle.cache_value.specs.declared.Answer.{Answer}
-use Rattle.cache_value.specs.Contract.{answerNumber, answerLine}
+use lib.{ListN.getD, Dec.eqb}
+use Rattle.landlord.specs.{Catalog.{Catalog, CapacityOk}, Figures.opened, Calls.{Call, openingRefusal}}
+use Rattle.cache_state.specs.Cache.{EmptyPlace}
+use Rattle.cache.specs.{Contract.Follows, Inner.{BlocksOk, Column}}
+use Rattle.cache_value.specs.{declared.Cache.Cache, Contract.{recordOf, byValue, refusedOpening}}
 
 -- the first n entries of xs, and 0 past them
 abbrev pub FirstOf : ℕ → List ℕ → List ℕ → Type 0
 FirstOf n xs r = Column n (λ i. getD xs i 0) r
 
--- the blocks of the first n items are in range
-pub record BlocksOk (n : ℕ) (blocks : List ℕ) : Type 0 where
-  pub each : (i : ℕ) → i < n → blocksInRange (getD blocks i 0) ≡ true
-
 -- what an opening asks of its arguments; load and write costs are in range by their width
 pub record Opens (k n : ℕ) (blocks : List ℕ) : Type 0 where
   pub capacity : CapacityOk k
   pub few : n ≤ 256
-  pub each : BlocksOk n blocks
+  pub each : BlocksOk n (λ i. getD blocks i 0)
 
--- a number that a call or an opening can have: 0, 3, 6, 7, 8, 9, or else 17
-pub record CallNumber (n : ℕ) : Type 0 where
-  pub last : n ≢ 0 → n ≢ 3 → n ≢ 6 → n ≢ 7 → n ≢ 8 → n ≢ 9 → n ≡ 17
+-- an opening with the number of its answer: 0 or 3, and the one valid cache that stands at the opening, or that of a refused one
+pub record Opened (k : ℕ) (cat : Catalog) (number : ℕ) (c : Cache) : Type 0 where
+  pub answer : number ≡ openingRefusal k cat
+  pub valid : byValue .Valid c
+  pub stands : byValue .view c ≡ cond (eqb number 0) (opened k cat) refusedOpening
+  pub empty : (i : ℕ) → i < 256 → EmptyPlace (recordOf c) i
 
--- the answer with a number, and no line; there is only one (proofs/Tells.antt)
-pub record AnswerNumbered (n : ℕ) (a : Answer) : Type 0 where
-  pub number : answerNumber a ≡ n
-  pub line : answerLine a ≡ 0
+-- a list of calls by value, with the numbers of the answers: it starts from an opening that was not refused
+pub record Chain (k : ℕ) (cat : Catalog) (calls : List Call) (numbers : List ℕ) (d : Cache) : Type 0 where
+  pub first : Cache
+  pub opening : Opened k cat 0 first
+  pub follows : Follows byValue first calls numbers d

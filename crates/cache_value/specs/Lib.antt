@@ -1,4 +1,2 @@
-pub mod Struct
 pub mod Inner
 pub mod Contract
-pub mod Chain

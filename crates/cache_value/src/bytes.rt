@@ -5,10 +5,10 @@ ghost use mathlib.Core.List.{[], _∷_};
 ghost use Prim.Native.Nat.{_^_, _<_};
 ghost use lib.ListN.{length};
 ghost use Rattle.fields.specs.Inner.{le, runOf, flags};
-ghost use Rattle.layout.specs.Layout.{stateBytes, format, cacheOf, atFormat, atCapacity, atCount, atClosed, atSteps, atHits, atLoads, atEvictions, atDirtyEvictions, atWritebacks, atFlushes, atLoadCost, atWriteCost, atDirty, atLoadCredits, atWriteCredits, atTenths, atItemLoads, atItemWritebacks, atItemLoadCosts, atItemWriteCosts, atBlocks, atHeld};
-ghost use Rattle.layout.specs.InnerRows.{flag, bytesOf, Fits};
+ghost use Rattle.layout.specs.Layout.{stateBytes, format, cacheOf};
+ghost use Rattle.layout.specs.InnerRows.{atFormat, atCapacity, atCount, atClosed, atSteps, atHits, atLoads, atEvictions, atDirtyEvictions, atWritebacks, atFlushes, atLoadCost, atWriteCost, atDirty, atLoadCredits, atWriteCredits, atTenths, atItemLoads, atItemWritebacks, atItemLoadCosts, atItemWriteCosts, atBlocks, atHeld, flag, bytesOf, Fits};
 ghost use Rattle.layout.proofs.Rows.{stored};
-ghost use Rattle.cache_value.specs.Struct.{recordOf};
+ghost use Rattle.cache_value.specs.Contract.{recordOf};
 use crate::Cache;
 
 // Stores the number of the layout, the capacity, the count of items, whether the log is closed, and the counts of steps, hits and loads.

@@ -2,15 +2,14 @@
 // A method stores the struct in bytes, makes the call in place there, and reads it back; only this form pays for that.
 ghost use mathlib.Core.Path.{_≡_};
 ghost use Prim.Native.Nat.{_≤_};
+ghost use lib.ListN.{getD};
+ghost use Rattle.landlord.specs.Types.{telling};
 ghost use Rattle.landlord.specs.Calls.{close, callOf};
-ghost use Rattle.validity.specs.Decided.{Decided};
-ghost use Rattle.cache.specs.Contract.{lent, Called};
-ghost use Rattle.cache.specs.Run.{callFrom, callsOf};
-ghost use Rattle.cache.specs.Inner.{emptyWith};
-ghost use Rattle.cache_value.specs.Struct.{recordOf, byValue};
-ghost use Rattle.cache_value.specs.Inner.{FirstOf, BlocksOk, Opens, CallNumber, AnswerNumbered};
-ghost use Rattle.cache_value.specs.Contract.{catalogFrom, Opened, CalledBy, OpenedBy};
-ghost use Rattle.cache_value.specs.Chain.{Ran};
+ghost use Rattle.validity.specs.InnerDecided.{Decided};
+ghost use Rattle.cache.specs.Contract.{lent, Called, callsOf};
+ghost use Rattle.cache.specs.Inner.{callFrom, BlocksOk, emptyWith};
+ghost use Rattle.cache_value.specs.Contract.{recordOf, byValue, catalogFrom, answerTold, CalledBy, OpenedBy, Ran};
+ghost use Rattle.cache_value.specs.Inner.{FirstOf, Opens, Opened};
 use landlord::Refusal;
 use landlord::Step;
 
@@ -68,7 +67,7 @@ struct Reply {
 // Whether each of the first `n` items has 1 to 16 blocks.
 fn blocks_ok(n: usize, blocks: [u8; 256]) -> bool
     requires { ⌜ n ≤ 256 ⌝ }
-    ensures { λ r. ⌜ Decided (BlocksOk n blocks) r ⌝ }
+    ensures { λ r. ⌜ Decided (BlocksOk n (λ i. getD blocks i 0)) r ⌝ }
 {
     let mut i = 0;
     while i < n {
@@ -221,36 +220,21 @@ fn call(c: Cache, which: u32, kind: u32, item: u32, minutes: u32) -> Reply
     }
 }
 
-// The answer with a call's number.
+// The answer with a call's number, and no line.
 fn answer_to(number: u32) -> Answer
-    requires { ⌜ CallNumber number ⌝ }
-    ensures { λ r. ⌜ AnswerNumbered number r ⌝ }
+    requires { ⌜ number ≤ 17 ⌝ }
+    ensures { λ r. ⌜ answerTold r ≡ telling number 0 ⌝ }
 {
     if number == 0 {
         return Answer::Taken;
     }
-    if number == 3 {
-        return Answer::Refused(Refusal::OutOfRange { line: 0 });
-    }
-    if number == 6 {
-        return Answer::Refused(Refusal::UnknownItem { line: 0 });
-    }
-    if number == 7 {
-        return Answer::Refused(Refusal::ItemTooLarge { line: 0 });
-    }
-    if number == 8 {
-        return Answer::Refused(Refusal::LogFull { line: 0 });
-    }
-    if number == 9 {
-        return Answer::Refused(Refusal::Closed { line: 0 });
-    }
-    Answer::Refused(Refusal::InvalidState { line: 0 })
+    Answer::Refused(landlord::refusal_of(number, 0))
 }
 
 // A reply with its number as an answer.
 fn answer_with(r: Reply) -> Answered
-    requires { ⌜ CallNumber (r .number) ⌝ }
-    ensures { λ a. ⌜ AnswerNumbered (r .number) (a .answer) × (a .cache ≡ r .cache) ⌝ }
+    requires { ⌜ r .number ≤ 17 ⌝ }
+    ensures { λ a. ⌜ (answerTold (a .answer) ≡ telling (r .number) 0) × (a .cache ≡ r .cache) ⌝ }
 {
     let next = r.cache;
     let number = r.number;

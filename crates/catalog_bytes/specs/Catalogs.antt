@@ -2,8 +2,7 @@
 use mathlib.Core.List.{List}
 use Prim.Native.Nat.{ℕ, _+_, _*_, _/_}
 use lib.ListN.{length, getD}
-use Rattle.landlord.specs.Fold.{tab}
-use Rattle.landlord.specs.Catalog.{Item, Catalog}
+use Rattle.landlord.specs.{Fold.tab, Catalog.{Item, Catalog}}
 
 -- item i of such bytes
 abbrev pub itemIn : List ℕ → ℕ → Item

@@ -4,7 +4,8 @@ use mathlib.Core.List.{List, [], _∷_, _++_}
 use Prim.Native.Nat.{ℕ}
 use lib.ListN.{replicate}
 use Rattle.decimal.specs.declared.Number.the-variants.{Malformed, OutOfRange, Value}
-use Rattle.decimal.specs.Decimal.{allDigits, leadingZero, shaped, valueOf, digitsIn, digitsOf, readOf, wroteOf, pageOf}
+use Rattle.decimal.specs.Decimal.{allDigits, leadingZero, shaped, valueOf, digitsIn, digitsOf, wroteOf, pageOf}
+use Rattle.decimal.specs.InnerReads.{readOf}
 
 -- 99999999999999999999
 abbrev nines : List ℕ

@@ -15,7 +15,8 @@ use lib.Dec.{leb, ltb}
 use lib.ListN.{length, getD, drop, set, length-append, length-drop, List·getD-append, drop-of-length-le}
 use lib.Seq.{drop-cons, getD-set-same, drop-set-lt, lt-length-set}
 use Rattle.decimal.specs.declared.Number.the-variants.{Malformed, OutOfRange, Value}
-use Rattle.decimal.specs.Decimal.{isDigit, allDigits, leadingZero, shaped, valueOf, digitsIn, digitsOf, readOf, wroteOf, pageOf}
+use Rattle.decimal.specs.Decimal.{allDigits, leadingZero, shaped, valueOf, digitsIn, digitsOf, wroteOf, pageOf}
+use Rattle.decimal.specs.InnerReads.{isDigit, readOf}
 
 -- ## Tests
 

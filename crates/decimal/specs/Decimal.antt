@@ -1,20 +1,18 @@
--- Decimal numbers as bytes: which texts are numbers, what they stand for, the text of a number, and what reading and
--- writing one answer. Nothing here bounds a number or the count of its digits. Assumes nothing.
-use mathlib.Core.Bool.{Bool, true, false, cond, not, _&&_}
-use mathlib.Core.List.{List, [], _∷_, _++_}
-use Prim.Native.Nat.{ℕ, zero, suc, _+_, _*_, _-_, _^_, _/_, _%_}
-use lib.Dec.{leb, ltb, eqb}
-use lib.ListN.{length, getD, drop}
-use Rattle.decimal.specs.declared.Number.{Number}
-use Rattle.decimal.specs.declared.Number.the-variants.{Malformed, OutOfRange, Value}
+-- Text as bytes: quoted text; decimal numbers, which texts are numbers and what they stand for; a text on a lent page. Nothing here
+-- bounds a number or the count of its digits. Assumes nothing.
+use mathlib.Core.{Bool.{Bool, true, false, cond, not, _&&_}, List.{List, [], _∷_, _++_}}
+use Prim.Native.{Nat.{ℕ, zero, suc, _+_, _*_, _-_, _^_, _/_, _%_}, Char.code, String.{String, [] as empty, _∷_ as _before_}}
+use lib.{Dec.{leb, ltb, eqb}, ListN.{length, getD, drop}}
 
--- an ASCII digit: '0' is 48, '9' is 57
-abbrev pub isDigit : ℕ → Bool
-isDigit b = leb 48 b && leb b 57
+-- a quoted text, as the codes of its letters
+abbrev pub textOf : String → List ℕ
+textOf empty = []
+textOf (c before s) = code c ∷ textOf s
 
+-- ASCII digits: '0' is 48, '9' is 57
 unfoldable pub allDigits : List ℕ → Bool
 allDigits [] = true
-allDigits (b ∷ s) = isDigit b && allDigits s
+allDigits (b ∷ s) = (leb 48 b && leb b 57) && allDigits s
 
 -- a '0' with something behind it
 unfoldable pub leadingZero : List ℕ → Bool
@@ -37,10 +35,6 @@ digitsIn (suc f) x = elim (ltb x 10) [ true ↦ (48 + x) ∷ [] | false ↦ digi
 
 unfoldable pub digitsOf : ℕ → List ℕ
 digitsOf x = digitsIn x x
-
--- what reading a text answers: a number is judged by its value, however many digits it has
-unfoldable pub readOf : List ℕ → ℕ → Number
-readOf s limit = cond (shaped s) (cond (leb (valueOf s) limit) (Value (valueOf s)) OutOfRange) Malformed
 
 -- whether the text t fits a page
 abbrev pub fits : List ℕ → List ℕ → Bool

@@ -4,7 +4,8 @@
 ghost use mathlib.Core.Path.{_≡_};
 ghost use Prim.Native.Nat.{_+_, _%_};
 ghost use lib.ListN.{length};
-ghost use Rattle.decimal.specs.Decimal.{shaped, digitsOf, readOf, wroteOf, pageOf};
+ghost use Rattle.decimal.specs.Decimal.{shaped, digitsOf, wroteOf, pageOf};
+ghost use Rattle.decimal.specs.InnerReads.{readOf};
 
 // What a text is, read as a number with a limit: no number, a number above the limit, or one that is at most the limit.
 pub enum Number {

@@ -1,8 +1,7 @@
 -- Numbers written as bytes, for the laws of reading and storing. Assumes nothing.
-use mathlib.Core.List.{List, [], _∷_, _++_}
+use mathlib.Core.{List.{List, [], _∷_, _++_}, Bool.{Bool, cond}}
 use Prim.Native.Nat.{ℕ, _<_, zero, suc, _/_, _%_}
 use lib.ListN.{getD}
-use mathlib.Core.Bool.{Bool, cond}
 
 -- every number of `vs` is below `m` (past the end `getD` answers 0)
 abbrev pub Below : ℕ → List ℕ → Type 0

@@ -1,10 +1,8 @@
 -- Numbers as bytes, the low byte first; numbers one after another, each in the same count of bytes; flags, a byte each.
 -- A list of bytes is a list of numbers below 256.
-use mathlib.Core.List.{List, [], _∷_}
-use mathlib.Core.Bool.{Bool, not}
+use mathlib.Core.{List.{List, [], _∷_}, Bool.{Bool, not}}
 use Prim.Native.Nat.{ℕ, zero, suc, _+_, _*_}
-use lib.Dec.{eqb}
-use lib.ListN.{take, drop, getD}
+use lib.{Dec.eqb, ListN.{take, drop, getD}}
 
 -- the number that bytes stand for, the low byte first
 unfoldable pub un : List ℕ → ℕ

@@ -4,6 +4,7 @@ pub mod Potential
 pub mod Moves
 pub mod Folds
 pub mod Ranges
+pub mod Refusals
 pub mod Slots
 pub mod Keeps
 pub mod Logs

@@ -11,9 +11,7 @@ use native.Mathlib.Omega.{arith}
 use Rattle.landlord.specs.Fold.{sumTo}
 use Rattle.landlord.proofs.Sums.{sum-le, sum-add, sum-plus, sum-zero, sum-but-with}
 use Rattle.landlord.proofs.Potential
-use Rattle.landlord.proofs.Potential.{Both, Terms, Fine, Covered, Charged, cacheBlocks, writeback, planWriteback}
-use Rattle.landlord.proofs.Potential.{heldBlocks, planBlocks, sharedBlocks, cacheSide, planSide, rise, fall}
-use Rattle.landlord.proofs.Potential.{absent, planEvicted, planFetched, evicted, loaded, wasRead, wasWritten, wasFlushed}
+use Rattle.landlord.proofs.Potential.{Both, Terms, Fine, Covered, Charged, cacheBlocks, writeback, planWriteback, heldBlocks, planBlocks, sharedBlocks, cacheSide, planSide, rise, fall, absent, planEvicted, planFetched, evicted, loaded, wasRead, wasWritten, wasFlushed}
 
 pub record Position : Type 0 where
   -- what the cache has paid

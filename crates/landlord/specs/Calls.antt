@@ -1,17 +1,10 @@
 -- Calls on a cache, what the table of refusals says to each, and the log of a list of calls.
 -- Paper 01, 'The season as one list' and 'When the library says no'. Assumes nothing.
-use mathlib.Core.Bool.{Bool, true, false, cond, _&&_}
-use mathlib.Core.List.{List, [], _∷_, _++_}
+use mathlib.Core.{Bool.{Bool, true, false, cond, _&&_}, List.{List, [], _∷_, _++_}}
 use Prim.Native.Nat.{ℕ}
-use lib.ListN.{length}
-use lib.Dec.{leb, ltb, eqb}
-use Rattle.landlord.specs.declared.Step.{Step}
-use Rattle.landlord.specs.declared.Step.the-variants.{Read, Write, Flush}
-use Rattle.landlord.specs.Types.{stepKind, stepItem, stepMinutes}
-use Rattle.landlord.specs.Fold.{fold}
-use Rattle.landlord.specs.Catalog.{Catalog, itemAt, catalogInRange, capacityInRange}
-use Rattle.landlord.specs.Slot.{Split}
-use Rattle.landlord.specs.Figures.{Standing, took, closes, ran, season}
+use lib.{ListN.length, Dec.{leb, ltb, eqb}}
+use Rattle.landlord.specs.declared.Step.{Step, the-variants.{Read, Write, Flush}}
+use Rattle.landlord.specs.{Types.{stepKind, stepItem, stepMinutes}, Fold.fold, Catalog.{Catalog, itemAt, catalogInRange, capacityInRange}, Slot.Split, Figures.{Standing, took, closes, ran, season}}
 
 -- "Opening by call checks k and catalogue (3)": the refusal's number, 0 if there is none
 unfoldable pub openingRefusal : ℕ → Catalog → ℕ

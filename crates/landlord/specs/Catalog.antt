@@ -1,11 +1,8 @@
 -- Items, their catalog, the capacity of a cache, and the unit in which credit is counted.
 -- Paper 01, 'Sails, locker, shares'. Assumes nothing.
-use mathlib.Core.Path.{_≡_}
-use mathlib.Core.Bool.{Bool, true, _&&_}
-use mathlib.Core.List.{List, [], _∷_}
+use mathlib.Core.{Path._≡_, Bool.{Bool, true, _&&_}, List.{List, [], _∷_}}
 use Prim.Native.Nat.{ℕ, _*_, _/_}
-use lib.ListN.{length, getD}
-use lib.Dec.{leb}
+use lib.{ListN.{length, getD}, Dec.leb}
 
 -- paper 01: a sail, with its blocks, its load cost and its write cost
 pub record Item : Type 0 where

@@ -1,19 +1,10 @@
 -- The claims that are made of the rule: what a log that the table lets through is, what a split must be, and the wear
 -- bound. They are proved in proofs/ (docs/CONTRACTS.md names each). Assumes nothing.
-use mathlib.Core.Path.{_≡_}
-use mathlib.Core.Bool.{true, false}
-use mathlib.Core.List.{List}
+use mathlib.Core.{Path._≡_, Bool.{true, false}, List.List}
 use Prim.Native.Nat.{ℕ, _+_, _*_, _-_, _≤_, _<_, _∣_}
 use lib.ListN.{length, getD}
-use Rattle.landlord.specs.declared.Step.{Step}
-use Rattle.landlord.specs.declared.Step.the-variants.{Flush}
-use Rattle.landlord.specs.Fold.{sumTo}
-use Rattle.landlord.specs.Catalog.{Catalog, Item, itemAt, CatalogOk, full, unit}
-use Rattle.landlord.specs.Slot.{Split, Slot, held, loadCredit, writeCredit}
-use Rattle.landlord.specs.Rule.{State, size, slotAt, used, rank}
-use Rattle.landlord.specs.Figures.{season, totalCost, leftSide, rightSide}
-use Rattle.landlord.specs.Plan.{Plan, price, costs}
-use Rattle.landlord.specs.Calls.{callOf, refusalAt}
+use Rattle.landlord.specs.declared.Step.{Step, the-variants.Flush}
+use Rattle.landlord.specs.{Fold.sumTo, Catalog.{Catalog, Item, itemAt, CatalogOk, full, unit}, Slot.{Split, Slot, held, loadCredit, writeCredit}, Rule.{State, size, slotAt, used, rank}, Figures.{season, totalCost, leftSide, rightSide}, Plan.{Plan, price, costs}, Calls.{callOf, refusalAt}}
 
 -- a list of steps that the table of refusals lets through, each at its place in an open log
 pub record AllowedLog (k : ℕ) (cat : Catalog) (steps : List Step) : Type 0 where

@@ -1,15 +1,10 @@
 -- What the rule pays and counts: a table of what each event adds, and the sums over a log from an empty cache.
 -- Paper 01, 'The step rule' and the report's names. Assumes nothing.
-use mathlib.Core.Bool.{Bool, true, false, cond}
-use mathlib.Core.List.{List}
+use mathlib.Core.{Bool.{Bool, true, false, cond}, List.List}
 use Prim.Native.Nat.{ℕ, _+_, _*_, _-_, _/_}
-use lib.ListN.{length, getD}
-use lib.Dec.{eqb}
+use lib.{ListN.{length, getD}, Dec.eqb}
 use Rattle.landlord.specs.declared.Step.{Step}
-use Rattle.landlord.specs.Fold.{tab, fold}
-use Rattle.landlord.specs.Catalog.{Catalog, itemAt}
-use Rattle.landlord.specs.Slot.{Split}
-use Rattle.landlord.specs.Rule.{State, Event, hit, loaded, evicted, wroteBack, wrote, flushStep, Moved, emptied, flush, step}
+use Rattle.landlord.specs.{Fold.{tab, fold}, Catalog.{Catalog, itemAt}, Slot.Split, Rule.{State, Event, hit, loaded, evicted, wroteBack, wrote, flushStep, Moved, emptied, flush, step}}
 
 -- The totals of paper 01's report, with the steps and the flushes (landings). The closing is neither a step nor a flush.
 pub record Totals : Type 0 where

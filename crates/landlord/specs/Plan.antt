@@ -1,18 +1,9 @@
 -- A rival plan, run over a log and priced. Paper 01, 'The rival plan'. Assumes nothing.
-use mathlib.Core.Bool.{Bool, true, false, cond}
-use mathlib.Core.List.{List, [], _∷_}
+use mathlib.Core.{Bool.{Bool, true, false, cond}, List.{List, [], _∷_}}
 use Prim.Native.Nat.{ℕ, suc, _+_}
-use lib.ListN.{length, getD, set}
-use lib.Dec.{leb, ltb}
-use Rattle.landlord.specs.declared.Step.{Step}
-use Rattle.landlord.specs.declared.Step.the-variants.{Read, Write, Flush}
-use Rattle.landlord.specs.declared.Act.{Act}
-use Rattle.landlord.specs.declared.Act.the-variants.{Evict, Fetch}
-use Rattle.landlord.specs.declared.Refusal.{Refusal}
-use Rattle.landlord.specs.declared.Refusal.the-variants.{UnknownItem, NotHeld, AlreadyHeld, OverCapacity, RequestNotHeld}
-use Rattle.landlord.specs.Types.{refusalNumber}
-use Rattle.landlord.specs.Fold.{sumTo, tab}
-use Rattle.landlord.specs.Catalog.{Catalog, itemAt}
+use lib.{ListN.{length, getD, set}, Dec.{leb, ltb}}
+use Rattle.landlord.specs.declared.{Step.{Step, the-variants.{Read, Write, Flush}}, Act.{Act, the-variants.{Evict, Fetch}}, Refusal.{Refusal, the-variants.{UnknownItem, NotHeld, AlreadyHeld, OverCapacity, RequestNotHeld}}}
+use Rattle.landlord.specs.{Types.refusalNumber, Fold.{sumTo, tab}, Catalog.{Catalog, itemAt}}
 
 -- the acts before each step, by the step's place in the log, from 0; there is no limit on their number
 abbrev pub Plan : Type 0

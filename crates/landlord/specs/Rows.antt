@@ -1,24 +1,12 @@
 -- The bench rows: seasons with every figure that the rule gives for them, in one table, and one theorem over the table, by
 -- computation. The first nine are those that paper 01 marks, the next six catch replays that go astray, the last two are
 -- for the table of refusals and the plan's faults. A second table puts questions to the table of refusals. Assumes nothing.
-use mathlib.Core.Path.{_≡_, refl}
-use mathlib.Core.Bool.{Bool, true, false}
-use mathlib.Core.List.{List, [], _∷_, _++_, map}
+use mathlib.Core.{Path.{_≡_, refl}, Bool.{Bool, true, false}, List.{List, [], _∷_, _++_, map}}
 use Prim.Native.Nat.{ℕ, _+_, _*_, _-_, _≤_}
 use native.Mathlib.Omega.{arith}
 use lib.ListN.{getD}
-use Rattle.landlord.specs.declared.Step.{Step}
-use Rattle.landlord.specs.declared.Step.the-variants.{Write}
-use Rattle.landlord.specs.declared.Act.{Act}
-use Rattle.landlord.specs.declared.Act.the-variants.{Evict, Fetch}
-use Rattle.landlord.specs.Fold.{sumTo, tabFrom, bestTo, fold}
-use Rattle.landlord.specs.Catalog.{Catalog, Item, unit}
-use Rattle.landlord.specs.Slot.{Slot, absent, clean, dirty, writeFirst}
-use Rattle.landlord.specs.Rule.{State, Event, hit, loaded, evicted, wroteBack, wrote, flushStep, emptied, used, heldCount, victim, evictItem, evictFor, makeRoom, writeBacks, flush, step}
-use Rattle.landlord.specs.Figures.{Totals, Use, Standing, totalsOf, useOf, took, closes, season, totalCost, leftSide, rightSide}
-use Rattle.landlord.specs.Plan.{Plan, Priced, costs, fault, unknownItem, notHeld, alreadyHeld, requestNotHeld, overCapacity, planUsed, owed, planActs, allActs, planServes, priceFrom, price}
-use Rattle.landlord.specs.Claims.{loadCredits}
-use Rattle.landlord.specs.Calls.{Call, stepCall, close, Log, noLog, stepOf, refusalAt, refusalIn, joins, logOf, ruleOver}
+use Rattle.landlord.specs.declared.{Step.{Step, the-variants.Write}, Act.{Act, the-variants.{Evict, Fetch}}}
+use Rattle.landlord.specs.{Fold.{sumTo, tabFrom, bestTo, fold}, Catalog.{Catalog, Item, unit}, Slot.{Slot, absent, clean, dirty, writeFirst}, Rule.{State, Event, hit, loaded, evicted, wroteBack, wrote, flushStep, emptied, used, heldCount, victim, evictItem, evictFor, makeRoom, writeBacks, flush, step}, Figures.{Totals, Use, Standing, totalsOf, useOf, took, closes, season, totalCost, leftSide, rightSide}, Plan.{Plan, Priced, costs, fault, unknownItem, notHeld, alreadyHeld, requestNotHeld, overCapacity, planUsed, owed, planActs, allActs, planServes, priceFrom, price}, Claims.loadCredits, Calls.{Call, stepCall, close, Log, noLog, stepOf, refusalAt, refusalIn, joins, logOf, ruleOver}}
 
 -- a rival of a row: its blocks, and its acts before step 0, 1, 2 and on; no acts after the last list
 pub record RowRival : Type 0 where

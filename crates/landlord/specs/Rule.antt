@@ -1,16 +1,11 @@
 -- The step rule of paper 01: the published Writeback-Aware Landlord, with blocks, and with flushes.
 -- Each definition answers the next state and the events, in order; specs/Figures.antt says what each event pays.
 -- `split` is how a loss is split between the two credits (specs/Slot.antt), `k` the capacity. Assumes nothing.
-use mathlib.Core.Bool.{Bool, true, false, cond}
-use mathlib.Core.List.{List, [], _∷_, _++_}
+use mathlib.Core.{Bool.{Bool, true, false, cond}, List.{List, [], _∷_, _++_}}
 use Prim.Native.Nat.{ℕ, zero, suc, _+_, _*_, _/_}
-use lib.ListN.{length, getD, set}
-use lib.Dec.{leb, ltb, eqb}
-use Rattle.landlord.specs.declared.Step.{Step}
-use Rattle.landlord.specs.declared.Step.the-variants.{Read, Write, Flush}
-use Rattle.landlord.specs.Fold.{sumTo, tab, bestTo}
-use Rattle.landlord.specs.Catalog.{Catalog, itemAt, full}
-use Rattle.landlord.specs.Slot.{Slot, absent, held, isDirty, loadCredit, writeCredit, Split, lose, brought, refilled, written, flushed}
+use lib.{ListN.{length, getD, set}, Dec.{leb, ltb, eqb}}
+use Rattle.landlord.specs.declared.Step.{Step, the-variants.{Read, Write, Flush}}
+use Rattle.landlord.specs.{Fold.{sumTo, tab, bestTo}, Catalog.{Catalog, itemAt, full}, Slot.{Slot, absent, held, isDirty, loadCredit, writeCredit, Split, lose, brought, refilled, written, flushed}}
 
 -- the rule's state: the catalog, and a slot for each item of it
 pub record State : Type 0 where

@@ -1,12 +1,7 @@
 -- Paper 01's number, letter and values for each case of the shared types.
 -- Assumes nothing.
 use Prim.Native.Nat.{ℕ}
-use Rattle.landlord.specs.declared.Step.{Step}
-use Rattle.landlord.specs.declared.Step.the-variants.{Read, Write, Flush}
-use Rattle.landlord.specs.declared.Act.{Act}
-use Rattle.landlord.specs.declared.Act.the-variants.{Evict, Fetch}
-use Rattle.landlord.specs.declared.Refusal.{Refusal}
-use Rattle.landlord.specs.declared.Refusal.the-variants.{Malformed, Heading, OutOfRange, OutOfSequence, PlanTooLarge, UnknownItem, ItemTooLarge, LogFull, Closed, ActOutOfOrder, NotHeld, AlreadyHeld, OverCapacity, RequestNotHeld, ShortBuffer, InputTooLong, InvalidState}
+use Rattle.landlord.specs.declared.{Step.{Step, the-variants.{Read, Write, Flush}}, Act.{Act, the-variants.{Evict, Fetch}}, Refusal.{Refusal, the-variants.{Malformed, Heading, OutOfRange, OutOfSequence, PlanTooLarge, UnknownItem, ItemTooLarge, LogFull, Closed, ActOutOfOrder, NotHeld, AlreadyHeld, OverCapacity, RequestNotHeld, ShortBuffer, InputTooLong, InvalidState}}}
 
 -- a step's letter, as its code: R is 82, W is 87, L is 76
 abbrev pub stepKind : Step → ℕ
@@ -36,42 +31,41 @@ abbrev pub actItem : Act → ℕ
 actItem (Evict i) = i
 actItem (Fetch i) = i
 
--- a refusal's number in the table of paper 01, 'When the library says no'
-abbrev pub refusalNumber : Refusal → ℕ
-refusalNumber (Malformed l) = 1
-refusalNumber (Heading l) = 2
-refusalNumber (OutOfRange l) = 3
-refusalNumber (OutOfSequence l) = 4
-refusalNumber (PlanTooLarge l) = 5
-refusalNumber (UnknownItem l) = 6
-refusalNumber (ItemTooLarge l) = 7
-refusalNumber (LogFull l) = 8
-refusalNumber (Closed l) = 9
-refusalNumber (ActOutOfOrder l) = 10
-refusalNumber (NotHeld l) = 11
-refusalNumber (AlreadyHeld l) = 12
-refusalNumber (OverCapacity l) = 13
-refusalNumber (RequestNotHeld l) = 14
-refusalNumber (ShortBuffer l) = 15
-refusalNumber (InputTooLong l) = 16
-refusalNumber (InvalidState l) = 17
+-- what an answer tells: a number of paper 01's table, 'When the library says no', and the line of the text, from 1; 0 where no text was
+-- read
+pub record Told : Type 0 where
+  pub number : ℕ
+  pub line : ℕ
 
--- the line that a refusal names, from 1; 0 where no text was read
+abbrev pub telling : ℕ → ℕ → Told
+telling number line = record { number = number; line = line }
+
+-- nothing is refused
+abbrev pub nothingTold : Told
+nothingTold = telling 0 0
+
+-- what a refusal tells
+abbrev pub told : Refusal → Told
+told (Malformed l) = telling 1 l
+told (Heading l) = telling 2 l
+told (OutOfRange l) = telling 3 l
+told (OutOfSequence l) = telling 4 l
+told (PlanTooLarge l) = telling 5 l
+told (UnknownItem l) = telling 6 l
+told (ItemTooLarge l) = telling 7 l
+told (LogFull l) = telling 8 l
+told (Closed l) = telling 9 l
+told (ActOutOfOrder l) = telling 10 l
+told (NotHeld l) = telling 11 l
+told (AlreadyHeld l) = telling 12 l
+told (OverCapacity l) = telling 13 l
+told (RequestNotHeld l) = telling 14 l
+told (ShortBuffer l) = telling 15 l
+told (InputTooLong l) = telling 16 l
+told (InvalidState l) = telling 17 l
+
+abbrev pub refusalNumber : Refusal → ℕ
+refusalNumber r = told r .number
+
 abbrev pub refusalLine : Refusal → ℕ
-refusalLine (Malformed l) = l
-refusalLine (Heading l) = l
-refusalLine (OutOfRange l) = l
-refusalLine (OutOfSequence l) = l
-refusalLine (PlanTooLarge l) = l
-refusalLine (UnknownItem l) = l
-refusalLine (ItemTooLarge l) = l
-refusalLine (LogFull l) = l
-refusalLine (Closed l) = l
-refusalLine (ActOutOfOrder l) = l
-refusalLine (NotHeld l) = l
-refusalLine (AlreadyHeld l) = l
-refusalLine (OverCapacity l) = l
-refusalLine (RequestNotHeld l) = l
-refusalLine (ShortBuffer l) = l
-refusalLine (InputTooLong l) = l
-refusalLine (InvalidState l) = l
+refusalLine r = told r .line

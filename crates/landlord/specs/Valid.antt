@@ -1,15 +1,9 @@
 -- What holds of the rule wherever it stands: the sentences of paper 01 on a foul locker that speak of the rule's state and
 -- figures. Those on the fields of a program's state are with the program. Assumes nothing.
-use mathlib.Core.Path.{_≡_}
-use mathlib.Core.Bool.{true, false, cond}
+use mathlib.Core.{Path._≡_, Bool.{true, false, cond}}
 use Prim.Native.Nat.{ℕ, _+_, _*_, _≤_, _<_}
 use lib.ListN.{length}
-use Rattle.landlord.specs.Fold.{sumTo}
-use Rattle.landlord.specs.Catalog.{CapacityOk}
-use Rattle.landlord.specs.Slot.{isDirty}
-use Rattle.landlord.specs.Rule.{State, size, slotAt, heldCount}
-use Rattle.landlord.specs.Figures.{Standing, useAt}
-use Rattle.landlord.specs.Claims.{Kept}
+use Rattle.landlord.specs.{Fold.sumTo, Catalog.CapacityOk, Slot.isDirty, Rule.{State, size, slotAt, heldCount}, Figures.{Standing, useAt}, Claims.Kept}
 
 -- how many items are dirty
 unfoldable pub dirtyCount : State → ℕ

@@ -2,7 +2,8 @@
 // specs/Types.antt gives paper 01's number, letter and values for each of their cases.
 ghost use mathlib.Core.Path.{_≡_};
 ghost use Rattle.landlord.specs.Calls.{inRange};
-ghost use Rattle.landlord.specs.Types.{stepKind, stepItem, stepMinutes, actKind, actItem, refusalNumber, refusalLine};
+ghost use Prim.Native.Nat.{_≤_};
+ghost use Rattle.landlord.specs.Types.{stepKind, stepItem, stepMinutes, actKind, actItem, told, telling, refusalNumber, refusalLine};
 
 // A step of the log. Its numbers are as given: nothing here says that they are in range.
 pub enum Step {
@@ -173,6 +174,32 @@ impl Refusal {
             Refusal::InputTooLong { line } => line,
             Refusal::InvalidState { line } => line,
         }
+    }
+}
+
+// The refusal of a number of the table, told on a line of the text.
+pub fn refusal_of(number: u32, line: u32) -> Refusal
+    requires { ⌜ (1 ≤ number) × (number ≤ 17) ⌝ }
+    ensures { λ r. ⌜ told r ≡ telling number line ⌝ }
+{
+    match number {
+        1 => Refusal::Malformed { line: line },
+        2 => Refusal::Heading { line: line },
+        3 => Refusal::OutOfRange { line: line },
+        4 => Refusal::OutOfSequence { line: line },
+        5 => Refusal::PlanTooLarge { line: line },
+        6 => Refusal::UnknownItem { line: line },
+        7 => Refusal::ItemTooLarge { line: line },
+        8 => Refusal::LogFull { line: line },
+        9 => Refusal::Closed { line: line },
+        10 => Refusal::ActOutOfOrder { line: line },
+        11 => Refusal::NotHeld { line: line },
+        12 => Refusal::AlreadyHeld { line: line },
+        13 => Refusal::OverCapacity { line: line },
+        14 => Refusal::RequestNotHeld { line: line },
+        15 => Refusal::ShortBuffer { line: line },
+        16 => Refusal::InputTooLong { line: line },
+        _ => Refusal::InvalidState { line: line },
     }
 }
 

@@ -15,10 +15,9 @@ use Rattle.landlord.specs.Valid.{StandingOk}
 use Rattle.cache_state.specs.Cache.{Cache}
 use Rattle.cache_state.specs.InnerBecomes.{Becomes}
 use Rattle.cache_state.proofs.Tells.{Sizes, tells}
-use Rattle.layout.specs.Layout.{numberAt, numbersAt, cacheOf, AllowedBytes}
+use Rattle.layout.specs.Layout.{numberAt, numbersAt, cacheOf, AllowedBytes, ValidBytes}
 use Rattle.layout.specs.Inner.{Stands, Readable, BecomesAt}
 use Rattle.layout.specs.InnerRows.{bytesOf, Fits}
-use Rattle.layout.specs.Valid.{ValidBytes}
 use Rattle.layout.proofs.Rounds.{round, back, fits, length-bytesOf, allowed-bytesOf}
 
 -- ---- reads

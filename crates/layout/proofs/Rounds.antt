@@ -12,8 +12,8 @@ use Rattle.fields.specs.LittleEndian.{unflags}
 use Rattle.fields.specs.Inner.{Below, le, runOf, flags}
 use Rattle.fields.proofs.Laws.{sets-all, length-unrun, length-unflags, un-front, un-take-lt, below-drop, rejoin, le-back, unrun-lt, unrun-run, run-back, flags-lt, unflags-flags, flag-byte, flags-back}
 use Rattle.cache_state.specs.Cache.{Cache}
-use Rattle.layout.specs.Layout.{stateBytes, format, numberAt, numbersAt, cacheOf, AllowedBytes, atFormat, atCapacity, atCount, atClosed, atSteps, atHits, atLoads, atEvictions, atDirtyEvictions, atWritebacks, atFlushes, atLoadCost, atWriteCost, atDirty, atLoadCredits, atWriteCredits, atTenths, atItemLoads, atItemWritebacks, atItemLoadCosts, atItemWriteCosts, atBlocks, atHeld}
-use Rattle.layout.specs.InnerRows.{rowBytes, fieldRows, bytesOf, flag, WholeArrays, Fits}
+use Rattle.layout.specs.Layout.{stateBytes, format, numberAt, numbersAt, cacheOf, AllowedBytes}
+use Rattle.layout.specs.InnerRows.{atFormat, atCapacity, atCount, atClosed, atSteps, atHits, atLoads, atEvictions, atDirtyEvictions, atWritebacks, atFlushes, atLoadCost, atWriteCost, atDirty, atLoadCredits, atWriteCredits, atTenths, atItemLoads, atItemWritebacks, atItemLoadCosts, atItemWriteCosts, atBlocks, atHeld, rowBytes, fieldRows, bytesOf, flag, WholeArrays, Fits}
 use Rattle.layout.proofs.Rows.{Packed, end, number-row, numbers-row, flags-row, packed-length, packed-below, stored, packed-stored, reach}
 
 -- the fields lie end to end

@@ -15,9 +15,9 @@ use Rattle.fields.specs.Inner.{Below, le, runOf, flags}
 use Rattle.fields.proofs.Laws.{length-le, length-run, length-flags, sets-all, run-set, flags-set}
 use Rattle.cache_state.specs.Cache.{Cache}
 use Rattle.cache_state.specs.InnerWith.{withCapacity, withCount, withClosed, withSteps, withHits, withLoads, withEvictions, withDirtyEvictions, withWritebacks, withFlushes, withLoadCost, withWriteCost, withDirty, withLoadCredit, withWriteCredit, withTenths, withItemLoads, withItemWritebacks, withItemLoadCost, withItemWriteCost, withBlocks, withHeld}
-use Rattle.layout.specs.Layout.{cacheOf, atCapacity, atCount, atClosed, atSteps, atHits, atLoads, atEvictions, atDirtyEvictions, atWritebacks, atFlushes, atLoadCost, atWriteCost, atDirty, atLoadCredits, atWriteCredits, atTenths, atItemLoads, atItemWritebacks, atItemLoadCosts, atItemWriteCosts, atBlocks, atHeld}
+use Rattle.layout.specs.Layout.{cacheOf}
+use Rattle.layout.specs.InnerRows.{atCapacity, atCount, atClosed, atSteps, atHits, atLoads, atEvictions, atDirtyEvictions, atWritebacks, atFlushes, atLoadCost, atWriteCost, atDirty, atLoadCredits, atWriteCredits, atTenths, atItemLoads, atItemWritebacks, atItemLoadCosts, atItemWriteCosts, atBlocks, atHeld, FieldRow, rowBytes, fieldRows, bytesOf, flag, Fits}
 use Rattle.layout.specs.Inner.{Stands, Readable}
-use Rattle.layout.specs.InnerRows.{FieldRow, rowBytes, fieldRows, bytesOf, flag, Fits}
 use Rattle.layout.proofs.Rows.{end, number-row, stored, packed-stored, replaced, sets-row}
 use Rattle.layout.proofs.Rounds.{packed, fits}
 use Rattle.layout.proofs.Places.{stands, encoded}

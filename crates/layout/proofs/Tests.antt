@@ -11,7 +11,8 @@ use lib.Dec.{ltb}
 use lib.ListN.{getD}
 use borrow.Author.Tests.{ltb-true, lt-ltb}
 use Rattle.cache_state.specs.InnerBecomes.{Decided}
-use Rattle.layout.specs.Layout.{format, numberAt, AllowedBytes, atFormat, atClosed, atHeld}
+use Rattle.layout.specs.Layout.{format, numberAt, AllowedBytes}
+use Rattle.layout.specs.InnerRows.{atFormat, atClosed, atHeld}
 use Rattle.layout.specs.Inner.{FlagsWithin}
 
 -- ---- the loop

@@ -1,14 +1,10 @@
 -- What is said of the bytes of a state: which cache they are, and whether they are valid. Assumes nothing.
-use mathlib.Core.Path.{_≡_}
-use mathlib.Core.Bool.{false}
-use mathlib.Core.List.{List}
+use mathlib.Core.{Path._≡_, Bool.false, List.List}
 use Prim.Native.Nat.{ℕ, _≤_, _<_}
 use lib.ListN.{length, getD, replicate}
 use Rattle.landlord.specs.Figures.{Standing}
-use Rattle.cache_state.specs.Cache.{Cache}
-use Rattle.cache_state.specs.InnerBecomes.{Becomes}
-use Rattle.layout.specs.Layout.{stateBytes, cacheOf, AllowedBytes}
-use Rattle.layout.specs.Valid.{ValidBytes}
+use Rattle.cache_state.specs.{Cache.Cache, InnerBecomes.Becomes}
+use Rattle.layout.specs.Layout.{stateBytes, cacheOf, AllowedBytes, ValidBytes}
 
 -- the bytes are those of the cache c
 pub record Stands (b : List ℕ) (c : Cache) : Type 0 where

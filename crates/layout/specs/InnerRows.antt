@@ -1,13 +1,84 @@
 -- The rows of the layout, each field with its place and its bytes, and which caches it has room for. For the laws that bytes and
 -- caches are one to one (proofs/Rounds.antt); no promise of an entry point cites this file. Assumes nothing.
-use mathlib.Core.Path.{_≡_}
-use mathlib.Core.Bool.{Bool, cond}
-use mathlib.Core.List.{List, [], _∷_, _++_}
+use mathlib.Core.{Path._≡_, Bool.{Bool, cond}, List.{List, [], _∷_, _++_}}
 use Prim.Native.Nat.{ℕ, _^_, _<_}
 use lib.ListN.{length}
 use Rattle.fields.specs.Inner.{le, runOf, flags, Below}
 use Rattle.cache_state.specs.Cache.{Cache}
-use Rattle.layout.specs.Layout.{format, atFormat, atCapacity, atCount, atClosed, atSteps, atHits, atLoads, atEvictions, atDirtyEvictions, atWritebacks, atFlushes, atLoadCost, atWriteCost, atDirty, atLoadCredits, atWriteCredits, atTenths, atItemLoads, atItemWritebacks, atItemLoadCosts, atItemWriteCosts, atBlocks, atHeld}
+use Rattle.layout.specs.Layout.{format}
+
+-- ---- where each field stands
+
+abbrev pub atFormat : ℕ
+atFormat = 0
+
+abbrev pub atCapacity : ℕ
+atCapacity = 4
+
+abbrev pub atCount : ℕ
+atCount = 8
+
+abbrev pub atClosed : ℕ
+atClosed = 10
+
+abbrev pub atSteps : ℕ
+atSteps = 12
+
+abbrev pub atHits : ℕ
+atHits = 16
+
+abbrev pub atLoads : ℕ
+atLoads = 20
+
+abbrev pub atEvictions : ℕ
+atEvictions = 24
+
+abbrev pub atDirtyEvictions : ℕ
+atDirtyEvictions = 28
+
+abbrev pub atWritebacks : ℕ
+atWritebacks = 32
+
+abbrev pub atFlushes : ℕ
+atFlushes = 36
+
+abbrev pub atLoadCost : ℕ
+atLoadCost = 40
+
+abbrev pub atWriteCost : ℕ
+atWriteCost = 48
+
+abbrev pub atDirty : ℕ
+atDirty = 56
+
+abbrev pub atLoadCredits : ℕ
+atLoadCredits = 88
+
+abbrev pub atWriteCredits : ℕ
+atWriteCredits = 2136
+
+abbrev pub atTenths : ℕ
+atTenths = 4184
+
+abbrev pub atItemLoads : ℕ
+atItemLoads = 5208
+
+abbrev pub atItemWritebacks : ℕ
+atItemWritebacks = 6232
+
+abbrev pub atItemLoadCosts : ℕ
+atItemLoadCosts = 7256
+
+abbrev pub atItemWriteCosts : ℕ
+atItemWriteCosts = 7768
+
+abbrev pub atBlocks : ℕ
+atBlocks = 8280
+
+abbrev pub atHeld : ℕ
+atHeld = 8536
+
+-- ---- the rows
 
 -- a yes or no as a number
 abbrev pub flag : Bool → ℕ

@@ -1,4 +1,3 @@
 pub mod Layout
 pub mod Inner
-pub mod Valid
 pub mod InnerRows

@@ -5,10 +5,11 @@ ghost use mathlib.Core.Path.{_≡_};
 ghost use Prim.Native.Nat.{_+_, _*_, _<_, _≤_};
 ghost use lib.ListN.{length, getD};
 ghost use mathlib.Core.Bool.{false};
-ghost use Rattle.cache_state.specs.View.{dirtyAt};
+ghost use Rattle.cache_state.specs.Cache.{dirtyAt};
 ghost use Rattle.cache_state.specs.InnerWith.{withCapacity, withCount, withClosed, withSteps, withHits, withLoads, withEvictions, withDirtyEvictions, withWritebacks, withFlushes, withLoadCost, withWriteCost, withDirty, withLoadCredit, withWriteCredit, withTenths, withItemLoads, withItemWritebacks, withItemLoadCost, withItemWriteCost, withBlocks, withHeld};
 ghost use Rattle.cache_state.specs.InnerBecomes.{Decided};
-ghost use Rattle.layout.specs.Layout.{stateBytes, atDirty, numberAt, cacheOf, AllowedBytes};
+ghost use Rattle.layout.specs.Layout.{stateBytes, numberAt, cacheOf, AllowedBytes};
+ghost use Rattle.layout.specs.InnerRows.{atDirty};
 ghost use Rattle.layout.specs.Inner.{Stands, Readable, FlagsWithin, cleared};
 
 // The bytes of a state, and the number of this layout.

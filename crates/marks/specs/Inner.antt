@@ -1,6 +1,5 @@
 -- The 256 marks as one list, of which the functions of this crate speak. Assumes nothing.
-use mathlib.Core.Bool.{Bool, true, false}
-use mathlib.Core.List.{List, [], _∷_}
+use mathlib.Core.{Bool.{Bool, true, false}, List.{List, [], _∷_}}
 use Prim.Native.Nat.{ℕ, zero, suc}
 use Rattle.marks.specs.Marks.{marked}
 

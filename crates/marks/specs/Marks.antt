@@ -1,9 +1,7 @@
 -- Which of 256 marks are set: each is one binary digit of four words, 64 to a word, lowest first. Assumes nothing.
-use mathlib.Core.Bool.{Bool}
-use mathlib.Core.List.{List}
+use mathlib.Core.{Bool.Bool, List.List}
 use Prim.Native.Nat.{ℕ, _/_, _%_, _^_}
-use lib.Dec.{eqb}
-use lib.ListN.{getD}
+use lib.{Dec.eqb, ListN.getD}
 
 -- digit i of w in base two
 unfoldable pub bit : ℕ → ℕ → ℕ

@@ -1,18 +1,20 @@
 -- Laws of the exported report: a report's answer, told as a number and a length. Assumes nothing.
-use mathlib.Core.Path.{_≡_, refl, subst}
+use mathlib.Core.Path.{_≡_, refl, ap, subst}
 use mathlib.Core.Bool.{Bool, true, false, cond}
 use mathlib.Core.List.{List}
 use Prim.Native.Nat.{ℕ}
 use native.Mathlib.Omega.{arith}
 use lib.ListN.{length}
-use Rattle.cache_state.specs.View.{view}
+use Rattle.cache_state.specs.Cache.{view}
 use Rattle.decimal.specs.Decimal.{fits, wroteOf}
 use Rattle.layout.specs.Layout.{cacheOf}
 use Rattle.report.specs.declared.Rival.the-variants.{Absent}
 use Rattle.report.specs.declared.Written.{Written}
 use Rattle.report.specs.declared.Written.the-variants.{Text, Refused}
-use Rattle.report.specs.Report.{reportOf, writtenNumber, writtenLength, Reported}
-use Rattle.report.proofs.Answers.{refused-some}
+use Rattle.report.specs.Report.{reportOf, writtenLength, Reported}
+use Rattle.report.specs.Inner.{writtenNumber}
+use Rattle.landlord.specs.Types.{Told}
+use Rattle.landlord.proofs.Refusals.{refused-some}
 use Rattle.recorder.specs.Reports.{ReportedLent}
 
 -- what an answer leaves in the length's place
@@ -39,10 +41,12 @@ lent b before after was w h =
       fine = λ valid.
           let p = h .fine valid in
           let t = reportOf (view (cacheOf b)) Absent in
-          record { answer = p .answer; page = p .page; size = told-size (fits t before) w (length t) was (p .answer) (p .size) };
+          let n = ap (λ (x : Told). x .number) (p .tells) in
+          record { answer = n; page = p .page; size = told-size (fits t before) w (length t) was n (p .size) };
       invalid = λ bad.
           let f = h .invalid bad in
-          (f .0, f .2, told-none w was (f .0));
+          let n = ap (λ (x : Told). x .number) (f .0) in
+          (n, f .1, told-none w was n);
     }
 
 -- a report of the lent bytes whose answer is known to be z

@@ -1,15 +1,11 @@
 -- What the exported report promises of the bytes that C lends. Assumes nothing.
-use mathlib.Core.Path.{_≡_}
-use mathlib.Core.Bool.{cond}
-use mathlib.Core.List.{List}
+use mathlib.Core.{Path._≡_, Bool.cond, List.List}
 use Prim.Native.Nat.{ℕ}
 use lib.ListN.{length}
 use Rattle.decimal.specs.Decimal.{fits, pageOf}
-use Rattle.cache_state.specs.View.{view}
-use Rattle.layout.specs.Layout.{cacheOf}
-use Rattle.report.specs.declared.Rival.the-variants.{Absent}
-use Rattle.report.specs.Report.{reportOf}
-use Rattle.layout.specs.Valid.{ValidBytes}
+use Rattle.cache_state.specs.Cache.{view}
+use Rattle.layout.specs.Layout.{cacheOf, ValidBytes}
+use Rattle.report.specs.{declared.Rival.the-variants.Absent, Report.reportOf}
 
 -- A text put on the page: 0 and its length in the length's place, or 15 with page and place as before.
 pub record PutLent (t before : List ℕ) (was number : ℕ) (after : List ℕ) (told : ℕ) : Type 0 where

@@ -16,18 +16,16 @@ use Rattle.landlord.specs.declared.Refusal.{Refusal}
 use Rattle.landlord.specs.declared.Refusal.the-variants.{ShortBuffer, InvalidState}
 use Rattle.landlord.specs.Types.{refusalNumber, refusalLine}
 use Rattle.landlord.specs.Figures.{Use, noUse, Standing, totalCost, leftSide, rightSide}
-use Rattle.cache_state.specs.Cache.{Cache}
-use Rattle.cache_state.specs.View.{usageOf, usesOf, view}
+use Rattle.cache_state.specs.Cache.{Cache, usesOf, view}
+use Rattle.cache_state.specs.InnerView.{usageOf}
 use Rattle.cache_state.proofs.Views.{uses-length, use-is}
-use Rattle.layout.specs.Layout.{cacheOf}
-use Rattle.layout.specs.Valid.{ValidBytes}
+use Rattle.layout.specs.Layout.{cacheOf, ValidBytes}
 use Rattle.report.specs.declared.Rival.{Rival}
 use Rattle.report.specs.declared.Rival.the-variants.{Absent, Against}
 use Rattle.report.specs.declared.Written.{Written}
 use Rattle.report.specs.declared.Written.the-variants.{Text, Refused}
-use Rattle.report.specs.Words.{moreWords, wordsOf}
-use Rattle.report.specs.Report.{separator, lineOf, itemNumbers, itemLines, itemNames, rivalNumbers, totalNames, totalsThen, totalNumbers, totalLines, reportOf, refusalNames, refusalText, Put, Reported}
-use Rattle.report.specs.Inner.{textOver, RivalOk, rivalCount}
+use Rattle.report.specs.Report.{separator, lineOf, itemLines, rivalNumbers, totalNames, totalNumbers, totalLines, reportOf, refusalText, Put, Reported}
+use Rattle.report.specs.Inner.{itemNumbers, itemNames, totalsThen, refusalNames, textOver, RivalOk, rivalCount}
 
 -- ## A text at a place of a page
 
@@ -305,19 +303,15 @@ totals-priced v rival h cost ns l e f =
 -- ## Lengths
 
 pub item-names-count : length itemNames ≡ 29
-unfolding moreWords wordsOf
 item-names-count = refl
 
 pub refusal-names-count : length refusalNames ≡ 13
-unfolding moreWords wordsOf
 refusal-names-count = refl
 
 pub names-alone-count : length (totalNames Absent) ≡ 64
-unfolding moreWords wordsOf
 names-alone-count = refl
 
 pub names-priced-count : (h cost : ℕ) → length (totalNames (Against h cost)) ≡ 81
-unfolding moreWords wordsOf
 names-priced-count h cost = refl
 
 pub totals-count :
@@ -347,8 +341,7 @@ refusal-count r = omega (arith, refusal-names-count, length-append refusalNames 
 pub put-short : (t before : List ℕ) → length before < length t → Put t before (Refused (ShortBuffer 0)) before
 put-short t before h =
     record {
-      answer = rw (lt-leb (length t) (length before) h);
-      line = refl;
+      tells = rw (lt-leb (length t) (length before) h);
       size = sym (wrote-none t before h);
       page = sym (page-none t before h);
     }
@@ -357,15 +350,14 @@ pub put-whole :
     (t before after : List ℕ) (n : ℕ) → length t ≤ length before → n ≡ length t → after ≡ textOver t before → Put t before (Text n) after
 put-whole t before after n h l e =
     record {
-      answer = rw (le-leb (length t) (length before) h);
-      line = refl;
+      tells = rw (le-leb (length t) (length before) h);
       size = l ∙ sym (wrote-all t before h);
       page = e ∙ sym (page-all t before h);
     }
 
 module _ (b : List ℕ) (rival : Rival) (before : List ℕ) where
   pub invalid-told : (ValidBytes b → ⊥) → Reported b rival before (Refused (InvalidState 0)) before
-  invalid-told f = record { fine = λ v. absurd (f v); invalid = λ g. (refl, refl, refl) }
+  invalid-told f = record { fine = λ v. absurd (f v); invalid = λ g. (refl, refl) }
 
   pub fine-told :
       (r : Written) (after : List ℕ) → ValidBytes b → Put (reportOf (view (cacheOf b)) rival) before r after → Reported b rival before r after

@@ -12,15 +12,14 @@ use Rattle.landlord.specs.Types.{refusalNumber, refusalLine}
 use Rattle.landlord.specs.Rule.{size}
 use Rattle.landlord.specs.Figures.{Use, useAt, totalCost, leftSide, rightSide}
 use Rattle.landlord.proofs.Sums.{sum-term}
-use Rattle.cache_state.specs.Cache.{Cache}
-use Rattle.cache_state.specs.View.{usageOf, usesOf, stateOf, figuresOf, view}
-use Rattle.cache_state.specs.Valid.{Valid}
+use Rattle.cache_state.specs.Cache.{Cache, usesOf, view, Valid}
+use Rattle.cache_state.specs.InnerView.{usageOf, stateOf, figuresOf}
 use Rattle.cache_state.proofs.Views.{size-is, use-is}
 use Rattle.report.specs.declared.Rival.{Rival}
 use Rattle.report.specs.declared.Rival.the-variants.{Absent, Against}
-use Rattle.report.specs.Report.{separator, lineOf, itemNumbers, itemLines, rivalNumbers, totalNames, totalNumbers, reportOf, refusalText, longest}
-use Rattle.report.specs.Inner.{RivalOk}
-use Rattle.report.proofs.Answers.{refusal-range}
+use Rattle.report.specs.Report.{separator, lineOf, itemLines, rivalNumbers, totalNames, totalNumbers, reportOf, refusalText, longest}
+use Rattle.report.specs.Inner.{itemNumbers, RivalOk}
+use Rattle.landlord.proofs.Refusals.{refusal-range}
 use Rattle.report.proofs.Sides.{few-blocks, left-fits, right-fits}
 use Rattle.report.proofs.Laws.{items-count, items-end, names-alone-count, names-priced-count, totals-count, report-count, refusal-count}
 

@@ -5,9 +5,8 @@ use native.Mathlib.Nat.{mul-le-mul}
 use native.Mathlib.Omega.{arith}
 use Rattle.landlord.specs.Figures.{totalCost, rightSide}
 use Rattle.landlord.proofs.Ranges.{capacity-facts}
-use Rattle.cache_state.specs.Cache.{Cache}
-use Rattle.cache_state.specs.View.{figuresOf}
-use Rattle.cache_state.specs.Valid.{Valid}
+use Rattle.cache_state.specs.Cache.{Cache, Valid}
+use Rattle.cache_state.specs.InnerView.{figuresOf}
 
 -- "k blocks, 1 to 4,096"
 pub few-blocks : (c : Cache) → Valid c → c .k ≤ 4096

@@ -1,17 +1,38 @@
 -- What the writers of lines ask and give. Assumes nothing.
-use mathlib.Core.List.{List, _++_}
+use mathlib.Core.List.{[], List, _∷_, _++_}
+use Rattle.landlord.specs.Figures.{Use, Standing, totalCost}
 use Prim.Native.Nat.{ℕ, _≤_}
 use lib.ListN.{length, drop}
-use Rattle.landlord.specs.Figures.{Standing}
-use Rattle.cache_state.specs.View.{view}
-use Rattle.layout.specs.Layout.{cacheOf}
-use Rattle.layout.specs.Valid.{ValidBytes}
-use Rattle.report.specs.declared.Rival.{Rival}
-use Rattle.report.specs.declared.Rival.the-variants.{Absent, Against}
+use Rattle.cache_state.specs.Cache.{view}
+use Rattle.layout.specs.Layout.{cacheOf, ValidBytes}
+use Rattle.decimal.specs.Decimal.{textOf}
+use Rattle.report.specs.{declared.{Rival.{Rival, the-variants.{Absent, Against}}, Written.Written}, Report.writtenTold}
 
 -- the page with the text t at its start
 abbrev pub textOver : List ℕ → List ℕ → List ℕ
 textOver t page = t ++ drop (length t) page
+
+-- an item's line: its number, and what was counted for it
+abbrev pub itemNumbers : ℕ → Use → List ℕ
+itemNumbers i u = i ∷ u .tenths ∷ u .loads ∷ u .writebacks ∷ []
+
+-- the names above the items' lines
+abbrev pub itemNames : List ℕ
+itemNames = textOf "sail tenths loads writebacks\n"
+
+-- the eight totals, with these numbers behind them
+abbrev pub totalsThen : Standing → List ℕ → List ℕ
+totalsThen v more =
+    let t = v .figures .totals in
+    t .hits ∷ t .loads ∷ t .loadCost ∷ t .evictions ∷ t .dirtyEvictions ∷ t .writebacks ∷ t .writeCost ∷ totalCost (v .figures) ∷ more
+
+-- the names above a refusal's two numbers
+abbrev pub refusalNames : List ℕ
+refusalNames = textOf "refusal line\n"
+
+-- the number that an answer tells
+abbrev pub writtenNumber : Written → ℕ
+writtenNumber w = writtenTold w .number
 
 -- What the report asks of a rival: a plan of 1 to k blocks, and a cost with which both sides of the bound fit their words.
 abbrev pub RivalOk : Standing → Rival → Type 0

@@ -4,12 +4,12 @@ ghost use mathlib.Core.Path.{_≡_};
 ghost use mathlib.Core.List.{_++_};
 ghost use Prim.Native.Nat.{_+_, _≤_, _<_};
 ghost use lib.ListN.{length, take};
-ghost use Rattle.cache_state.specs.View.{view, usageOf, usesOf, figuresOf};
+ghost use Rattle.cache_state.specs.Cache.{view, usesOf};
+ghost use Rattle.cache_state.specs.InnerView.{usageOf, figuresOf};
 ghost use Rattle.landlord.specs.Figures.{totalCost, leftSide, rightSide};
-ghost use Rattle.layout.specs.Layout.{stateBytes, cacheOf};
-ghost use Rattle.layout.specs.Valid.{ValidBytes};
-ghost use Rattle.report.specs.Report.{lineOf, itemNumbers, itemLines, rivalNumbers, totalNumbers, totalLines, reportOf, refusalText, Put, Reported, longest};
-ghost use Rattle.report.specs.Inner.{textOver, RivalOk, Comparable, TextFits, rivalCount};
+ghost use Rattle.layout.specs.Layout.{stateBytes, cacheOf, ValidBytes};
+ghost use Rattle.report.specs.Report.{lineOf, itemLines, rivalNumbers, totalNumbers, totalLines, reportOf, refusalText, Put, Reported, longest};
+ghost use Rattle.report.specs.Inner.{itemNumbers, textOver, RivalOk, Comparable, TextFits, rivalCount};
 use landlord::Refusal;
 
 // The bytes of the longest report there can be, with or without a rival's figures.

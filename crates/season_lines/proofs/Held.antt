@@ -16,8 +16,7 @@ use Rattle.season_lines.specs.declared.Field.{Field}
 use Rattle.season_lines.specs.declared.Field.the-variants.{Number, Letter, Dash, Other}
 use Rattle.season_lines.specs.declared.Line.{Line}
 use Rattle.season_lines.specs.declared.Line.the-variants.{Sizes, Item as ItemLine, Step, Act as Placed}
-use Rattle.season_lines.specs.Fields.{fieldAt, isNumber, isDash, isLetter, valueIn}
-use Rattle.season_lines.specs.Lines.{shapeThenRange, sizesLine, itemFrom, itemLine, stepShape, stepLine, actOf, actLine, lineIn}
+use Rattle.season_lines.specs.Lines.{fieldAt, isNumber, isDash, isLetter, valueIn, shapeThenRange, sizesLine, itemFrom, itemLine, stepShape, stepLine, actOf, actLine, lineIn}
 use Rattle.season_lines.specs.Inner.{beyond, heldField}
 use Rattle.season_lines.proofs.Laws.{and-parts, item-bounds, sizesShape, itemShape, stepsShape, actsShape, sizesRange, itemsRange, actsRange, sizesBy, itemBy, stepBy, actBy}
 use Rattle.season_lines.proofs.Pieces.{sizes-bounds, acts-bounds}

@@ -12,7 +12,8 @@ use lib.Dec.{leb, eqb}
 use lib.ListN.{length, getD, take, drop, drop-of-length-le}
 use lib.Seq.{drop-cons, length-take-le}
 use Rattle.decimal.specs.declared.Number.the-variants.{Malformed as NoNumber, OutOfRange as Above, Value}
-use Rattle.decimal.specs.Decimal.{shaped, valueOf, readOf}
+use Rattle.decimal.specs.Decimal.{shaped, valueOf}
+use Rattle.decimal.specs.InnerReads.{readOf}
 use Rattle.landlord.specs.declared.Step.the-variants.{Read, Write, Flush}
 use Rattle.landlord.specs.declared.Act.the-variants.{Evict, Fetch}
 use Rattle.landlord.specs.declared.Refusal.the-variants.{Malformed, OutOfRange}
@@ -22,8 +23,7 @@ use Rattle.season_lines.specs.declared.Field.{Field}
 use Rattle.season_lines.specs.declared.Field.the-variants.{Number, Letter, Dash, Other}
 use Rattle.season_lines.specs.declared.Line.{Line}
 use Rattle.season_lines.specs.declared.Line.the-variants.{Sizes, Item as ItemLine, Step, Act as Placed, Refused}
-use Rattle.season_lines.specs.Fields.{markOf, fieldOf, fieldAt, isNumber, isDash, isLetter, valueIn}
-use Rattle.season_lines.specs.Lines.{shapeThenRange, sizesLine, itemFrom, itemLine, isEither, stepShape, stepLine, isActKind, actOf, actLine, lineIn}
+use Rattle.season_lines.specs.Lines.{markOf, fieldOf, fieldAt, isNumber, isDash, isLetter, valueIn, shapeThenRange, sizesLine, itemFrom, itemLine, isEither, stepShape, stepLine, isActKind, actOf, actLine, lineIn}
 use Rattle.season_lines.specs.Inner.{before, beyond, heldField}
 use Rattle.landlord.proofs.Ranges.{item-facts}
 

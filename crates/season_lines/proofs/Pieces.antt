@@ -24,8 +24,7 @@ use Rattle.season_lines.specs.declared.Field.{Field}
 use Rattle.season_lines.specs.declared.Field.the-variants.{Number, Letter, Dash, Other}
 use Rattle.season_lines.specs.declared.Line.{Line}
 use Rattle.season_lines.specs.declared.Line.the-variants.{Sizes, Item as ItemLine, Step, Act as Placed, Refused}
-use Rattle.season_lines.specs.Fields.{onto, split, fieldOf, allFields, fieldsOf, fieldAt, isNumber, isDash, isLetter, valueIn}
-use Rattle.season_lines.specs.Lines.{shapeThenRange, sizesLine, itemFrom, itemLine, isEither, stepShape, stepLine, isActKind, actOf, actLine, lineIn}
+use Rattle.season_lines.specs.Lines.{onto, split, fieldOf, allFields, fieldsOf, fieldAt, isNumber, isDash, isLetter, valueIn, shapeThenRange, sizesLine, itemFrom, itemLine, isEither, stepShape, stepLine, isActKind, actOf, actLine, lineIn}
 use Rattle.season_lines.specs.Inner.{before, isOther}
 use Rattle.season_lines.proofs.Laws.{and-parts, one-of-3, one-of-4, one-of-5, equal-or-not, sizesShape, itemShape, stepsShape, actShape, actsShape, sizesRange, itemsRange, actsRange}
 

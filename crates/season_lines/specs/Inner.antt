@@ -1,10 +1,8 @@
 -- What the inner functions of the reader look for, and a field as the program holds it. Assumes nothing.
-use mathlib.Core.Bool.{cond, Bool, true, false}
-use mathlib.Core.List.{List, [], _∷_}
+use mathlib.Core.{Bool.{cond, Bool, true, false}, List.{List, [], _∷_}}
 use Prim.Native.Nat.{ℕ}
 use lib.Dec.{leb, eqb}
-use Rattle.season_lines.specs.declared.Field.{Field}
-use Rattle.season_lines.specs.declared.Field.the-variants.{Number, Letter, Dash, Other}
+use Rattle.season_lines.specs.declared.Field.{Field, the-variants.{Number, Letter, Dash, Other}}
 
 -- the bytes before the first b, or all of them
 unfoldable pub before : ℕ → List ℕ → List ℕ

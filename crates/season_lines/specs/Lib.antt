@@ -1,4 +1,3 @@
 -- The definitions that the contracts of `season_lines` cite. Assumes nothing.
-pub mod Fields
 pub mod Lines
 pub mod Inner

@@ -1,19 +1,57 @@
--- A value line of each table, judged by its fields alone: its shape (1), then its ranges (3). Nothing here knows a catalogue, a
--- capacity or a place among the tables. Paper 01, 'The text input' and 'When the library says no'. Assumes nothing.
-use mathlib.Core.Bool.{Bool, cond, _&&_, _||_}
-use mathlib.Core.List.{List}
+-- A text split into lines, a line into fields, and a value line of each table judged by its fields alone. Nothing here knows a catalogue,
+-- a capacity or a place among the tables. Paper 01, 'The text input' and 'When the library says no'. Assumes nothing.
+use mathlib.Core.{Bool.{Bool, true, false, cond, _&&_, _||_}, List.{List, [], _∷_}}
 use Prim.Native.Nat.{ℕ}
-use lib.ListN.{length}
-use lib.Dec.{leb, eqb}
-use Rattle.landlord.specs.declared.Act.{Act}
-use Rattle.landlord.specs.declared.Act.the-variants.{Evict, Fetch}
-use Rattle.landlord.specs.declared.Refusal.the-variants.{Malformed, OutOfRange}
-use Rattle.landlord.specs.Catalog.{Item, itemInRange, capacityInRange}
-use Rattle.landlord.specs.Calls.{inRange, stepOf}
-use Rattle.season_lines.specs.declared.Field.{Field}
-use Rattle.season_lines.specs.declared.Line.{Line}
-use Rattle.season_lines.specs.declared.Line.the-variants.{Sizes, Item as ItemLine, Step, Act as Placed, Refused}
-use Rattle.season_lines.specs.Fields.{fieldAt, isNumber, isDash, isLetter, valueIn}
+use lib.{ListN.{length, getD}, Dec.{leb, eqb}}
+use Rattle.decimal.specs.Decimal.{shaped, valueOf}
+use Rattle.season_lines.specs.declared.{Field.{Field, the-variants.{Number, Letter, Dash, Other}}, Line.{Line, the-variants.{Sizes, Item as ItemLine, Step, Act as Placed, Refused}}}
+use Rattle.landlord.specs.declared.{Act.{Act, the-variants.{Evict, Fetch}}, Refusal.the-variants.{Malformed, OutOfRange}}
+use Rattle.landlord.specs.{Catalog.{Item, itemInRange, capacityInRange}, Calls.{inRange, stepOf}}
+
+-- a byte in front of the first piece
+abbrev pub onto : ℕ → List (List ℕ) → List (List ℕ)
+onto x [] = (x ∷ []) ∷ []
+onto x (p ∷ ps) = (x ∷ p) ∷ ps
+
+-- the pieces between the b's: one more than there are b's, and the last is what stands behind the last b
+unfoldable pub split : ℕ → List ℕ → List (List ℕ)
+split b [] = [] ∷ []
+split b (x ∷ s) = cond (eqb x b) ([] ∷ split b s) (onto x (split b s))
+
+-- "A kind is one capital letter"; `-` is 45
+abbrev pub markOf : ℕ → Field
+markOf b = cond (eqb b 45) Dash (cond (leb 65 b && leb b 90) (Letter b) Other)
+
+-- what a field is: a number of any size, a capital letter, `-`, or something else
+unfoldable pub fieldOf : List ℕ → Field
+fieldOf s = cond (shaped s) (Number (valueOf s)) (cond (eqb (length s) 1) (markOf (getD s 0 0)) Other)
+
+unfoldable pub allFields : List (List ℕ) → List Field
+allFields [] = []
+allFields (p ∷ ps) = fieldOf p ∷ allFields ps
+
+-- the fields of a line, "split by single spaces"
+abbrev pub fieldsOf : List ℕ → List Field
+fieldsOf l = allFields (split 32 l)
+
+-- field j of a line; past the last one there is nothing
+abbrev pub fieldAt : List Field → ℕ → Field
+fieldAt fs j = getD fs j Other
+
+abbrev pub isNumber : Field → Bool
+isNumber f = elim f [ Number v ↦ true | Letter b ↦ false | Dash ↦ false | Other ↦ false ]
+
+abbrev pub isLetter : Field → Bool
+isLetter f = elim f [ Number v ↦ false | Letter b ↦ true | Dash ↦ false | Other ↦ false ]
+
+abbrev pub isDash : Field → Bool
+isDash f = elim f [ Number v ↦ false | Letter b ↦ false | Dash ↦ true | Other ↦ false ]
+
+-- the number that a field is, or the code of its letter; `-` has none, and it is not looked at
+abbrev pub valueIn : Field → ℕ
+valueIn f = elim f [ Number v ↦ v | Letter b ↦ b | Dash ↦ 0 | Other ↦ 0 ]
+
+-- ---- a value line of each table, judged by its fields alone: its shape (1), then its ranges (3)
 
 -- "in the order .. shape, 3": a line that has its table's shape and is in range says what stands in it
 abbrev pub shapeThenRange : Bool → Bool → Line → ℕ → Line

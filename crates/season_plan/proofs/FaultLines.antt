@@ -15,8 +15,8 @@ use Rattle.landlord.specs.Catalog.{Catalog}
 use Rattle.landlord.specs.Plan.{Plan, Copy, noCopy, Fault, unknownItem, notHeld, alreadyHeld, requestNotHeld, overCapacity, Done, done, faulty, Priced, costs, fault, planActs, andPaid, andThen, allActs, planServes, pricedWith, priceThen, priceFrom}
 use Rattle.season_tables.specs.Tables.{Placed, Sofar, on, readingOf}
 use Rattle.season_tables.proofs.LineNumbers.{accepted-lines}
-use Rattle.season_plan.specs.Plans.{actsAt, actsBefore, planOf, faultLine, priceOf}
-use Rattle.season_plan.specs.Inner.{faultAct}
+use Rattle.season_plan.specs.Plans.{actsAt, actsBefore, faultLine, priceOf}
+use Rattle.season_plan.specs.Inner.{planOf, faultAct}
 use Rattle.season_plan.proofs.Costs.{Faults, ofAct, ofStep, act-faults, serve-fault}
 
 -- a fault of an act that its step has, or of one of the first n steps

@@ -12,10 +12,11 @@ use lib.Seq.{drop-cons}
 use Rattle.landlord.specs.declared.Refusal.{Refusal}
 use Rattle.landlord.specs.declared.Step.{Step}
 use Rattle.landlord.specs.declared.Step.the-variants.{Read, Write, Flush}
-use Rattle.landlord.specs.Types.{stepKind, stepItem, stepMinutes}
+use Rattle.landlord.specs.Types.{stepKind, stepItem, stepMinutes, telling, told}
 use Rattle.landlord.specs.Fold.{tab}
 use Rattle.landlord.specs.Catalog.{Catalog, CatalogOk, itemAt}
 use Rattle.landlord.specs.Calls.{inRange, stepOf}
+use Rattle.landlord.proofs.Refusals.{fault-tells, fault-range}
 use Rattle.landlord.specs.Plan.{Copy, noCopy, has, copyAt, planUsed, owed, Fault, unknownItem, notHeld, alreadyHeld, requestNotHeld, overCapacity, faultNumber, Done, done, faulty, Priced, costs, fault, andPaid, andThen, allActs, planServes, pricedWith, priceThen, priceFrom}
 use Rattle.landlord.proofs.Folds.{tab-eq}
 use Rattle.landlord.proofs.Sums.{sum-zero}
@@ -31,8 +32,8 @@ use Rattle.season_plan.specs.declared.Copies.{Copies}
 use Rattle.season_plan.specs.declared.Did.{Did}
 use Rattle.season_plan.specs.declared.Acted.{Acted}
 use Rattle.season_plan.specs.declared.Price.the-variants.{Cost, Refused}
-use Rattle.season_plan.specs.Plans.{actsBefore, planOf, faultLine, priceOf, PricedBy}
-use Rattle.season_plan.specs.Inner.{copyFrom, copiesOf, HoldsCopies, Does, PlanReady, PlanServable, Serves, faultAct, ActsDone, FaultNumber, Told, Priceable, most, Actable, RunsActs, ActsWithin, PricedAs}
+use Rattle.season_plan.specs.Plans.{actsBefore, faultLine, priceOf, PricedBy}
+use Rattle.season_plan.specs.Inner.{planOf, copyFrom, copiesOf, HoldsCopies, Does, PlanReady, PlanServable, Serves, faultAct, ActsDone, Priceable, most, Actable, RunsActs, ActsWithin, PricedAs}
 use Rattle.landlord.proofs.Calls.{same-step}
 use Rattle.landlord.proofs.Ranges.{catalog-facts}
 use Rattle.season_plan.proofs.Marks.{copy-at, copy-none}
@@ -90,21 +91,14 @@ turn v s (done q c) serves next paid b r did e served f = go (serves q) (served 
     go (faulty w) number = absurd (fault-some w (sym number ∙ f))
 turn v s (faulty w) serves next paid b r did e served f = absurd (fault-some w (sym (did .0) ∙ e))
 
--- a fault's number
-fault-number : (f : Fault) {n : ℕ} → n ≡ faultNumber f → FaultNumber n
-fault-number (unknownItem t a i) e = record { last = λ p q r s. e }
-fault-number (notHeld t a i) e = record { last = λ p q r s. absurd (p e) }
-fault-number (alreadyHeld t a i) e = record { last = λ p q r s. absurd (q e) }
-fault-number (requestNotHeld t i) e = record { last = λ p q r s. absurd (s e) }
-fault-number (overCapacity t) e = record { last = λ p q r s. absurd (r e) }
-
-acts-number : (v : Sofar) (s : ℕ) (d : Done) (paid : ℕ) (b : Acted) → ActsDone v s d paid b → b .number ≢ 0 → FaultNumber (b .number)
+-- a fault's number is one of the table's
+acts-number : (v : Sofar) (s : ℕ) (d : Done) (paid : ℕ) (b : Acted) → ActsDone v s d paid b → b .number ≢ 0 → (1 ≤ b .number) × (b .number ≤ 17)
 acts-number v s (done q c) paid b did e = absurd (e (did .0))
-acts-number v s (faulty f) paid b did e = fault-number f (did .0)
+acts-number v s (faulty f) paid b did e = rw (did .0) (fault-range f)
 
-does-number : (cat : Catalog) (d : Done) (paid : ℕ) (r : Did) → Does cat d paid r → r .number ≢ 0 → FaultNumber (r .number)
+does-number : (cat : Catalog) (d : Done) (paid : ℕ) (r : Did) → Does cat d paid r → r .number ≢ 0 → (1 ≤ r .number) × (r .number ≤ 17)
 does-number cat (done q c) paid r did e = absurd (e (did .0))
-does-number cat (faulty f) paid r did e = fault-number f did
+does-number cat (faulty f) paid r did e = rw did (fault-range f)
 
 -- an act's fault is told on the act's line
 act-line :
@@ -128,23 +122,23 @@ step-line v s (requestNotHeld t i) line of l = omega arith
 step-line v s (overCapacity t) line of l = omega arith
 
 -- a refusal with a fault's number and line is the answer to it
-faulted : (v : Sofar) (f : Fault) {number line : ℕ} {y : Refusal} → Told number line y → number ≡ faultNumber f → line ≡ faultLine v f → PricedBy v (fault f) (Refused y)
-faulted v f told e l = record { number = told .number ∙ e; line = told .line ∙ l; cost = refl }
+faulted : (v : Sofar) (f : Fault) {number line : ℕ} (y : Refusal) → told y ≡ telling number line → number ≡ faultNumber f → line ≡ faultLine v f → PricedBy v (fault f) (Refused y)
+faulted v f y tells e l = tells ∙ (λ j. telling (e j) (l j)) ∙ sym (fault-tells f (faultLine v f))
 
 act-faulty :
     (v : Sofar) (s : ℕ) (d : Done) (serves : List Copy → Done) (next : List Copy → Priced) (paid line : ℕ) (b : Acted) (y : Refusal) →
-    Told (b .number) line y →
+    told y ≡ telling (b .number) line →
     ActsDone v s d paid b →
     b .number ≢ 0 →
     Faults (ofAct s) d →
     line ≡ 9 + length (v .catalog) + length (v .steps) + b .next →
     PricedBy v (pricedWith paid (priceThen (andThen d serves) next)) (Refused y)
-act-faulty v s (done q c) serves next paid line b y told did e of l = absurd (e (did .0))
-act-faulty v s (faulty f) serves next paid line b y told did e of l = faulted v f told (did .0) (act-line v s f line (b .next) of (did .1) l)
+act-faulty v s (done q c) serves next paid line b y tells did e of l = absurd (e (did .0))
+act-faulty v s (faulty f) serves next paid line b y tells did e of l = faulted v f y tells (did .0) (act-line v s f line (b .next) of (did .1) l)
 
 step-faulty :
     (v : Sofar) (s : ℕ) (d : Done) (serves : List Copy → Done) (next : List Copy → Priced) (paid line : ℕ) (b : Acted) (r : Did) (y : Refusal) →
-    Told (r .number) line y →
+    told y ≡ telling (r .number) line →
     ActsDone v s d paid b →
     b .number ≡ 0 →
     ((q : List Copy) (c : ℕ) → HoldsCopies (v .catalog) (b .copies) q c → Does (v .catalog) (serves q) c r) →
@@ -152,12 +146,12 @@ step-faulty :
     ((q : List Copy) → Faults (ofStep s) (serves q)) →
     line ≡ 7 + length (v .catalog) + s →
     PricedBy v (pricedWith paid (priceThen (andThen d serves) next)) (Refused y)
-step-faulty v s (done q c) serves next paid line b r y told did e served f of l = go (serves q) (served q (paid + c) (did .1)) (of q)
+step-faulty v s (done q c) serves next paid line b r y tells did e served f of l = go (serves q) (served q (paid + c) (did .1)) (of q)
   where
     go : (t : Done) → Does (v .catalog) t (paid + c) r → Faults (ofStep s) t → PricedBy v (pricedWith paid (priceThen (andPaid c t) next)) (Refused y)
     go (done o k) (number, st) here = absurd (f number)
-    go (faulty w) number here = faulted v w told number (step-line v s w line here l)
-step-faulty v s (faulty w) serves next paid line b r y told did e served f of l = absurd (fault-some w (sym (did .0) ∙ e))
+    go (faulty w) number here = faulted v w y tells number (step-line v s w line here l)
+step-faulty v s (faulty w) serves next paid line b r y tells did e served f of l = absurd (fault-some w (sym (did .0) ∙ e))
 
 -- what the acts leave, if they are done
 acts-next : (v : Sofar) (s : ℕ) (d : Done) (paid : ℕ) (b : Acted) → ActsDone v s d paid b → b .number ≡ 0 → b .next ≡ actsBefore (suc s) (v .acts)
@@ -254,16 +248,16 @@ module _ (x : Seen) (xs calls acts : List ℕ) (pre : Priceable x xs calls acts)
             (sym (drop-cons (v .steps) s Flush (omega (arith, h .stepCount))))
             ∙ so .leads v h sound
 
-        pub pricing-act-number : b .number ≢ 0 → FaultNumber (b .number)
+        pub pricing-act-number : b .number ≢ 0 → (1 ≤ b .number) × (b .number ≤ 17)
         pricing-act-number e = acts-number (pre .text) s (actsOf (pre .text) s (copiesIn xs p)) (p .paid) b (did (pre .text) (pre .holds) (pre .sound)) e
 
         -- 11 or 12, with the act's line
         pub pricing-act-fails :
-            (line : ℕ) (y : Refusal) → Told (b .number) line y → b .number ≢ 0 → line ≡ 9 + x .n + x .steps + b .next → PricedAs x xs calls acts (Refused y)
-        pricing-act-fails line y told e at v h sound =
+            (line : ℕ) (y : Refusal) → told y ≡ telling (b .number) line → b .number ≢ 0 → line ≡ 9 + x .n + x .steps + b .next → PricedAs x xs calls acts (Refused y)
+        pricing-act-fails line y tells e at v h sound =
             subst (λ (z : Priced). PricedBy v z (Refused y)) (unrolled v h sound)
             (act-faulty v s (actsOf v s (copiesIn xs p)) (stepOn v s)
-            (logFrom v (suc s)) (p .paid) line b y told (did v h sound) e
+            (logFrom v (suc s)) (p .paid) line b y tells (did v h sound) e
             (acts-fault (v .catalog) s 0 (planOf (v .acts) s) (copiesIn xs p)) (omega (arith, h .itemCount, h .stepCount)))
 
         module _ (e : b .number ≡ 0) where
@@ -309,17 +303,17 @@ module _ (x : Seen) (xs calls acts : List ℕ) (pre : Priceable x xs calls acts)
                 (subst (λ (t : Step). HoldsCopies (catalogIn xs) (b .copies) q c → Does (catalogIn xs) (planServes (catalogIn xs) (x .h) s t q) c r) same
                 (served s (stepMinutes st) c q)))
 
-            pub pricing-step-number : r .number ≢ 0 → FaultNumber (r .number)
+            pub pricing-step-number : r .number ≢ 0 → (1 ≤ r .number) × (r .number ≤ 17)
             pricing-step-number f =
                 does-number (catalogIn xs) (planServes (catalogIn xs) (x .h) s (stepOf (getD calls (4 * s + 1) 0) (getD calls (4 * s + 2) 0) 0) (copiesIn xs (b .copies))) (b .copies .paid) r
                 (served s 0 (b .copies .paid) (copiesIn xs (b .copies)) (stands-ready xs (b .copies) before-used)) f
 
             -- 14 or 13, with the step's line
-            pub pricing-step-fails : (line : ℕ) (y : Refusal) → Told (r .number) line y → r .number ≢ 0 → line ≡ 7 + x .n + s → PricedAs x xs calls acts (Refused y)
-            pricing-step-fails line y told f at v h sound =
+            pub pricing-step-fails : (line : ℕ) (y : Refusal) → told y ≡ telling (r .number) line → r .number ≢ 0 → line ≡ 7 + x .n + s → PricedAs x xs calls acts (Refused y)
+            pricing-step-fails line y tells f at v h sound =
                 subst (λ (z : Priced). PricedBy v z (Refused y)) (unrolled v h sound)
                 (step-faulty v s (actsOf v s (copiesIn xs p)) (stepOn v s)
-                (logFrom v (suc s)) (p .paid) line b r y told (did v h sound) e (serves v h) f
+                (logFrom v (suc s)) (p .paid) line b r y tells (did v h sound) e (serves v h) f
                 (serve-fault (v .catalog) (v .h) s (stepAt (v .steps) s)) (omega (arith, h .itemCount)))
 
             -- the step is served
@@ -359,8 +353,4 @@ module _ (x : Seen) (xs calls acts : List ℕ) (pre : Priceable x xs calls acts)
         (ap (λ t. pricedWith (p .paid) (priceFrom (v .catalog) (v .h) (planOf (v .acts)) s t (copiesIn xs p)))
         (sym (drop-of-length-le (v .steps) (let z : length (v .steps) ≤ s = omega (arith, h .stepCount) in z)))
         ∙ so .leads v h sound)
-        (record {
-          number = refl;
-          line = refl;
-          cost = is ∙ ap (λ t. p .paid + t) (e ∙ ap (λ (c : Catalog). owed c (copiesIn xs p)) (catalog-is x xs calls acts v h (pre .items)));
-        })
+        (refl, is ∙ ap (λ t. p .paid + t) (e ∙ ap (λ (c : Catalog). owed c (copiesIn xs p)) (catalog-is x xs calls acts v h (pre .items))))

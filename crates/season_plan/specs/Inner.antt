@@ -1,29 +1,17 @@
 -- How the program holds what a plan has, and what its functions give. Assumes nothing.
-use mathlib.Core.Path.{_≡_}
-use mathlib.Core.Logic.{_≢_}
-use mathlib.Core.Bool.{Bool, true, false, cond}
-use mathlib.Core.List.{List}
+use Rattle.landlord.specs.{Plan.{Plan, Copy, noCopy, cleanCopy, dirtyCopy, copyAt, cleaned, owed, Done, done, faulty, Fault, unknownItem, notHeld, alreadyHeld, requestNotHeld, overCapacity, faultNumber, planUsed, planEvicts, planFetches, planActs, allActs, planServes}, Fold.tab, Catalog.{Catalog, CatalogOk}, Calls.{inRange, stepOf}}
+use Rattle.season_tables.specs.{Tables.{Placed, Sofar}, declared.Seen.Seen, Inner.Holds, InnerSound.Sound}
+use Rattle.season_plan.specs.declared.{Copies.Copies, Did.Did, Acted.Acted, Price.{Price, the-variants.{Cost, Refused}}}
+use Rattle.season_plan.specs.Plans.{actsAt, actsBefore, priceOf, PricedBy}
+use mathlib.Core.{Path._≡_, Logic._≢_, Bool.{Bool, true, false, cond}, List.List}
 use Prim.Native.Nat.{ℕ, suc, _+_, _*_, _/_, _≤_, _<_}
-use lib.ListN.{length, getD}
-use lib.Dec.{eqb}
-use Rattle.landlord.specs.declared.Refusal.{Refusal}
-use Rattle.landlord.specs.Types.{refusalNumber, refusalLine}
-use Rattle.landlord.specs.Fold.{tab}
-use Rattle.landlord.specs.Catalog.{Catalog, CatalogOk}
-use Rattle.landlord.specs.Plan.{Copy, noCopy, cleanCopy, dirtyCopy, copyAt, cleaned, owed, Done, done, faulty, Fault, unknownItem, notHeld, alreadyHeld, requestNotHeld, overCapacity, faultNumber, planUsed, planEvicts, planFetches, planActs, allActs, planServes}
-use Rattle.landlord.specs.Calls.{inRange, stepOf}
+use lib.{ListN.{length, getD}, Dec.eqb}
 use Rattle.season_lines.specs.Lines.{actOf}
 use Rattle.catalog_bytes.specs.Catalogs.{catalogIn}
-use Rattle.season_tables.specs.declared.Seen.{Seen}
-use Rattle.season_tables.specs.Tables.{Sofar}
-use Rattle.season_tables.specs.Inner.{Holds}
-use Rattle.season_tables.specs.InnerSound.{Sound}
-use Rattle.season_plan.specs.declared.Copies.{Copies}
-use Rattle.season_plan.specs.declared.Did.{Did}
-use Rattle.season_plan.specs.declared.Acted.{Acted}
-use Rattle.season_plan.specs.declared.Price.{Price}
-use Rattle.season_plan.specs.declared.Price.the-variants.{Cost, Refused}
-use Rattle.season_plan.specs.Plans.{actsBefore, planOf, priceOf, PricedBy}
+
+-- the text's acts as a plan
+abbrev pub planOf : List Placed → Plan
+planOf acts = λ i. actsAt i acts
 
 -- 0 no copy, 1 a clean one, else a dirty one
 abbrev pub copyFrom : ℕ → Copy
@@ -112,15 +100,6 @@ abbrev pub ActsDone : Sofar → ℕ → Done → ℕ → Acted → Type 0
 ActsDone v s (done q c) before r =
     (r .number ≡ 0) × HoldsCopies (v .catalog) (r .copies) q (before + c) × (r .next ≡ actsBefore (suc s) (v .acts))
 ActsDone v s (faulty f) before r = (r .number ≡ faultNumber f) × (r .next ≡ actsBefore s (v .acts) + faultAct f)
-
--- a number that a plan's fault can have: 11, 12, 13, 14, or else 6
-pub record FaultNumber (n : ℕ) : Type 0 where
-  pub last : n ≢ 11 → n ≢ 12 → n ≢ 13 → n ≢ 14 → n ≡ 6
-
--- the refusal has a number and names a line
-pub record Told (n at : ℕ) (r : Refusal) : Type 0 where
-  pub number : refusalNumber r ≡ n
-  pub line : refusalLine r ≡ at
 
 -- what pricing asks: the slices hold an accepted text, and the catalog's bytes are those of its items alone
 pub record Priceable (x : Seen) (xs calls acts : List ℕ) : Type 0 where

@@ -1,26 +1,17 @@
 -- The plan of a text, priced by the definition that the wear bound cites, and the line of its first fault. Paper 01, 'The rival
 -- plan' and 'When the library says no'. Assumes nothing.
-use mathlib.Core.Path.{_≡_}
-use mathlib.Core.Bool.{cond}
-use mathlib.Core.List.{List, [], _∷_}
+use mathlib.Core.{Path._≡_, Bool.cond, List.{List, [], _∷_}}
 use Prim.Native.Nat.{ℕ, suc, _+_}
-use lib.ListN.{length}
-use lib.Dec.{ltb, eqb}
+use lib.{ListN.length, Dec.{ltb, eqb}}
 use Rattle.landlord.specs.declared.Act.{Act}
-use Rattle.landlord.specs.Types.{refusalNumber, refusalLine}
-use Rattle.landlord.specs.Plan.{Plan, Fault, unknownItem, notHeld, alreadyHeld, requestNotHeld, overCapacity, faultNumber, Priced, costs, fault, price}
+use Rattle.landlord.specs.{Types.{Told, nothingTold, told}, Plan.{Fault, unknownItem, notHeld, alreadyHeld, requestNotHeld, overCapacity, faultRefusal, Priced, costs, fault, price}}
 use Rattle.season_tables.specs.Tables.{Placed, Sofar}
-use Rattle.season_plan.specs.declared.Price.{Price}
-use Rattle.season_plan.specs.declared.Price.the-variants.{Cost, Refused}
+use Rattle.season_plan.specs.declared.Price.{Price, the-variants.{Cost, Refused}}
 
 -- the acts that stand before step i, in order
 unfoldable pub actsAt : ℕ → List Placed → List Act
 actsAt i [] = []
 actsAt i (a ∷ acts) = cond (eqb (a .place) i) (a .act ∷ actsAt i acts) (actsAt i acts)
-
--- the text's acts as a plan
-abbrev pub planOf : List Placed → Plan
-planOf acts = λ i. actsAt i acts
 
 -- how many acts stand before those of step i
 unfoldable pub actsBefore : ℕ → List Placed → ℕ
@@ -44,43 +35,21 @@ faultLine v (alreadyHeld s a i) = lineOfAct v (actsBefore s (v .acts) + a)
 faultLine v (requestNotHeld s i) = lineOfStep v s
 faultLine v (overCapacity s) = lineOfStep v s
 
--- the price of the text's plan over its steps
+-- the price of the text's acts, as a plan, over its steps
 abbrev pub priceOf : Sofar → Priced
-priceOf v = price (v .catalog) (v .h) (planOf (v .acts)) (v .steps)
+priceOf v = price (v .catalog) (v .h) (λ i. actsAt i (v .acts)) (v .steps)
 
--- what the table says to a plan that is priced so, in the text v: 0 or its first fault's number, and that fault's line
-abbrev pub pricedNumber : Priced → ℕ
-pricedNumber (costs c) = 0
-pricedNumber (fault f) = faultNumber f
+-- what an answer tells
+abbrev pub priceTold : Price → Told
+priceTold (Cost c) = nothingTold
+priceTold (Refused r) = told r
 
-abbrev pub pricedLine : Sofar → Priced → ℕ
-pricedLine v (costs c) = 0
-pricedLine v (fault f) = faultLine v f
-
--- and what it costs; a refused one has no cost
-abbrev pub pricedCost : Priced → ℕ
-pricedCost (costs c) = c
-pricedCost (fault f) = 0
-
--- ---- the answer
-
--- paper 01's number for an answer: 0 if the plan was priced
-abbrev pub priceNumber : Price → ℕ
-priceNumber (Cost c) = 0
-priceNumber (Refused r) = refusalNumber r
-
--- the line that an answer names
-abbrev pub priceLine : Price → ℕ
-priceLine (Cost c) = 0
-priceLine (Refused r) = refusalLine r
-
--- the cost that it tells
+-- the cost that it tells; a refused plan has none
 abbrev pub priceCost : Price → ℕ
 priceCost (Cost c) = c
 priceCost (Refused r) = 0
 
--- "the plan runs; its first fault decides": the answer has its number, its line and its cost
-pub record PricedBy (v : Sofar) (p : Priced) (r : Price) : Type 0 where
-  pub number : priceNumber r ≡ pricedNumber p
-  pub line : priceLine r ≡ pricedLine v p
-  pub cost : priceCost r ≡ pricedCost p
+-- "the plan runs; its first fault decides": its price is answered, or that fault's number and line
+abbrev pub PricedBy : Sofar → Priced → Price → Type 0
+PricedBy v (costs c) r = (priceTold r ≡ nothingTold) × (priceCost r ≡ c)
+PricedBy v (fault f) r = priceTold r ≡ told (faultRefusal f (faultLine v f))

@@ -2,7 +2,7 @@
 ghost use mathlib.Core.Path.{_≡_};
 ghost use Prim.Native.Nat.{_≤_};
 ghost use lib.Dec.{leb};
-ghost use Rattle.season_plan.specs.Inner.{PlanReady, Known, Evicts, Fetches, Acts, Owes, Cleans, lacking, PlanServable, Serves, Actable, RunsActs, ActsWithin, FaultNumber, Told, Priceable, PricedAs, PriceSmall};
+ghost use Rattle.season_plan.specs.Inner.{PlanReady, Known, Evicts, Fetches, Acts, Owes, Cleans, lacking, PlanServable, Serves, Actable, RunsActs, ActsWithin, Priceable, PricedAs, PriceSmall};
 use landlord::Refusal;
 use season_tables::Seen;
 
@@ -207,26 +207,6 @@ fn serve(catalog: &[u8], h: u32, p: Copies, kind: u32, item: usize) -> Did
     done(q)
 }
 
-// The refusal of a fault's number, told on a line.
-fn refusal_for(number: u32, line: u32) -> Refusal
-    requires { ⌜ FaultNumber number ⌝ }
-    ensures { λ r. ⌜ Told number line r ⌝ }
-{
-    if number == 11 {
-        return Refusal::NotHeld { line: line };
-    }
-    if number == 12 {
-        return Refusal::AlreadyHeld { line: line };
-    }
-    if number == 13 {
-        return Refusal::OverCapacity { line: line };
-    }
-    if number == 14 {
-        return Refusal::RequestNotHeld { line: line };
-    }
-    Refusal::UnknownItem { line: line }
-}
-
 // Runs the plan of an accepted text, the acts before each step and then the step, and the closing flush; its first fault decides.
 // `catalog` has the bytes of the text's items and no more.
 pub fn price_plan(seen: Seen, catalog: &[u8], calls: &[u32], acts: &[u32]) -> Price
@@ -247,7 +227,7 @@ pub fn price_plan(seen: Seen, catalog: &[u8], calls: &[u32], acts: &[u32]) -> Pr
         a = before.next;
         let number = before.number;
         if number != 0 {
-            return Price::Refused(refusal_for(number, (9 + seen.n + steps + a) as u32));
+            return Price::Refused(landlord::refusal_of(number, (9 + seen.n + steps + a) as u32));
         }
         let ready = before.copies;
         let served = serve(
@@ -259,7 +239,7 @@ pub fn price_plan(seen: Seen, catalog: &[u8], calls: &[u32], acts: &[u32]) -> Pr
         );
         let fault = served.number;
         if fault != 0 {
-            return Price::Refused(refusal_for(fault, (7 + seen.n + s) as u32));
+            return Price::Refused(landlord::refusal_of(fault, (7 + seen.n + s) as u32));
         }
         let next = served.copies;
         p = next;

@@ -19,11 +19,10 @@ use Rattle.landlord.specs.Calls.{itemRefusal}
 use Rattle.season_lines.specs.declared.Field.{Field}
 use Rattle.season_lines.specs.declared.Line.{Line}
 use Rattle.season_lines.specs.declared.Line.the-variants.{Sizes, Item as ItemLine, Step as StepLine, Act as ActLine, Refused}
-use Rattle.season_lines.specs.Fields.{split, fieldOf, fieldsOf}
-use Rattle.season_lines.specs.Lines.{itemFrom, lineIn}
+use Rattle.season_lines.specs.Lines.{split, fieldOf, fieldsOf, itemFrom, lineIn}
 use Rattle.season_lines.specs.Inner.{before}
-use Rattle.season_tables.specs.Tables.{Sofar, on, stop, heading, sameBytes, isBlank, isSized, mayEnd, mustEnd, nowNamed, nextTable, withSizes, withItem, withStep, withAct, inTurn, takes, leads, atEnd, goesOn, readFrom}
-use Rattle.season_tables.specs.Inner.{wantsValues}
+use Rattle.season_tables.specs.Tables.{Sofar, on, stop, heading, sameBytes, mayEnd, mustEnd, nowNamed, nextTable, withSizes, withItem, withStep, withAct, inTurn, takes, leads, atEnd, goesOn, readFrom}
+use Rattle.season_tables.specs.Inner.{isBlank, isSized, wantsValues}
 use Rattle.season_scan.specs.Inner.{onward, readUntil}
 use Rattle.season_tables.proofs.Leads.{leads-values}
 use Rattle.season_lines.proofs.Pieces.{before-le, before-take, split-last, split-more, split-some, fields-last, fields-more, line-step, line-act}

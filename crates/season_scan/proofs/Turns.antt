@@ -16,8 +16,7 @@ use Rattle.landlord.specs.declared.Refusal.the-variants.{Malformed, Heading}
 use Rattle.season_lines.specs.declared.Field.{Field}
 use Rattle.season_lines.specs.declared.Field.the-variants.{Other}
 use Rattle.season_lines.specs.declared.Line.the-variants.{Refused as Torn}
-use Rattle.season_lines.specs.Fields.{split, fieldOf, fieldsOf, fieldAt}
-use Rattle.season_lines.specs.Lines.{lineIn}
+use Rattle.season_lines.specs.Lines.{split, fieldOf, fieldsOf, fieldAt, lineIn}
 use Rattle.season_lines.specs.Inner.{before, isOther, heldField}
 use Rattle.season_tables.specs.declared.Seen.{Seen}
 use Rattle.season_tables.specs.declared.Scanned.{Scanned}

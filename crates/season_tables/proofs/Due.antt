@@ -1,24 +1,24 @@
 -- Laws of what is due: the names of a table, and a line with values. Assumes nothing.
 use mathlib.Core.Path.{_≡_}
 use mathlib.Core.Bool.{Bool, true, false, not}
-use mathlib.Core.List.{List, [], _∷_}
+use mathlib.Core.List.{List}
 use Prim.Native.Nat.{ℕ}
 use borrow.Author.Tests.{eq-eqb, ne-eqb}
-use Rattle.report.specs.Words.{lockerWord, rivalWord, sailWord, blocksWord, loadWord, writeWord, stepWord, minutesWord, atWord, actWord, wordsOf}
+use Rattle.decimal.specs.Decimal.{textOf}
 use Rattle.season_tables.specs.Tables.{heading, sameBytes, mayEnd, mustEnd}
 use Rattle.season_tables.specs.Inner.{wantsValues}
 
 -- a line compared with the names of each table
 module _ (table : ℕ) (line : List ℕ) (r : Bool) where
-  pub names-0 : table ≡ 0 → r ≡ sameBytes line (wordsOf (lockerWord ∷ rivalWord ∷ [])) → r ≡ sameBytes line (heading table)
+  pub names-0 : table ≡ 0 → r ≡ sameBytes line (textOf "locker rival") → r ≡ sameBytes line (heading table)
   unfolding heading
   names-0 e h = rw e h
 
-  pub names-1 : table ≡ 1 → r ≡ sameBytes line (wordsOf (sailWord ∷ blocksWord ∷ loadWord ∷ writeWord ∷ [])) → r ≡ sameBytes line (heading table)
+  pub names-1 : table ≡ 1 → r ≡ sameBytes line (textOf "sail blocks load write") → r ≡ sameBytes line (heading table)
   unfolding heading
   names-1 e h = rw e h
 
-  pub names-2 : table ≡ 2 → r ≡ sameBytes line (wordsOf (stepWord ∷ sailWord ∷ minutesWord ∷ [])) → r ≡ sameBytes line (heading table)
+  pub names-2 : table ≡ 2 → r ≡ sameBytes line (textOf "step sail minutes") → r ≡ sameBytes line (heading table)
   unfolding heading
   names-2 e h = rw e h
 
@@ -26,7 +26,7 @@ module _ (table : ℕ) (line : List ℕ) (r : Bool) where
       (table ≡ 0 → ⊥) →
       (table ≡ 1 → ⊥) →
       (table ≡ 2 → ⊥) →
-      r ≡ sameBytes line (wordsOf (atWord ∷ actWord ∷ sailWord ∷ [])) →
+      r ≡ sameBytes line (textOf "at act sail") →
       r ≡ sameBytes line (heading table)
   unfolding heading
   names-3 e f g h = rw (ne-eqb table 0 e, ne-eqb table 1 f, ne-eqb table 2 g) h

@@ -26,8 +26,8 @@ use Rattle.season_lines.specs.Lines.{itemFrom}
 use Rattle.season_tables.specs.declared.Seen.{Seen}
 use Rattle.season_tables.specs.declared.Scanned.{Scanned}
 use Rattle.season_tables.specs.declared.Verdict.the-variants.{Taken, Refused}
-use Rattle.season_tables.specs.Tables.{Placed, Sofar, on, stop, atStart, nowNamed, nextTable, lastPlace, takes, atEnd}
-use Rattle.season_tables.specs.Inner.{Holds, nothingRead, endVerdict, Leads, LeadsFrom, LeadsBy, NotesItem, NotesStep, NotesAct, KeepsPast, callNumbers, actNumbers, putAt, ItemPlaced}
+use Rattle.season_tables.specs.Tables.{Placed, Sofar, on, stop, atStart, nowNamed, nextTable, takes, atEnd}
+use Rattle.season_tables.specs.Inner.{lastPlace, Holds, nothingRead, endVerdict, Leads, LeadsFrom, LeadsBy, NotesItem, NotesStep, NotesAct, KeepsPast, callNumbers, actNumbers, putAt, ItemPlaced}
 use Rattle.season_tables.proofs.Notes.{put-sets, noted-more, noted-past, calls-more, acts-more}
 use Rattle.season_tables.proofs.Keeps.{taken-past}
 

@@ -10,8 +10,7 @@ use Rattle.landlord.specs.declared.Refusal.the-variants.{Malformed, Heading}
 use Rattle.season_lines.specs.declared.Field.{Field}
 use Rattle.season_lines.specs.declared.Line.{Line}
 use Rattle.season_lines.specs.declared.Line.the-variants.{Sizes, Item as ItemLine, Step as StepLine, Act as ActLine, Refused as RefusedLine}
-use Rattle.season_lines.specs.Fields.{fieldsOf}
-use Rattle.season_lines.specs.Lines.{lineIn}
+use Rattle.season_lines.specs.Lines.{fieldsOf, lineIn}
 use Rattle.season_lines.proofs.Pieces.{line-item}
 use Rattle.season_lines.proofs.Held.{held-line}
 use Rattle.season_tables.specs.declared.Seen.{Seen}

@@ -18,11 +18,11 @@ use Rattle.landlord.proofs.Folds.{either}
 use Rattle.season_lines.specs.declared.Field.{Field}
 use Rattle.season_lines.specs.declared.Line.{Line}
 use Rattle.season_lines.specs.declared.Line.the-variants.{Sizes, Item as ItemLine, Step as StepLine, Act as ActLine, Refused}
-use Rattle.season_lines.specs.Fields.{split, fieldsOf}
-use Rattle.season_lines.specs.Lines.{itemFrom, lineIn}
+use Rattle.season_lines.specs.Lines.{split, fieldsOf, itemFrom, lineIn}
 use Rattle.season_lines.proofs.Laws.{and-parts}
 use Rattle.season_lines.proofs.Pieces.{line-refused}
-use Rattle.season_tables.specs.Tables.{Placed, Sofar, Led, on, stop, atStart, inTurn, takes, isSized, mayEnd, mustEnd, isBlank, heading, sameBytes, leads, atEnd, goesOn, readFrom, readingOf}
+use Rattle.season_tables.specs.Tables.{Placed, Sofar, Led, on, stop, atStart, inTurn, takes, mayEnd, mustEnd, heading, sameBytes, leads, atEnd, goesOn, readFrom, readingOf}
+use Rattle.season_tables.specs.Inner.{isBlank, isSized}
 use Rattle.season_tables.proofs.Sound.{split-few}
 
 -- one line, if the test says so

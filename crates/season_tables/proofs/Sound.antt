@@ -24,11 +24,11 @@ use Rattle.landlord.proofs.Ranges.{item-facts, catalog-ok, capacity-ok}
 use Rattle.season_lines.specs.declared.Field.{Field}
 use Rattle.season_lines.specs.declared.Line.{Line}
 use Rattle.season_lines.specs.declared.Line.the-variants.{Sizes, Item as ItemLine, Step as StepLine, Act as ActLine, Refused}
-use Rattle.season_lines.specs.Fields.{onto, split, fieldsOf}
-use Rattle.season_lines.specs.Lines.{itemFrom, lineIn}
+use Rattle.season_lines.specs.Lines.{onto, split, fieldsOf, itemFrom, lineIn}
 use Rattle.season_lines.proofs.Laws.{and-parts}
 use Rattle.season_lines.proofs.Pieces.{line-sizes, line-item, line-step, table-sizes, table-item, table-step, table-act}
-use Rattle.season_tables.specs.Tables.{Placed, Sofar, Led, on, stop, atStart, nowNamed, nextTable, withSizes, withItem, withStep, withAct, lastPlace, inTurn, takes, mayEnd, mustEnd, isBlank, heading, sameBytes, leads, atEnd, goesOn, readFrom, readingOf}
+use Rattle.season_tables.specs.Tables.{Placed, Sofar, Led, on, stop, atStart, nowNamed, nextTable, withSizes, withItem, withStep, withAct, inTurn, takes, mayEnd, mustEnd, heading, sameBytes, leads, atEnd, goesOn, readFrom, readingOf}
+use Rattle.season_tables.specs.Inner.{isBlank, lastPlace}
 use Rattle.season_tables.specs.InnerSound.{placedAt, Sound}
 
 -- what is claimed of a reading where it leads on

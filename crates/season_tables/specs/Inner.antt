@@ -1,26 +1,26 @@
 -- How the program holds what has been read: the sizes and counts in a struct, the catalog as bytes in one lent slice, the steps and
 -- acts as numbers in two; and what a line leaves of them as it was. Assumes nothing.
-use mathlib.Core.Path.{_≡_}
-use mathlib.Core.Bool.{Bool, true, false, cond, not, _&&_}
-use mathlib.Core.List.{List, [], _∷_, _++_, map}
+use lib.{ListN.{length, take, drop}, Dec.{eqb, leb}}
+use Rattle.landlord.specs.{Fold.fold, declared.{Step.Step, Refusal.{Refusal, the-variants.Heading}}, Types.{stepKind, stepItem, stepMinutes, actKind, actItem}}
+use mathlib.Core.{Bool.{Bool, true, false, cond, not, _&&_}, List.{List, [], _∷_, _++_, map}, Path._≡_}
+use Rattle.season_tables.specs.declared.{Seen.Seen, Scanned.Scanned, Verdict.{Verdict, the-variants.{Taken, Refused}}}
+use Rattle.season_tables.specs.Tables.{Placed, Sofar, Led, on, stop, mayEnd, mustEnd}
 use Prim.Native.Nat.{ℕ, _+_, _*_, _≤_}
-use lib.ListN.{length, take, drop}
-use lib.Dec.{eqb}
-use Rattle.landlord.specs.declared.Step.{Step}
-use Rattle.landlord.specs.declared.Refusal.{Refusal}
-use Rattle.landlord.specs.declared.Refusal.the-variants.{Heading}
-use Rattle.landlord.specs.Types.{stepKind, stepItem, stepMinutes, actKind, actItem}
 use Rattle.catalog_bytes.specs.Inner.{catalogOfFirst}
-use Rattle.season_lines.specs.declared.Field.{Field}
-use Rattle.season_lines.specs.declared.Line.{Line}
-use Rattle.season_lines.specs.declared.Line.the-variants.{Sizes, Item as ItemLine, Step as StepLine, Act as ActLine, Refused as RefusedLine}
-use Rattle.season_lines.specs.Fields.{fieldsOf}
-use Rattle.season_lines.specs.Inner.{heldField}
-use Rattle.season_tables.specs.declared.Seen.{Seen}
-use Rattle.season_tables.specs.declared.Scanned.{Scanned}
-use Rattle.season_tables.specs.declared.Verdict.{Verdict}
-use Rattle.season_tables.specs.declared.Verdict.the-variants.{Taken, Refused}
-use Rattle.season_tables.specs.Tables.{Placed, Sofar, Led, on, stop, lastPlace, mayEnd, mustEnd}
+use Rattle.season_lines.specs.declared.{Field.Field, Line.{Line, the-variants.{Sizes, Item as ItemLine, Step as StepLine, Act as ActLine, Refused as RefusedLine}}}
+use Rattle.season_lines.specs.{Lines.fieldsOf, Inner.heldField}
+
+-- a blank line
+abbrev pub isBlank : List ℕ → Bool
+isBlank l = eqb (length l) 0
+
+-- the place of the last act, 0 if there is none
+abbrev pub lastPlace : List Placed → ℕ
+lastPlace acts = fold (λ (p : ℕ) (a : Placed). a .place) 0 acts
+
+-- whether the one value line of `locker rival` is read
+abbrev pub isSized : ℕ → Bool
+isSized k = leb 1 k
 
 -- the steps as calls, four numbers each: 0, and then kind, item and minutes
 unfoldable pub callNumbers : List Step → List ℕ

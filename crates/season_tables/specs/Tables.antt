@@ -1,23 +1,13 @@
 -- The four tables of the text input, read line by line: the first faulty line decides. Paper 01, 'The text input' and 'When the
 -- library says no'. Assumes nothing.
-use mathlib.Core.Bool.{Bool, true, false, cond, _&&_}
-use mathlib.Core.List.{List, [], _∷_, _++_}
+use mathlib.Core.{Bool.{Bool, true, false, cond, _&&_}, List.{List, [], _∷_, _++_}}
 use Prim.Native.Nat.{ℕ, suc}
-use lib.ListN.{length}
-use lib.Dec.{leb, ltb, eqb}
-use Rattle.landlord.specs.declared.Step.{Step}
-use Rattle.landlord.specs.declared.Act.{Act}
-use Rattle.landlord.specs.declared.Refusal.{Refusal}
-use Rattle.landlord.specs.declared.Refusal.the-variants.{Malformed, Heading, OutOfSequence, PlanTooLarge, UnknownItem, ItemTooLarge, ActOutOfOrder}
-use Rattle.landlord.specs.Types.{actItem}
-use Rattle.landlord.specs.Fold.{fold}
-use Rattle.landlord.specs.Catalog.{Catalog}
-use Rattle.landlord.specs.Calls.{itemRefusal}
-use Rattle.report.specs.Words.{lockerWord, rivalWord, sailWord, blocksWord, loadWord, writeWord, stepWord, minutesWord, atWord, actWord, wordsOf}
-use Rattle.season_lines.specs.declared.Line.{Line}
-use Rattle.season_lines.specs.declared.Line.the-variants.{Sizes, Item as ItemLine, Step as StepLine, Act as ActLine, Refused}
-use Rattle.season_lines.specs.Fields.{split, fieldsOf}
-use Rattle.season_lines.specs.Lines.{itemFrom, lineIn}
+use lib.{ListN.length, Dec.{leb, ltb, eqb}}
+use Rattle.landlord.specs.declared.{Step.Step, Act.Act, Refusal.{Refusal, the-variants.{Malformed, Heading, OutOfSequence, PlanTooLarge, UnknownItem, ItemTooLarge, ActOutOfOrder}}}
+use Rattle.landlord.specs.{Types.actItem, Fold.fold, Catalog.Catalog, Calls.itemRefusal}
+use Rattle.decimal.specs.Decimal.{textOf}
+use Rattle.season_lines.specs.declared.Line.{Line, the-variants.{Sizes, Item as ItemLine, Step as StepLine, Act as ActLine, Refused}}
+use Rattle.season_lines.specs.Lines.{split, fieldsOf, itemFrom, lineIn}
 
 -- an act of the text: the 0-based step before which it stands, and what it does
 pub record Placed : Type 0 where
@@ -42,10 +32,10 @@ atStart = record { table = 0; named = false; k = 0; h = 0; catalog = []; steps =
 -- the names of each table
 unfoldable pub heading : ℕ → List ℕ
 heading table =
-    cond (eqb table 0) (wordsOf (lockerWord ∷ rivalWord ∷ []))
-    (cond (eqb table 1) (wordsOf (sailWord ∷ blocksWord ∷ loadWord ∷ writeWord ∷ []))
-    (cond (eqb table 2) (wordsOf (stepWord ∷ sailWord ∷ minutesWord ∷ []))
-    (wordsOf (atWord ∷ actWord ∷ sailWord ∷ []))))
+    cond (eqb table 0) (textOf "locker rival")
+    (cond (eqb table 1) (textOf "sail blocks load write")
+    (cond (eqb table 2) (textOf "step sail minutes")
+    (textOf "at act sail")))
 
 -- a line leads on, with what has been read then, or stops the reading
 pub data Led : Type 0 where
@@ -78,13 +68,9 @@ abbrev pub withAct : Sofar → ℕ → Act → Sofar
 withAct v place act =
     record { table = v .table; named = v .named; k = v .k; h = v .h; catalog = v .catalog; steps = v .steps; acts = v .acts ++ (record { place = place; act = act } ∷ []) }
 
--- the place of the last act, 0 if there is none
-abbrev pub lastPlace : List Placed → ℕ
-lastPlace acts = fold (λ (p : ℕ) (a : Placed). a .place) 0 acts
-
--- "10 out of turn: `at` falls, or is not below the number of steps"
+-- "10 out of turn: `at` falls, or is not below the number of steps"; before the first act it falls from 0
 abbrev pub inTurn : Sofar → ℕ → Bool
-inTurn v place = leb (lastPlace (v .acts)) place && ltb place (length (v .steps))
+inTurn v place = leb (fold (λ (p : ℕ) (a : Placed). a .place) 0 (v .acts)) place && ltb place (length (v .steps))
 
 -- 6 or 7, told on line n; 0 is neither
 abbrev pub unlessRefused : ℕ → ℕ → Sofar → Led
@@ -101,20 +87,13 @@ takes v (ActLine place act) n =
     (stop (ActOutOfOrder n))
 takes v (Refused r) n = stop r
 
--- whether the one value line of `locker rival` is read
-abbrev pub isSized : ℕ → Bool
-isSized k = leb 1 k
-
 -- whether a blank line may stand here: behind the one line of `locker rival`, and in the two tables after it
 abbrev pub mayEnd : ℕ → ℕ → Bool
-mayEnd table k = cond (eqb table 0) (isSized k) (ltb table 3)
+mayEnd table k = cond (eqb table 0) (leb 1 k) (ltb table 3)
 
 -- whether nothing else may: "A blank line due but not there is torn"
 abbrev pub mustEnd : ℕ → ℕ → Bool
-mustEnd table k = cond (eqb table 0) (isSized k) false
-
-abbrev pub isBlank : List ℕ → Bool
-isBlank l = eqb (length l) 0
+mustEnd table k = cond (eqb table 0) (leb 1 k) false
 
 unfoldable pub sameBytes : List ℕ → List ℕ → Bool
 sameBytes [] [] = true
@@ -126,7 +105,7 @@ sameBytes (x ∷ s) (y ∷ t) = eqb x y && sameBytes s t
 unfoldable pub leads : Sofar → List ℕ → ℕ → Led
 leads v l n =
     cond (v .named)
-    (cond (cond (isBlank l) (mayEnd (v .table) (v .k)) false) (on (nextTable v))
+    (cond (cond (eqb (length l) 0) (mayEnd (v .table) (v .k)) false) (on (nextTable v))
     (cond (mustEnd (v .table) (v .k)) (stop (Malformed n))
     (takes v (lineIn (v .table) (fieldsOf l) n) n)))
     (cond (sameBytes l (heading (v .table))) (on (nowNamed v)) (stop (Heading n)))
@@ -142,7 +121,7 @@ goesOn (stop r) next = stop r
 -- The lines from line n on. The last piece is what stands behind the last line feed: bytes there are a line without one.
 unfoldable pub readFrom : ℕ → List (List ℕ) → Sofar → Led
 readFrom n [] v = atEnd v n
-readFrom n (l ∷ []) v = cond (isBlank l) (atEnd v n) (stop (Malformed n))
+readFrom n (l ∷ []) v = cond (eqb (length l) 0) (atEnd v n) (stop (Malformed n))
 readFrom n (l ∷ m ∷ rest) v = goesOn (leads v l n) (readFrom (suc n) (m ∷ rest))
 
 -- what the text says, or the refusal of its first faulty line

@@ -12,8 +12,7 @@ use Rattle.landlord.specs.Plan.{Priced, costs, fault}
 use Rattle.season_tables.specs.Tables.{Sofar, Led, on, stop, readingOf}
 use Rattle.season_tables.proofs.Sound.{accepted-sound}
 use Rattle.season_plan.specs.Plans.{priceOf}
-use Rattle.season_text.specs.Answer.{Outcome, refused, reported, priced, readingOutcome, outcomeOf}
-use Rattle.season_text.specs.Claims.{Accepted}
+use Rattle.season_text.specs.Answer.{Outcome, refused, reported, priced, readingOutcome, outcomeOf, Accepted}
 use Rattle.season_text.proofs.Season.{calls-accepted, text-compared}
 
 -- what an outcome holds, told apart by its case

@@ -8,10 +8,11 @@ use native.Mathlib.Omega.{arith}
 use borrow.Author.Tests.{le-leb, lt-leb}
 use Rattle.landlord.specs.declared.Refusal.{Refusal}
 use Rattle.landlord.specs.declared.Refusal.the-variants.{InputTooLong}
-use Rattle.landlord.specs.Types.{refusalNumber, refusalLine}
+use Rattle.landlord.specs.Types.{Told, told}
+use Rattle.landlord.proofs.Refusals.{refused-some}
 use Rattle.landlord.specs.Figures.{Standing}
 use Rattle.landlord.specs.Plan.{faultRefusal, Priced, costs, fault}
-use Rattle.cache_state.specs.View.{view}
+use Rattle.cache_state.specs.Cache.{view}
 use Rattle.catalog_bytes.specs.Catalogs.{catalogIn}
 use Rattle.layout.specs.Layout.{cacheOf}
 use Rattle.report.specs.declared.Rival.the-variants.{Against}
@@ -31,14 +32,11 @@ use Rattle.season_plan.specs.declared.Price.{Price}
 use Rattle.season_plan.specs.declared.Price.the-variants.{Cost, Refused as Faulty}
 use Rattle.season_plan.specs.Plans.{faultLine, priceOf, PricedBy}
 use Rattle.season_plan.specs.Inner.{Priceable, PricedAs}
-use Rattle.season_text.specs.Answer.{Outcome, refused, reported, closedSeason, reportAgainst, priced, readingOutcome, outcomeOf, outcomeNumber, outcomeLine, outcomeLength, pageWith, TextAnswered, ReportFits}
-use Rattle.season_text.specs.Inner.{ClosedAt, Closes, Reportable, Reports}
+use Rattle.season_text.specs.Answer.{Outcome, refused, reported, closedSeason, reportAgainst, priced, readingOutcome, outcomeOf, TextAnswered}
+use Rattle.season_text.specs.Inner.{ClosedAt, Closes, Reportable, Reports, ReportFits}
 use Rattle.season_tables.proofs.Sound.{accepted-sound}
-use Rattle.season_plan.proofs.Costs.{fault-some}
-use Rattle.report.proofs.Answers.{refused-some}
 use Rattle.report.proofs.Longest.{no-longer}
 use Rattle.season_text.proofs.Season.{season-capacity}
-use Rattle.season_text.proofs.LineNumbers.{fault-told}
 
 -- an accepted text in the slices, of which the first has the bytes of its items alone
 pub record Reads (s : List ℕ) (x : Seen) (xs calls acts : List ℕ) : Type 0 where
@@ -143,33 +141,18 @@ reportable {acts = acts} r small =
 
 -- what `answer` ensures
 abbrev Tells : List ℕ → List ℕ → Written → List ℕ → Type 0
-Tells s page r after = TextAnswered s page r after × ReportFits (outcomeOf s)
+Tells s page r after = TextAnswered (outcomeOf s) page r after × ReportFits (outcomeOf s)
 
 -- it follows from the outcome: a refusal that leaves the page as it was, or a report put on it
-tells-refusal :
-    (s page : List ℕ) (x y : Refusal) → outcomeOf s ≡ refused y → refusalNumber x ≡ refusalNumber y → refusalLine x ≡ refusalLine y →
-    Tells s page (Refused x) page
-tells-refusal s page x y is n l = (
-  record {
-    answer = n ∙ ap (λ (o : Outcome). outcomeNumber o page) (sym is);
-    line = l ∙ ap outcomeLine (sym is);
-    size = ap (λ (o : Outcome). outcomeLength o page) (sym is);
-    page = ap (λ (o : Outcome). pageWith o page) (sym is);
-  },
-  subst ReportFits (sym is) tt,
-)
+tells-as : (s before after : List ℕ) (w : Written) {o : Outcome} → outcomeOf s ≡ o → TextAnswered o before w after × ReportFits o → Tells s before w after
+tells-as s before after w is h = subst (λ (o : Outcome). TextAnswered o before w after × ReportFits o) (sym is) h
+
+tells-refusal : (s page : List ℕ) (x y : Refusal) → outcomeOf s ≡ refused y → told x ≡ told y → Tells s page (Refused x) page
+tells-refusal s page x y is e = tells-as s page page (Refused x) is ((e, refl), tt)
 
 tells-report :
     (s before after : List ℕ) (w : Written) (t : List ℕ) → outcomeOf s ≡ reported t → Put t before w after → length t ≤ longest → Tells s before w after
-tells-report s before after w t is put few = (
-  record {
-    answer = put .answer ∙ ap (λ (o : Outcome). outcomeNumber o before) (sym is);
-    line = put .line ∙ ap outcomeLine (sym is);
-    size = put .size ∙ ap (λ (o : Outcome). outcomeLength o before) (sym is);
-    page = put .page ∙ ap (λ (o : Outcome). pageWith o before) (sym is);
-  },
-  subst ReportFits (sym is) few,
-)
+tells-report s before after w t is put few = tells-as s before after w is (put, few)
 
 long-outcome : (s : List ℕ) → 65536 < length s → outcomeOf s ≡ refused (InputTooLong 0)
 unfolding outcomeOf
@@ -177,7 +160,7 @@ long-outcome s l = rw (lt-leb (length s) 65536 l)
 
 -- "16 first"
 pub too-long : (s page : List ℕ) → 65536 < length s → Tells s page (Refused (InputTooLong 0)) page
-too-long s page l = tells-refusal s page (InputTooLong 0) (InputTooLong 0) (long-outcome s l) refl refl
+too-long s page l = tells-refusal s page (InputTooLong 0) (InputTooLong 0) (long-outcome s l) refl
 
 short-outcome : (s : List ℕ) (led : Led) → length s ≤ 65536 → readingOf s ≡ led → outcomeOf s ≡ readingOutcome led
 unfolding outcomeOf
@@ -196,7 +179,7 @@ line-refused s page r catalog calls acts x short leads e = go (readingOf s) refl
     go (on v) is l = absurd (not-taken x (sym e ∙ l .0))
     go (stop y) is l =
         let same : x ≡ y = ap stopOf (sym e ∙ l) in
-        tells-refusal s page x y (short-outcome s (stop y) short is) (ap refusalNumber same) (ap refusalLine same)
+        tells-refusal s page x y (short-outcome s (stop y) short is) (ap told same)
 
 -- the price of the plan of the text that the slices hold, for an answer that is known to be q
 priced-as :
@@ -217,11 +200,9 @@ pub plan-refused :
 plan-refused {s = s} page y short r h told = go (priceOf (r .text)) refl (priced-as r h told)
   where
     go : (p : Priced) → priceOf (r .text) ≡ p → PricedBy (r .text) p (Faulty y) → Tells s page (Refused y) page
-    go (costs c) is by = absurd (refused-some y (by .number))
+    go (costs c) is by = absurd (refused-some y (ap (λ (t : Told). t .number) (by .0)))
     go (fault f) is by =
-        let n : ℕ = faultLine (r .text) f in
-        tells-refusal s page y (faultRefusal f n) (short-outcome s (on (r .text)) short (r .reads) ∙ ap (priced (r .text)) is)
-        (by .number ∙ fault-told f n .0) (by .line ∙ fault-told f n .1)
+        tells-refusal s page y (faultRefusal f (faultLine (r .text) f)) (short-outcome s (on (r .text)) short (r .reads) ∙ ap (priced (r .text)) is) by
 
 -- else the report
 pub season-reported :
@@ -238,9 +219,9 @@ season-reported {s = s} {before = before} {acts = acts} {cost = cost} {w = w} {a
     go : (p : Priced) → priceOf (r .text) ≡ p → PricedBy (r .text) p (Cost cost) → Tells s before w after
     go (costs c) is by =
         let q : Put (reportAgainst (r .text) c) before w after × (length (reportAgainst (r .text) c) ≤ longest) =
-        subst (λ (z : ℕ). Put (reportAgainst (r .text) z) before w after × (length (reportAgainst (r .text) z) ≤ longest)) (by .cost) (put acts (r .text) (r .holds) (r .sound)) in
+        subst (λ (z : ℕ). Put (reportAgainst (r .text) z) before w after × (length (reportAgainst (r .text) z) ≤ longest)) (by .1) (put acts (r .text) (r .holds) (r .sound)) in
         tells-report s before after w (reportAgainst (r .text) c) (short-outcome s (on (r .text)) short (r .reads) ∙ ap (priced (r .text)) is) (q .0) (q .1)
-    go (fault f) is by = absurd (fault-some f (sym (by .number)))
+    go (fault f) is by = absurd (refused-some (faultRefusal f (faultLine (r .text) f)) (ap (λ (t : Told). t .number) (sym by)))
 
 -- the text's plan has 1 to k blocks
 pub plan-blocks : {x : Seen} {xs calls : List ℕ} {cost : ℕ} → Reportable x xs calls cost → (1 ≤ x .h) × (x .h ≤ x .k)

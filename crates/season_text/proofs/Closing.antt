@@ -13,15 +13,14 @@ use Rattle.landlord.specs.Calls.{Call, close, callOf}
 use Rattle.landlord.proofs.Folds.{tab-of}
 use Rattle.landlord.proofs.Ranges.{opening-accepts}
 use Rattle.catalog_bytes.specs.Catalogs.{catalogIn}
-use Rattle.cache.specs.Contract.{lent, openingNumber}
-use Rattle.cache.specs.Chain.{Season, SeasonLent}
-use Rattle.cache.specs.Run.{callFrom, callAt, callsOf, RanLent}
+use Rattle.cache.specs.Contract.{lent, openingNumber, Season, SeasonLent, callsOf, RanLent}
+use Rattle.cache.specs.Inner.{callAt, callFrom}
 use Rattle.cache.proofs.Openings.{asks}
 use Rattle.cache.proofs.Runs.{count-is, call-at}
 use Rattle.season_tables.specs.declared.Seen.{Seen}
 use Rattle.season_tables.specs.Inner.{callNumbers}
 use Rattle.season_plan.proofs.Places.{catalog-is}
-use Rattle.season_text.specs.Claims.{callsIn}
+use Rattle.season_text.specs.Answer.{callsIn}
 use Rattle.season_text.specs.Inner.{Closable, Closes}
 use Rattle.season_text.proofs.Season.{text-stands}
 

@@ -1,5 +1,5 @@
 -- A refusal of a text names a line of the text, or the one behind its last. Assumes nothing.
-use mathlib.Core.Path.{_≡_, refl, subst}
+use mathlib.Core.Path.{_≡_, refl, sym, ap, subst}
 use mathlib.Core.Bool.{Bool, true, false, cond}
 use mathlib.Core.List.{List}
 use Prim.Native.Nat.{ℕ, _+_, _≤_}
@@ -9,21 +9,15 @@ use lib.Dec.{leb}
 use borrow.Author.Tests.{leb-true}
 use Rattle.landlord.specs.declared.Refusal.{Refusal}
 use Rattle.landlord.specs.declared.Refusal.the-variants.{InputTooLong}
-use Rattle.landlord.specs.Types.{refusalNumber, refusalLine}
-use Rattle.landlord.specs.Plan.{Fault, unknownItem, notHeld, alreadyHeld, requestNotHeld, overCapacity, faultRefusal, faultNumber, Priced, costs, fault}
+use Rattle.landlord.specs.Types.{Told, refusalLine}
+use Rattle.landlord.proofs.Refusals.{fault-tells}
+use Rattle.landlord.specs.Plan.{Priced, costs, fault}
 use Rattle.season_tables.specs.Tables.{Sofar, Led, on, stop, readingOf}
 use Rattle.season_tables.proofs.LineNumbers.{stop-line}
 use Rattle.season_plan.specs.Plans.{faultLine, priceOf}
 use Rattle.season_plan.proofs.FaultLines.{fault-line}
-use Rattle.season_text.specs.Answer.{Outcome, refused, priced, readingOutcome, outcomeOf, outcomeLine}
-
--- a fault's refusal has the fault's number, and names the line on which it is told
-pub fault-told : (f : Fault) (n : ℕ) → (faultNumber f ≡ refusalNumber (faultRefusal f n)) × (n ≡ refusalLine (faultRefusal f n))
-fault-told (unknownItem s a i) n = (refl, refl)
-fault-told (notHeld s a i) n = (refl, refl)
-fault-told (alreadyHeld s a i) n = (refl, refl)
-fault-told (requestNotHeld s i) n = (refl, refl)
-fault-told (overCapacity s) n = (refl, refl)
+use Rattle.season_text.specs.Answer.{Outcome, refused, priced, readingOutcome, outcomeOf}
+use Rattle.season_text.specs.Inner.{outcomeLine}
 
 -- there are no more line feeds than bytes, and no text of more than 65,536 bytes is read
 lines-few : (s : List ℕ) → (outcomeLine (outcomeOf s) ≤ length s + 1) × (outcomeLine (outcomeOf s) ≤ 65537)
@@ -32,7 +26,7 @@ lines-few s = whole (leb (length s) 65536) refl (readingOutcome (readingOf s)) (
   where
     price : (v : Sofar) → readingOf s ≡ on v → (p : Priced) → priceOf v ≡ p → outcomeLine (priced v p) ≤ length s + 1
     price v is (costs c) at = omega arith
-    price v is (fault f) at = subst (λ (n : ℕ). n ≤ length s + 1) (fault-told f (faultLine v f) .1) (fault-line s v f is at)
+    price v is (fault f) at = subst (λ (n : ℕ). n ≤ length s + 1) (ap (λ (t : Told). t .line) (sym (fault-tells f (faultLine v f)))) (fault-line s v f is at)
 
     reading : (led : Led) → readingOf s ≡ led → outcomeLine (readingOutcome led) ≤ length s + 1
     reading (on v) is = price v is (priceOf v) refl

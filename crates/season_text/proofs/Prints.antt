@@ -8,28 +8,29 @@ use lib.ListN.{length, drop}
 use borrow.Author.Tests.{le-leb}
 use Rattle.landlord.specs.declared.Refusal.{Refusal}
 use Rattle.landlord.specs.declared.Refusal.the-variants.{ShortBuffer}
-use Rattle.landlord.specs.Types.{refusalNumber, refusalLine}
+use Rattle.landlord.specs.Types.{Told, telling, nothingTold, told}
 use Rattle.decimal.specs.Decimal.{fits, wroteOf, pageOf}
 use Rattle.decimal.proofs.Laws.{wrote-all, wrote-fits, page-all, page-length}
 use Rattle.report.specs.declared.Written.{Written}
 use Rattle.report.specs.declared.Written.the-variants.{Text, Refused}
-use Rattle.report.specs.Report.{refusalText, writtenNumber, writtenLine, writtenLength, Put, longest}
-use Rattle.report.proofs.Answers.{refusal-one, refused-some}
+use Rattle.report.specs.Report.{refusalText, writtenLength, Put, longest}
+use Rattle.landlord.proofs.Refusals.{refusal-one, refused-some}
 use Rattle.report.proofs.Longest.{refusal-no-longer}
-use Rattle.season_text.specs.Answer.{Outcome, refused, reported, outcomeOf, outcomeNumber, outcomeLine, outcomeLength, pageWith, TextAnswered, ReportFits, printedOn, outputOf, Printed}
+use Rattle.season_text.specs.Answer.{Outcome, refused, reported, outcomeOf, TextAnswered, printedOn, outputOf, Printed}
+use Rattle.season_text.specs.Inner.{ReportFits}
 use Rattle.season_text.proofs.LineNumbers.{refusal-few}
 
 -- ## Which text it is
 
 -- the report was put on the page
-text-fits : (b : Bool) → _≡_ {A = ℕ} 0 (cond b 0 15) → b ≡ true
+text-fits : (b : Bool) → nothingTold ≡ telling (cond b 0 15) 0 → b ≡ true
 text-fits true e = refl
-text-fits false e = absurd (omega arith)
+text-fits false e = absurd (let n : _≡_ {A = ℕ} 0 15 = ap (λ (t : Told). t .number) e in omega (arith, n))
 
 -- or there was no room for it: 15
-text-short : (b : Bool) (x : Refusal) → refusalNumber x ≡ cond b 0 15 → refusalLine x ≡ 0 → (b ≡ false) × (x ≡ ShortBuffer 0)
-text-short true x a l = absurd (refused-some x a)
-text-short false x a l = (refl, refusal-one x (ShortBuffer 0) a l)
+text-short : (b : Bool) (x : Refusal) → told x ≡ telling (cond b 0 15) 0 → (b ≡ false) × (x ≡ ShortBuffer 0)
+text-short true x e = absurd (refused-some x (ap (λ (t : Told). t .number) e))
+text-short false x e = (refl, refusal-one x (ShortBuffer 0) e)
 
 -- ## A page as long as the longest report
 
@@ -74,45 +75,39 @@ on-page s before after t n f is e p = (
 -- the report
 pub prints-report :
     (s before after : List ℕ) (r : Written) (n : ℕ) →
-    TextAnswered s before r after →
+    TextAnswered (outcomeOf s) before r after →
     ReportFits (outcomeOf s) →
     r ≡ Text n →
     Printed s before n after × (n ≤ length after)
-prints-report s before after r n h f e =
-    go (outcomeOf s) refl (ap writtenNumber (sym e) ∙ h .answer) (ap writtenLength (sym e) ∙ h .size) (h .page)
+prints-report s before after r n h f e = go (outcomeOf s) refl (subst (λ (w : Written). TextAnswered (outcomeOf s) before w after) e h)
   where
-    go :
-        (o : Outcome) → outcomeOf s ≡ o → _≡_ {A = ℕ} 0 (outcomeNumber o before) → n ≡ outcomeLength o before → after ≡ pageWith o before →
-        Printed s before n after × (n ≤ length after)
-    go (refused x) is a z p = absurd (refused-some x (sym a))
-    go (reported t) is a z p =
+    go : (o : Outcome) → outcomeOf s ≡ o → TextAnswered o before (Text n) after → Printed s before n after × (n ≤ length after)
+    go (refused x) is a = absurd (refused-some x (ap (λ (t : Told). t .number) (sym (a .0))))
+    go (reported t) is p =
         on-page s before after t n f
-        (ap (λ (o : Outcome). printedOn o before) is ∙ ap (λ (b : Bool). cond b t (refusalText (ShortBuffer 0))) (text-fits (fits t before) a))
-        z p
+        (ap (λ (o : Outcome). printedOn o before) is ∙ ap (λ (b : Bool). cond b t (refusalText (ShortBuffer 0))) (text-fits (fits t before) (p .tells)))
+        (p .size) (p .page)
 
 -- the refusal of a text, on a page that is as before
 refused-page :
     (s before middle : List ℕ) (r : Written) (x : Refusal) →
-    TextAnswered s before r middle →
+    TextAnswered (outcomeOf s) before r middle →
     r ≡ Refused x →
     (middle ≡ before) × (printedOn (outcomeOf s) before ≡ refusalText x)
-refused-page s before middle r x h e =
-    go (outcomeOf s) refl (ap writtenNumber (sym e) ∙ h .answer) (ap writtenLine (sym e) ∙ h .line) (h .page)
+refused-page s before middle r x h e = go (outcomeOf s) refl (subst (λ (w : Written). TextAnswered (outcomeOf s) before w middle) e h)
   where
-    go :
-        (o : Outcome) → outcomeOf s ≡ o → refusalNumber x ≡ outcomeNumber o before → refusalLine x ≡ outcomeLine o → middle ≡ pageWith o before →
-        (middle ≡ before) × (printedOn (outcomeOf s) before ≡ refusalText x)
-    go (refused y) is a l p = (p, ap (λ (o : Outcome). printedOn o before) is ∙ ap refusalText (sym (refusal-one x y a l)))
-    go (reported t) is a l p =
-        let short = text-short (fits t before) x a l in (
-          p ∙ unfold pageOf in ap (λ (b : Bool). cond b (t ++ drop (length t) before) before) (short .0),
+    go : (o : Outcome) → outcomeOf s ≡ o → TextAnswered o before (Refused x) middle → (middle ≡ before) × (printedOn (outcomeOf s) before ≡ refusalText x)
+    go (refused y) is a = (a .1, ap (λ (o : Outcome). printedOn o before) is ∙ ap refusalText (sym (refusal-one x y (a .0))))
+    go (reported t) is p =
+        let short = text-short (fits t before) x (p .tells) in (
+          p .page ∙ unfold pageOf in ap (λ (b : Bool). cond b (t ++ drop (length t) before) before) (short .0),
           ap (λ (o : Outcome). printedOn o before) is ∙ ap (λ (b : Bool). cond b t (refusalText (ShortBuffer 0))) (short .0) ∙ ap refusalText (sym (short .1)),
         )
 
 -- the refusal's number and line, as far as there is room
 pub prints-refusal :
     (s before middle after : List ℕ) (r w : Written) (x : Refusal) →
-    TextAnswered s before r middle →
+    TextAnswered (outcomeOf s) before r middle →
     ReportFits (outcomeOf s) →
     r ≡ Refused x →
     Put (refusalText x) middle w after →

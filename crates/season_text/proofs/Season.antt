@@ -23,16 +23,15 @@ use Rattle.landlord.proofs.Calls.{allowed-logged}
 use Rattle.landlord.proofs.Logs.{all-served, ran-stands, closes-stands}
 use Rattle.landlord.proofs.Competitive.{competitive-bound}
 use Rattle.landlord.proofs.Ranges.{opening-accepts}
-use Rattle.cache_state.specs.View.{view}
+use Rattle.cache_state.specs.Cache.{view}
 use Rattle.layout.specs.Layout.{cacheOf}
-use Rattle.cache.specs.Contract.{lent}
-use Rattle.cache.specs.Chain.{Season}
+use Rattle.cache.specs.Contract.{lent, Season}
 use Rattle.cache.proofs.Season.{season-lent}
 use Rattle.season_tables.specs.Tables.{Sofar}
 use Rattle.season_tables.specs.InnerSound.{Sound}
-use Rattle.season_plan.specs.Plans.{planOf, priceOf}
-use Rattle.season_text.specs.Answer.{closedSeason}
-use Rattle.season_text.specs.Claims.{callsIn, AllAccepted, Compared}
+use Rattle.season_plan.specs.Plans.{priceOf}
+use Rattle.season_plan.specs.Inner.{planOf}
+use Rattle.season_text.specs.Answer.{closedSeason, callsIn, AllAccepted, Compared}
 
 -- call i is step i
 call-at-step : (steps : List Step) (i : ℕ) → i < length steps → getD (map callOf steps ++ (close ∷ [])) i close ≡ callOf (getD steps i Flush)

@@ -1,23 +1,16 @@
--- What the office answers to a text: a refusal, or the report of the closed season against the text's plan. Paper 01, 'The text
--- input' and 'When the library says no'. Assumes nothing.
-use mathlib.Core.Path.{_≡_}
-use mathlib.Core.Bool.{cond}
-use mathlib.Core.List.{List, _++_}
-use Prim.Native.Nat.{ℕ, _≤_}
-use lib.ListN.{length, drop}
-use lib.Dec.{leb}
-use Rattle.landlord.specs.declared.Refusal.{Refusal}
-use Rattle.landlord.specs.declared.Refusal.the-variants.{InputTooLong, ShortBuffer}
-use Rattle.landlord.specs.Types.{refusalNumber, refusalLine}
-use Rattle.landlord.specs.Slot.{writeFirst}
-use Rattle.landlord.specs.Figures.{Standing, season}
-use Rattle.landlord.specs.Plan.{faultRefusal, Priced, costs, fault}
+-- What the office answers to a text: a refusal, or the report of the closed season against the text's plan; and what is claimed of every
+-- accepted text. Paper 01, 'The text input', 'When the library says no' and 'The season as one list'. Assumes nothing.
+use mathlib.Core.{Path._≡_, Bool.cond, List.{List, _++_, [], _∷_, map}}
+use Prim.Native.Nat.{ℕ, _≤_, _<_}
+use lib.{ListN.{length, drop, getD, take}, Dec.leb}
+use Rattle.landlord.specs.declared.Refusal.{Refusal, the-variants.{InputTooLong, ShortBuffer}}
+use Rattle.landlord.specs.{Types.told, Slot.writeFirst, Figures.{Standing, season, totalCost, leftSide, rightSide}, Plan.{faultRefusal, Priced, costs, fault}, Calls.{Call, close, callOf, openingRefusal, refusal}}
 use Rattle.decimal.specs.Decimal.{fits, wroteOf, pageOf}
-use Rattle.report.specs.declared.Rival.the-variants.{Against}
-use Rattle.report.specs.declared.Written.{Written}
-use Rattle.report.specs.Report.{reportOf, refusalText, writtenNumber, writtenLine, writtenLength, longest}
+use Rattle.report.specs.{declared.{Rival.the-variants.Against, Written.Written}, Report.{reportOf, refusalText, writtenTold, Put, longest}}
 use Rattle.season_tables.specs.Tables.{Sofar, Led, on, stop, readingOf}
 use Rattle.season_plan.specs.Plans.{faultLine, priceOf}
+use Rattle.catalog_bytes.specs.Catalogs.{catalogIn}
+use Rattle.cache.specs.Contract.{lent, ChainLent}
 
 -- where the rule stands over the text's steps; "The program closes the log itself"
 abbrev pub closedSeason : Sofar → Standing
@@ -46,37 +39,10 @@ readingOutcome (stop r) = refused r
 unfoldable pub outcomeOf : List ℕ → Outcome
 outcomeOf s = cond (leb (length s) 65536) (readingOutcome (readingOf s)) (refused (InputTooLong 0))
 
--- the answer's number on a page: "In text 15 is last"
-abbrev pub outcomeNumber : Outcome → List ℕ → ℕ
-outcomeNumber (refused r) page = refusalNumber r
-outcomeNumber (reported t) page = cond (fits t page) 0 15
-
--- the line that it names
-abbrev pub outcomeLine : Outcome → ℕ
-outcomeLine (refused r) = refusalLine r
-outcomeLine (reported t) = 0
-
--- how many bytes are written: those of a report that fits
-abbrev pub outcomeLength : Outcome → List ℕ → ℕ
-outcomeLength (refused r) page = 0
-outcomeLength (reported t) page = wroteOf t page
-
--- and the page: as before if refused, else the report at its start
-abbrev pub pageWith : Outcome → List ℕ → List ℕ
-pageWith (refused r) page = page
-pageWith (reported t) page = pageOf t page
-
--- the answer to a text
-pub record TextAnswered (s before : List ℕ) (r : Written) (after : List ℕ) : Type 0 where
-  pub answer : writtenNumber r ≡ outcomeNumber (outcomeOf s) before
-  pub line : writtenLine r ≡ outcomeLine (outcomeOf s)
-  pub size : writtenLength r ≡ outcomeLength (outcomeOf s) before
-  pub page : after ≡ pageWith (outcomeOf s) before
-
--- No report is longer than the page of the program: 15 is never told there.
-abbrev pub ReportFits : Outcome → Type 0
-ReportFits (refused r) = Unit {0}
-ReportFits (reported t) = length t ≤ longest
+-- The answer to a text: the refusal is told, with every byte of the page as before; or the report is put on the page, where "15 is last".
+abbrev pub TextAnswered : Outcome → List ℕ → Written → List ℕ → Type 0
+TextAnswered (refused x) before r after = (writtenTold r ≡ told x) × (after ≡ before)
+TextAnswered (reported t) before r after = Put t before r after
 
 -- what is printed: the report, or the refusal's number and line; of a report that the page has no room for, 15
 abbrev pub printedOn : Outcome → List ℕ → List ℕ
@@ -96,3 +62,35 @@ pub record Printed (s before : List ℕ) (r : ℕ) (after : List ℕ) : Type 0 w
   pub whole :
       longest ≤ length before →
       (r ≡ length (outputOf (outcomeOf s))) × (after ≡ outputOf (outcomeOf s) ++ drop (length (outputOf (outcomeOf s))) before)
+
+-- ---- what is claimed of every accepted text: "The steps of an accepted text, with its closing, are such a list"
+
+-- the calls made of its steps, and one closing
+abbrev pub callsIn : Sofar → List Call
+callsIn v = map callOf (v .steps) ++ (close ∷ [])
+
+-- the opening and each of these calls is accepted
+pub record AllAccepted (v : Sofar) : Type 0 where
+  pub opening : openingRefusal (v .k) (v .catalog) ≡ 0
+  pub each : (i : ℕ) → i < length (callsIn v) → refusal (v .k) (v .catalog) (take i (callsIn v)) (getD (callsIn v) i close) ≡ 0
+
+-- The figures reported are those of the state that any chain of these calls ends in, from any bytes of the same catalog, of which the
+-- season theorem speaks; the capacity reported is the text's; and left is at most right.
+pub record Compared (v : Sofar) (cost : ℕ) : Type 0 where
+  pub figures :
+      (xs numbers d : List ℕ) →
+      catalogIn xs ≡ v .catalog →
+      ChainLent (v .k) xs (callsIn v) numbers d →
+      lent .view d ≡ closedSeason v
+  pub capacity : closedSeason v .k ≡ v .k
+  pub bound : leftSide (closedSeason v .k) (v .h) (totalCost (closedSeason v .figures)) ≤ rightSide (closedSeason v .k) cost
+
+-- What a report stands for: the text was accepted and its plan costs so much, the report is of these, and both claims hold of them.
+pub record Accepted (s t : List ℕ) : Type 0 where
+  pub text : Sofar
+  pub cost : ℕ
+  pub reads : readingOf s ≡ on text
+  pub price : priceOf text ≡ costs cost
+  pub report : t ≡ reportAgainst text cost
+  pub calls : AllAccepted text
+  pub compared : Compared text cost

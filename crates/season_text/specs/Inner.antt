@@ -1,19 +1,23 @@
 -- What the inner functions ask and give. Assumes nothing.
-use mathlib.Core.Path.{_≡_}
-use mathlib.Core.List.{List}
+use mathlib.Core.{Path._≡_, List.List}
 use Prim.Native.Nat.{ℕ, _*_, _≤_}
 use lib.ListN.{length}
-use Rattle.cache_state.specs.View.{view}
-use Rattle.landlord.specs.Figures.{Standing}
-use Rattle.layout.specs.Layout.{stateBytes, cacheOf}
-use Rattle.layout.specs.Valid.{ValidBytes}
-use Rattle.report.specs.declared.Written.{Written}
-use Rattle.report.specs.Report.{Put, longest}
-use Rattle.season_tables.specs.declared.Seen.{Seen}
-use Rattle.season_tables.specs.Tables.{Sofar}
-use Rattle.season_tables.specs.Inner.{Holds}
-use Rattle.season_tables.specs.InnerSound.{Sound}
-use Rattle.season_text.specs.Answer.{closedSeason, reportAgainst}
+use Rattle.cache_state.specs.Cache.{view}
+use Rattle.landlord.specs.{Types.refusalLine, Figures.Standing}
+use Rattle.layout.specs.Layout.{stateBytes, cacheOf, ValidBytes}
+use Rattle.report.specs.{declared.Written.Written, Report.{Put, longest}}
+use Rattle.season_tables.specs.{declared.Seen.Seen, Tables.Sofar, Inner.Holds, InnerSound.Sound}
+use Rattle.season_text.specs.Answer.{Outcome, refused, reported, closedSeason, reportAgainst}
+
+-- the line that an outcome names
+abbrev pub outcomeLine : Outcome → ℕ
+outcomeLine (refused r) = refusalLine r
+outcomeLine (reported t) = 0
+
+-- no report is longer than the page of the program: 15 is never told there
+abbrev pub ReportFits : Outcome → Type 0
+ReportFits (refused r) = Unit {0}
+ReportFits (reported t) = length t ≤ longest
 
 -- valid bytes where the rule stands
 pub record ClosedAt (v : Standing) (b : List ℕ) : Type 0 where

@@ -1,4 +1,3 @@
 -- The definitions that the contracts of `season_text` cite. Assumes nothing.
 pub mod Answer
-pub mod Claims
 pub mod Inner

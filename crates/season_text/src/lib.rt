@@ -1,8 +1,8 @@
 // A season's text to its report: the tables are read, the plan is priced, the season is run and closed, and the report is written.
 ghost use Prim.Native.Nat.{_≤_};
 ghost use lib.ListN.{length};
-ghost use Rattle.season_text.specs.Answer.{outcomeOf, TextAnswered, ReportFits, Printed};
-ghost use Rattle.season_text.specs.Inner.{Closable, Closes, Reportable, Reports};
+ghost use Rattle.season_text.specs.Answer.{outcomeOf, TextAnswered, Printed};
+ghost use Rattle.season_text.specs.Inner.{Closable, Closes, Reportable, Reports, ReportFits};
 use landlord::Refusal;
 use report::Rival;
 use report::Written;
@@ -46,7 +46,7 @@ fn report_season(
 
 // The answer to a text: refused, with every byte of the page as before; or accepted, with its report at the start of the page.
 pub fn answer(text: &[u8], page: &mut [u8]) -> Written
-    ensures { λ r. ⌜ TextAnswered (now (text .entry)) (now (page .entry)) r (now (page .exit)) ⌝ }
+    ensures { λ r. ⌜ TextAnswered (outcomeOf (now (text .entry))) (now (page .entry)) r (now (page .exit)) ⌝ }
     ensures { λ _. ⌜ ReportFits (outcomeOf (now (text .entry))) ⌝ }
 {
     if 65536 < text.len() {

@@ -1,10 +1,8 @@
 -- What each test decides, on the numbers that it is handed: a field for each sentence of paper 01's rule for a foul locker
 -- (refusal 17) that it looks at. The crates above say of what these are the numbers. Assumes nothing.
-use mathlib.Core.Path.{_≡_}
-use mathlib.Core.Bool.{Bool, true, false}
+use mathlib.Core.{Path._≡_, Bool.{Bool, true, false}}
 use Prim.Native.Nat.{ℕ, _+_, _*_, _≤_, _∣_}
-use Rattle.landlord.specs.Catalog.{full}
-use Rattle.landlord.specs.Figures.{Totals}
+use Rattle.landlord.specs.{Catalog.full, Figures.Totals}
 
 -- a credit is a multiple of the item's blocks, and at most its cost in shares
 pub record CreditOk (blocks cost credit : ℕ) : Type 0 where

@@ -1,10 +1,9 @@
 // The tests of which the check of a cache is made, on plain numbers: of one item, of the totals and of the sums over the items.
 // They take any values: nothing is divided by the blocks of an item before they are known to be some, and every sum and
 // product of counts is made in 64 bits, where it cannot wrap.
-ghost use mathlib.Core.Path.{_≡_};
 ghost use Prim.Native.Nat.{_≤_};
 ghost use Rattle.landlord.specs.Figures.{totalsOf};
-ghost use Rattle.validity.specs.Decided.{Decided};
+ghost use Rattle.validity.specs.InnerDecided.{Decided};
 ghost use Rattle.validity.specs.Inner.{CreditOk, MarksOk, EntryOk, CountsOk, SumsOk};
 
 // Whether a credit is a multiple of the item's blocks, and no more than the cost in shares.

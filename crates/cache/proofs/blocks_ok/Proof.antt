@@ -3,13 +3,15 @@ use mathlib.Core.Path.{_≡_}
 use Prim.Native.Nat.{_≤_, _-_}
 use native.Mathlib.Omega.{arith}
 use Rattle.validity.proofs.Decides.{no, sure}
-use Rattle.cache.specs.Inner.{BlocksIn}
-use Rattle.cache.proofs.Openings.{has-item, no-blocks, more-blocks, blocks-low, blocks-high}
+use Rattle.catalog_bytes.specs.Catalogs.{itemIn}
+use Rattle.cache.specs.Inner.{BlocksOk}
+use Rattle.cache.proofs.Blocks.{no-blocks, more-blocks, blocks-low, blocks-high}
+use Rattle.cache.proofs.Openings.{has-item}
 use Rattle.cache.proofs.blocks_ok.Statement.{statement}
 use Rattle.cache.proofs.blocks_ok.Tie as tie
 
 abbrev Inv-loop : tie.InvT-loop
-Inv-loop catalog n i₀ i = (i ≤ n) × BlocksIn i catalog
+Inv-loop catalog n i₀ i = (i ≤ n) × BlocksOk i (λ j. itemIn catalog j .blocks)
 
 abbrev μ-loop : tie.MeasureT-loop
 μ-loop catalog n i₀ i = n - i

@@ -1,6 +1,6 @@
 -- `cache::run` meets its contract: the season theorem of its arguments. Assumes nothing.
 use borrow.Author.Needs.{needs}
-use Rattle.cache.specs.Run.{callsOf}
+use Rattle.cache.specs.Contract.{callsOf}
 use Rattle.cache.proofs.Runs.{run-refused, run-taken}
 use Rattle.cache.proofs.run.Statement.{statement}
 use Rattle.cache.proofs.run.Tie as tie

@@ -5,8 +5,7 @@ use native.Mathlib.Omega.{arith}
 use lib.ListN.{length}
 use lib.Seq.{length-sets}
 use borrow.Author.Needs.{needs}
-use Rattle.cache.specs.Contract.{lent}
-use Rattle.cache.specs.Run.{callsOf}
+use Rattle.cache.specs.Contract.{lent, callsOf}
 use Rattle.cache.proofs.Runs.{count-is, call-at, CallsGoing, going-starts, going-on, going-ends}
 use Rattle.cache.proofs.run_calls.Statement.{statement}
 use Rattle.cache.proofs.run_calls.Tie as tie

@@ -8,7 +8,8 @@ use Rattle.fields.specs.Inner.{Below}
 use Rattle.fields.proofs.Laws.{unrun-lt, below-drop}
 use Rattle.validity.proofs.Decides.{no, denied, granted}
 use Rattle.cache_state.proofs.Checks.{Costs, parts-of, valid-of}
-use Rattle.layout.specs.Layout.{cacheOf, atItemLoadCosts, atItemWriteCosts}
+use Rattle.layout.specs.Layout.{cacheOf}
+use Rattle.layout.specs.InnerRows.{atItemLoadCosts, atItemWriteCosts}
 use Rattle.cache_check.proofs.cache_ok.Statement.{statement}
 use Rattle.cache_check.proofs.cache_ok.Tie as tie
 

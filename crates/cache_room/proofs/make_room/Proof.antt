@@ -5,7 +5,7 @@ use Prim.Native.Nat.{_+_, _≤_, _<_}
 use native.Mathlib.Omega.{arith}
 use borrow.Author.Needs.{needs}
 use Rattle.landlord.specs.Rule.{heldCount}
-use Rattle.cache_state.specs.View.{stateOf}
+use Rattle.cache_state.specs.InnerView.{stateOf}
 use Rattle.layout.specs.Layout.{cacheOf}
 use Rattle.layout.specs.Inner.{Readable}
 use Rattle.layout.proofs.Places.{valid-reads}

@@ -2,14 +2,15 @@
 use mathlib.Core.Path.{_≡_}
 use Prim.Native.Nat.{_≤_, _-_}
 use native.Mathlib.Omega.{arith}
+use lib.ListN.{getD}
 use Rattle.validity.proofs.Decides.{no, sure}
-use Rattle.cache_value.specs.Inner.{BlocksOk}
-use Rattle.cache_value.proofs.Openings.{no-blocks, more-blocks, blocks-low, blocks-high}
+use Rattle.cache.specs.Inner.{BlocksOk}
+use Rattle.cache.proofs.Blocks.{no-blocks, more-blocks, blocks-low, blocks-high}
 use Rattle.cache_value.proofs.blocks_ok.Statement.{statement}
 use Rattle.cache_value.proofs.blocks_ok.Tie as tie
 
 abbrev Inv-loop : tie.InvT-loop
-Inv-loop n blocks i₀ i = (i ≤ n) × BlocksOk i blocks
+Inv-loop n blocks i₀ i = (i ≤ n) × BlocksOk i (λ j. getD blocks j 0)
 
 abbrev μ-loop : tie.MeasureT-loop
 μ-loop n blocks i₀ i = n - i

@@ -2,8 +2,8 @@
 use native.Mathlib.Omega.{arith}
 use borrow.Author.Needs.{needs}
 use Rattle.layout.proofs.Places.{stands}
-use Rattle.cache.specs.Run.{callsOf}
-use Rattle.cache_value.proofs.Openings.{opening-number}
+use Rattle.cache.specs.Contract.{callsOf}
+use Rattle.cache_value.proofs.Answers.{opening-number}
 use Rattle.cache_value.proofs.Runs.{run-refused, run-taken}
 use Rattle.cache_value.proofs.Calls.{valid-there}
 use Rattle.cache_value.proofs.run.Statement.{statement}

@@ -2,7 +2,7 @@
 use mathlib.Core.Path.{sym}
 use native.Mathlib.Omega.{arith}
 use borrow.Author.Needs.{needs}
-use Rattle.layout.specs.Layout.{atHeld}
+use Rattle.layout.specs.InnerRows.{atHeld}
 use Rattle.layout.proofs.Places.{flag-at}
 use Rattle.layout.proofs.held.Statement.{statement}
 use Rattle.layout.proofs.held.Tie as tie

@@ -3,7 +3,7 @@ use Prim.Native.Nat.{_/_}
 use native.Mathlib.Omega.{arith}
 use borrow.Author.Needs.{needs}
 use Rattle.marks.specs.Marks.{bit, marked}
-use Rattle.layout.specs.Layout.{atDirty}
+use Rattle.layout.specs.InnerRows.{atDirty}
 use Rattle.layout.proofs.Places.{number-at}
 use Rattle.layout.proofs.is_dirty.Statement.{statement}
 use Rattle.layout.proofs.is_dirty.Tie as tie

@@ -1,7 +1,7 @@
 -- `layout::item_load_cost` meets its contract: one number of a run is the number at its place. Assumes nothing.
 use native.Mathlib.Omega.{arith}
 use borrow.Author.Needs.{needs}
-use Rattle.layout.specs.Layout.{atItemLoadCosts}
+use Rattle.layout.specs.InnerRows.{atItemLoadCosts}
 use Rattle.layout.proofs.Places.{number-at}
 use Rattle.layout.proofs.item_load_cost.Statement.{statement}
 use Rattle.layout.proofs.item_load_cost.Tie as tie

@@ -1,7 +1,7 @@
 -- `layout::item_loads` meets its contract: one number of a run is the number at its place. Assumes nothing.
 use native.Mathlib.Omega.{arith}
 use borrow.Author.Needs.{needs}
-use Rattle.layout.specs.Layout.{atItemLoads}
+use Rattle.layout.specs.InnerRows.{atItemLoads}
 use Rattle.layout.proofs.Places.{number-at}
 use Rattle.layout.proofs.item_loads.Statement.{statement}
 use Rattle.layout.proofs.item_loads.Tie as tie

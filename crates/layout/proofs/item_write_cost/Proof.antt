@@ -1,7 +1,7 @@
 -- `layout::item_write_cost` meets its contract: one number of a run is the number at its place. Assumes nothing.
 use native.Mathlib.Omega.{arith}
 use borrow.Author.Needs.{needs}
-use Rattle.layout.specs.Layout.{atItemWriteCosts}
+use Rattle.layout.specs.InnerRows.{atItemWriteCosts}
 use Rattle.layout.proofs.Places.{number-at}
 use Rattle.layout.proofs.item_write_cost.Statement.{statement}
 use Rattle.layout.proofs.item_write_cost.Tie as tie

@@ -1,7 +1,7 @@
 -- `layout::item_writebacks` meets its contract: one number of a run is the number at its place. Assumes nothing.
 use native.Mathlib.Omega.{arith}
 use borrow.Author.Needs.{needs}
-use Rattle.layout.specs.Layout.{atItemWritebacks}
+use Rattle.layout.specs.InnerRows.{atItemWritebacks}
 use Rattle.layout.proofs.Places.{number-at}
 use Rattle.layout.proofs.item_writebacks.Statement.{statement}
 use Rattle.layout.proofs.item_writebacks.Tie as tie

@@ -1,7 +1,7 @@
 -- `layout::load_credit` meets its contract: one number of a run is the number at its place. Assumes nothing.
 use native.Mathlib.Omega.{arith}
 use borrow.Author.Needs.{needs}
-use Rattle.layout.specs.Layout.{atLoadCredits}
+use Rattle.layout.specs.InnerRows.{atLoadCredits}
 use Rattle.layout.proofs.Places.{number-at}
 use Rattle.layout.proofs.load_credit.Statement.{statement}
 use Rattle.layout.proofs.load_credit.Tie as tie

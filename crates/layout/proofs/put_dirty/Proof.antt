@@ -9,7 +9,7 @@ use lib.ListN.{length, getD}
 use lib.Seq.{sets}
 use borrow.Author.Needs.{needs}
 use Rattle.fields.specs.Inner.{Below, le}
-use Rattle.layout.specs.Layout.{atDirty}
+use Rattle.layout.specs.InnerRows.{atDirty}
 use Rattle.layout.proofs.Stores.{coded, dirty-stored, store-four}
 use Rattle.layout.proofs.put_dirty.Statement.{statement}
 use Rattle.layout.proofs.put_dirty.Tie as tie

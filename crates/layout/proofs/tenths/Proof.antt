@@ -1,7 +1,7 @@
 -- `layout::tenths` meets its contract: one number of a run is the number at its place. Assumes nothing.
 use native.Mathlib.Omega.{arith}
 use borrow.Author.Needs.{needs}
-use Rattle.layout.specs.Layout.{atTenths}
+use Rattle.layout.specs.InnerRows.{atTenths}
 use Rattle.layout.proofs.Places.{number-at}
 use Rattle.layout.proofs.tenths.Statement.{statement}
 use Rattle.layout.proofs.tenths.Tie as tie

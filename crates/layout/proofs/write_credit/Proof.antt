@@ -1,7 +1,7 @@
 -- `layout::write_credit` meets its contract: one number of a run is the number at its place. Assumes nothing.
 use native.Mathlib.Omega.{arith}
 use borrow.Author.Needs.{needs}
-use Rattle.layout.specs.Layout.{atWriteCredits}
+use Rattle.layout.specs.InnerRows.{atWriteCredits}
 use Rattle.layout.proofs.Places.{number-at}
 use Rattle.layout.proofs.write_credit.Statement.{statement}
 use Rattle.layout.proofs.write_credit.Tie as tie

@@ -5,7 +5,7 @@ use Prim.Native.Nat.{_+_, _*_, _-_, _≤_}
 use native.Mathlib.Omega.{arith}
 use borrow.Author.Needs.{needs}
 use lib.ListN.{length, drop}
-use Rattle.cache_state.specs.View.{usesOf}
+use Rattle.cache_state.specs.Cache.{usesOf}
 use Rattle.layout.specs.Layout.{cacheOf}
 use Rattle.report.specs.Report.{itemLines}
 use Rattle.report.proofs.Laws.{items-count, items-end}

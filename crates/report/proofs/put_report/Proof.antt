@@ -6,10 +6,10 @@ use native.Mathlib.Omega.{arith}
 use borrow.Author.Needs.{needs}
 use borrow.Rule.Slice.PartMut.{putMid}
 use lib.ListN.{length}
-use Rattle.cache_state.specs.View.{view, usesOf}
+use Rattle.cache_state.specs.Cache.{view, usesOf}
 use Rattle.layout.specs.Layout.{cacheOf}
-use Rattle.report.specs.Words.{moreWords, wordsOf}
-use Rattle.report.specs.Report.{itemLines, itemNames, totalLines, reportOf}
+use Rattle.report.specs.Report.{itemLines, totalLines, reportOf}
+use Rattle.report.specs.Inner.{itemNames}
 use Rattle.report.proofs.Laws.{report-count, TextGoing, go-first, go-as, go-room, go-next, go-end}
 use Rattle.report.proofs.put_report.Statement.{statement}
 use Rattle.report.proofs.put_report.Tie as tie
@@ -34,7 +34,7 @@ named :
     (c : tie.After-put-text) →
     (let s = c .before .before .before .before .before in
     TextGoing (whole s) (s .args .page .now) (c .put-text .result) (itemLines 0 (usesOf (cacheOf (s .args .b .now))) ++ (10 ∷ totals s)) (c .put-text .last .0))
-unfolding reportOf moreWords wordsOf
+unfolding reportOf
 named c =
     let s = c .before .before .before .before .before in
     go-first itemNames _ (s .args .page .now) (s .pre .room) (c .put-text .ensures .0) (c .put-text .ensures .1)

@@ -6,10 +6,9 @@ use native.Mathlib.Omega.{arith}
 use borrow.Author.Needs.{needs}
 use lib.ListN.{length, take}
 use lib.Seq.{length-take-le}
-use Rattle.cache_state.specs.View.{view}
+use Rattle.cache_state.specs.Cache.{view}
 use Rattle.layout.specs.Layout.{cacheOf}
 use Rattle.report.specs.declared.Rival.the-variants.{Absent, Against}
-use Rattle.report.specs.Words.{moreWords, wordsOf}
 use Rattle.report.specs.Report.{lineOf, totalNames, totalLines}
 use Rattle.report.specs.Inner.{textOver}
 use Rattle.report.proofs.Laws.{totals-alone, totals-priced}
@@ -52,7 +51,6 @@ slice-aggregate-put-table-2 c =
     sym (length-take-le 8 (c .before .before .before .before .before .figures .result) (omega arith))
 
 put-table-requires : tie.Need-put-table-requires
-unfolding moreWords wordsOf
 put-table-requires c κs = rw (alone (c .before .before .before)) at (c .before .before .before .before .before .before .before .before .pre .room)
 
 enum-told-2 : tie.Need-enum-told-2
@@ -65,14 +63,12 @@ slice-aggregate-put-table-4 : tie.Need-slice-aggregate-put-table-4
 slice-aggregate-put-table-4 c = search needs
 
 put-table-requires-2 : tie.Need-put-table-requires-2
-unfolding moreWords wordsOf
 put-table-requires-2 c κs = rw (priced (c .before .before .before)) at (c .before .before .before .before .before .before .before .before .pre .room)
 
 same-length : tie.Need-same-length
 same-length c = search needs
 
 returns : tie.Need-returns
-unfolding moreWords wordsOf
 returns c =
     let page = c .before .before .before .before .before .before .before .before .before .before .before .args .page .now in
     c .before .before .put-table .ensures ∙ ap (λ (t : List ℕ). textOver t page) (sym (alone (c .before .before .before .before .before .before)))
@@ -81,7 +77,6 @@ same-length-2 : tie.Need-same-length-2
 same-length-2 c = search needs
 
 returns-2 : tie.Need-returns-2
-unfolding moreWords wordsOf
 returns-2 c =
     let page = c .before .before .before .before .before .before .before .before .before .before .before .args .page .now in
     c .before .before .put-table2 .ensures ∙ ap (λ (t : List ℕ). textOver t page) (sym (priced (c .before .before .before .before .before .before)))

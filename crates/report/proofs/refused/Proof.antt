@@ -5,9 +5,8 @@ use Prim.Native.Nat.{ℕ, _+_}
 use native.Mathlib.Omega.{arith}
 use borrow.Author.Needs.{needs}
 use lib.ListN.{length, length-append}
-use Rattle.report.specs.Words.{moreWords, wordsOf}
-use Rattle.report.specs.Report.{lineOf, refusalNames, refusalText}
-use Rattle.report.specs.Inner.{textOver}
+use Rattle.report.specs.Report.{lineOf, refusalText}
+use Rattle.report.specs.Inner.{textOver, refusalNames}
 use Rattle.report.proofs.Laws.{refusal-names-count, put-short, put-whole}
 use Rattle.report.proofs.refused.Statement.{statement}
 use Rattle.report.proofs.refused.Tie as tie
@@ -65,7 +64,6 @@ same-length : tie.Need-same-length
 same-length c = search needs
 
 returns-2 : tie.Need-returns-2
-unfolding moreWords wordsOf
 returns-2 c =
     let a = c .before .before .before .before .before .before .before .before .before .before .before .before .before .before .args in
     let k = counted (c .before .before .before .before .before .before .before) in

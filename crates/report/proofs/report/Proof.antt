@@ -4,9 +4,8 @@ use mathlib.Core.Bool.{false≢true}
 use native.Mathlib.Omega.{arith}
 use borrow.Author.Needs.{needs}
 use borrow.Author.Tests.{not-true, not-false}
-use Rattle.cache_state.specs.View.{view}
-use Rattle.layout.specs.Layout.{cacheOf}
-use Rattle.layout.specs.Valid.{ValidBytes}
+use Rattle.cache_state.specs.Cache.{view}
+use Rattle.layout.specs.Layout.{cacheOf, ValidBytes}
 use Rattle.report.specs.Report.{reportOf}
 use Rattle.report.specs.Inner.{RivalOk}
 use Rattle.report.proofs.Laws.{put-short, put-whole, invalid-told, fine-told}

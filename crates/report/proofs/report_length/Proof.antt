@@ -1,7 +1,7 @@
 -- `report::report_length` meets its contract. Assumes nothing.
 use native.Mathlib.Omega.{arith}
 use borrow.Author.Needs.{needs}
-use Rattle.cache_state.specs.View.{view}
+use Rattle.cache_state.specs.Cache.{view}
 use Rattle.layout.specs.Layout.{cacheOf}
 use Rattle.report.proofs.Laws.{report-count}
 use Rattle.report.proofs.Longest.{items-longest}

@@ -1,6 +1,6 @@
 -- `report::rival_numbers` meets its contract. Assumes nothing.
 use borrow.Author.Needs.{needs}
-use Rattle.cache_state.specs.View.{view}
+use Rattle.cache_state.specs.Cache.{view}
 use Rattle.layout.specs.Layout.{cacheOf}
 use Rattle.report.proofs.Laws.{priced-ok, rival-told}
 use Rattle.report.proofs.rival_numbers.Statement.{statement}

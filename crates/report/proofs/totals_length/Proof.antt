@@ -5,7 +5,7 @@ use native.Mathlib.Omega.{arith}
 use borrow.Author.Needs.{needs}
 use lib.ListN.{length, take, length-append}
 use lib.Seq.{length-take-le}
-use Rattle.cache_state.specs.View.{view}
+use Rattle.cache_state.specs.Cache.{view}
 use Rattle.layout.specs.Layout.{cacheOf}
 use Rattle.report.specs.declared.Rival.the-variants.{Absent, Against}
 use Rattle.report.specs.Report.{lineOf, totalNames, totalLines}

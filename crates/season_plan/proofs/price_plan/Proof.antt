@@ -27,20 +27,20 @@ acts-before-requires c κs =
     let l = c .before .loop in
     pricing-acts (t .args .seen) (t .args .catalog .now) (t .args .calls .now) (t .args .acts .now) (t .pre) (l .p) (l .a) (l .s) (l .inv) (omega arith)
 
-add-refusal-for : tie.Need-add-refusal-for Inv-loop μ-loop
-add-refusal-for c = omega (arith, c .before .before .before .before .before .before .before .before .pre .fewSteps, c .before .before .before .before .before .before .before .before .pre .fewActs, c .before .before .before .before .before .before .before .before .pre .holds .few, c .before .before .acts-before .ensures .1 .next)
+add-refusal-of : tie.Need-add-refusal-of Inv-loop μ-loop
+add-refusal-of c = omega (arith, c .before .before .before .before .before .before .before .before .pre .fewSteps, c .before .before .before .before .before .before .before .before .pre .fewActs, c .before .before .before .before .before .before .before .before .pre .holds .few, c .before .before .acts-before .ensures .1 .next)
 
-add-refusal-for-2 : tie.Need-add-refusal-for-2 Inv-loop μ-loop
-add-refusal-for-2 c = omega (arith, c .before .before .before .before .before .before .before .before .pre .fewSteps, c .before .before .before .before .before .before .before .before .pre .fewActs, c .before .before .before .before .before .before .before .before .pre .holds .few, c .before .before .acts-before .ensures .1 .next)
+add-refusal-of-2 : tie.Need-add-refusal-of-2 Inv-loop μ-loop
+add-refusal-of-2 c = omega (arith, c .before .before .before .before .before .before .before .before .pre .fewSteps, c .before .before .before .before .before .before .before .before .pre .fewActs, c .before .before .before .before .before .before .before .before .pre .holds .few, c .before .before .acts-before .ensures .1 .next)
 
-add-refusal-for-3 : tie.Need-add-refusal-for-3 Inv-loop μ-loop
-add-refusal-for-3 c = omega (arith, c .before .before .before .before .before .before .before .before .pre .fewSteps, c .before .before .before .before .before .before .before .before .pre .fewActs, c .before .before .before .before .before .before .before .before .pre .holds .few, c .before .before .acts-before .ensures .1 .next)
+add-refusal-of-3 : tie.Need-add-refusal-of-3 Inv-loop μ-loop
+add-refusal-of-3 c = omega (arith, c .before .before .before .before .before .before .before .before .pre .fewSteps, c .before .before .before .before .before .before .before .before .pre .fewActs, c .before .before .before .before .before .before .before .before .pre .holds .few, c .before .before .acts-before .ensures .1 .next)
 
-cast-refusal-for : tie.Need-cast-refusal-for Inv-loop μ-loop
-cast-refusal-for c = omega (arith, c .before .before .before .before .before .before .before .before .pre .fewSteps, c .before .before .before .before .before .before .before .before .pre .fewActs, c .before .before .before .before .before .before .before .before .pre .holds .few, c .before .before .acts-before .ensures .1 .next)
+cast-refusal-of : tie.Need-cast-refusal-of Inv-loop μ-loop
+cast-refusal-of c = omega (arith, c .before .before .before .before .before .before .before .before .pre .fewSteps, c .before .before .before .before .before .before .before .before .pre .fewActs, c .before .before .before .before .before .before .before .before .pre .holds .few, c .before .before .acts-before .ensures .1 .next)
 
-refusal-for-requires : tie.Need-refusal-for-requires Inv-loop μ-loop
-refusal-for-requires c κs =
+refusal-of-requires : tie.Need-refusal-of-requires Inv-loop μ-loop
+refusal-of-requires c κs =
     let t = c .before .before .before .before .before .before .before .before in
     let l = c .before .before .before .before .loop in
     pricing-act-number (t .args .seen) (t .args .catalog .now) (t .args .calls .now) (t .args .acts .now) (t .pre) (l .p) (l .a) (l .s) (l .inv) (omega arith) (c .before .before .acts-before .result) (c .before .before .acts-before .ensures .0) (c .before .before .acts-before .ensures .1) (c .before .if1 .taken)
@@ -49,7 +49,7 @@ returns : tie.Need-returns Inv-loop μ-loop
 returns c =
     let t = c .before .before .before .before .before .before .before .before .before in
     let l = c .before .before .before .before .before .loop in
-    (pricing-act-fails (t .args .seen) (t .args .catalog .now) (t .args .calls .now) (t .args .acts .now) (t .pre) (l .p) (l .a) (l .s) (l .inv) (omega arith) (c .before .before .before .acts-before .result) (c .before .before .before .acts-before .ensures .0) (c .before .before .before .acts-before .ensures .1) _ _ (c .refusal-for .ensures) (c .before .before .if1 .taken) (omega arith), tt)
+    (pricing-act-fails (t .args .seen) (t .args .catalog .now) (t .args .calls .now) (t .args .acts .now) (t .pre) (l .p) (l .a) (l .s) (l .inv) (omega arith) (c .before .before .before .acts-before .result) (c .before .before .before .acts-before .ensures .0) (c .before .before .before .acts-before .ensures .1) _ _ (c .refusal-of .ensures) (c .before .before .if1 .taken) (omega arith), tt)
 
 mul-serve : tie.Need-mul-serve Inv-loop μ-loop
 mul-serve c = omega (arith, c .before .before .before .before .before .before .before .before .pre .fewSteps, c .before .before .before .before .before .before .before .before .pre .fewActs, c .before .before .before .before .before .before .before .before .pre .holds .few)
@@ -84,17 +84,17 @@ serve-requires c κs =
     let l = c .before .before .before .before .before .before .loop in
     pricing-serves (t .args .seen) (t .args .catalog .now) (t .args .calls .now) (t .args .acts .now) (t .pre) (l .p) (l .a) (l .s) (l .inv) (omega arith) (c .before .before .before .before .acts-before .result) (c .before .before .before .before .acts-before .ensures .0) (c .before .before .before .before .acts-before .ensures .1) (c .before .before .before .if1 .left)
 
-add-refusal-for-4 : tie.Need-add-refusal-for-4 Inv-loop μ-loop
-add-refusal-for-4 c = omega (arith, c .before .before .before .before .before .before .before .before .before .before .before .before .before .pre .fewSteps, c .before .before .before .before .before .before .before .before .before .before .before .before .before .pre .fewActs, c .before .before .before .before .before .before .before .before .before .before .before .before .before .pre .holds .few)
+add-refusal-of-4 : tie.Need-add-refusal-of-4 Inv-loop μ-loop
+add-refusal-of-4 c = omega (arith, c .before .before .before .before .before .before .before .before .before .before .before .before .before .pre .fewSteps, c .before .before .before .before .before .before .before .before .before .before .before .before .before .pre .fewActs, c .before .before .before .before .before .before .before .before .before .before .before .before .before .pre .holds .few)
 
-add-refusal-for-5 : tie.Need-add-refusal-for-5 Inv-loop μ-loop
-add-refusal-for-5 c = omega (arith, c .before .before .before .before .before .before .before .before .before .before .before .before .before .pre .fewSteps, c .before .before .before .before .before .before .before .before .before .before .before .before .before .pre .fewActs, c .before .before .before .before .before .before .before .before .before .before .before .before .before .pre .holds .few)
+add-refusal-of-5 : tie.Need-add-refusal-of-5 Inv-loop μ-loop
+add-refusal-of-5 c = omega (arith, c .before .before .before .before .before .before .before .before .before .before .before .before .before .pre .fewSteps, c .before .before .before .before .before .before .before .before .before .before .before .before .before .pre .fewActs, c .before .before .before .before .before .before .before .before .before .before .before .before .before .pre .holds .few)
 
-cast-refusal-for-2 : tie.Need-cast-refusal-for-2 Inv-loop μ-loop
-cast-refusal-for-2 c = omega (arith, c .before .before .before .before .before .before .before .before .before .before .before .before .before .pre .fewSteps, c .before .before .before .before .before .before .before .before .before .before .before .before .before .pre .fewActs, c .before .before .before .before .before .before .before .before .before .before .before .before .before .pre .holds .few)
+cast-refusal-of-2 : tie.Need-cast-refusal-of-2 Inv-loop μ-loop
+cast-refusal-of-2 c = omega (arith, c .before .before .before .before .before .before .before .before .before .before .before .before .before .pre .fewSteps, c .before .before .before .before .before .before .before .before .before .before .before .before .before .pre .fewActs, c .before .before .before .before .before .before .before .before .before .before .before .before .before .pre .holds .few)
 
-refusal-for-requires-2 : tie.Need-refusal-for-requires-2 Inv-loop μ-loop
-refusal-for-requires-2 c κs =
+refusal-of-requires-2 : tie.Need-refusal-of-requires-2 Inv-loop μ-loop
+refusal-of-requires-2 c κs =
     let t = c .before .before .before .before .before .before .before .before .before .before .before .before .before in
     let l = c .before .before .before .before .before .before .before .before .before .loop in
     pricing-step-number (t .args .seen) (t .args .catalog .now) (t .args .calls .now) (t .args .acts .now) (t .pre) (l .p) (l .a) (l .s) (l .inv) (omega arith) (c .before .before .before .before .before .before .before .acts-before .result) (c .before .before .before .before .before .before .before .acts-before .ensures .0) (c .before .before .before .before .before .before .before .acts-before .ensures .1) (c .before .before .before .before .before .before .if1 .left) (c .before .before .serve .result) (c .before .before .serve .ensures) (c .before .if2 .taken)
@@ -103,7 +103,7 @@ returns-2 : tie.Need-returns-2 Inv-loop μ-loop
 returns-2 c =
     let t = c .before .before .before .before .before .before .before .before .before .before .before .before .before .before in
     let l = c .before .before .before .before .before .before .before .before .before .before .loop in
-    (pricing-step-fails (t .args .seen) (t .args .catalog .now) (t .args .calls .now) (t .args .acts .now) (t .pre) (l .p) (l .a) (l .s) (l .inv) (omega arith) (c .before .before .before .before .before .before .before .before .acts-before .result) (c .before .before .before .before .before .before .before .before .acts-before .ensures .0) (c .before .before .before .before .before .before .before .before .acts-before .ensures .1) (c .before .before .before .before .before .before .before .if1 .left) (c .before .before .before .serve .result) (c .before .before .before .serve .ensures) _ _ (c .refusal-for2 .ensures) (c .before .before .if2 .taken) (omega arith), tt)
+    (pricing-step-fails (t .args .seen) (t .args .catalog .now) (t .args .calls .now) (t .args .acts .now) (t .pre) (l .p) (l .a) (l .s) (l .inv) (omega arith) (c .before .before .before .before .before .before .before .before .acts-before .result) (c .before .before .before .before .before .before .before .before .acts-before .ensures .0) (c .before .before .before .before .before .before .before .before .acts-before .ensures .1) (c .before .before .before .before .before .before .before .if1 .left) (c .before .before .before .serve .result) (c .before .before .before .serve .ensures) _ _ (c .refusal-of2 .ensures) (c .before .before .if2 .taken) (omega arith), tt)
 
 add-s : tie.Need-add-s Inv-loop μ-loop
 add-s c = omega (arith, c .before .before .before .before .before .before .before .before .before .before .before .before .before .pre .fewSteps, c .before .before .before .before .before .before .before .before .before .before .before .before .before .pre .fewActs, c .before .before .before .before .before .before .before .before .before .before .before .before .before .pre .holds .few)
@@ -144,11 +144,11 @@ price-plan-spec =
     loop-holds
     cast-acts-before
     acts-before-requires
-    add-refusal-for
-    add-refusal-for-2
-    add-refusal-for-3
-    cast-refusal-for
-    refusal-for-requires
+    add-refusal-of
+    add-refusal-of-2
+    add-refusal-of-3
+    cast-refusal-of
+    refusal-of-requires
     returns
     mul-serve
     add-serve
@@ -160,10 +160,10 @@ price-plan-spec =
     shared-slice-read-serve-2
     cast-serve
     serve-requires
-    add-refusal-for-4
-    add-refusal-for-5
-    cast-refusal-for-2
-    refusal-for-requires-2
+    add-refusal-of-4
+    add-refusal-of-5
+    cast-refusal-of-2
+    refusal-of-requires-2
     returns-2
     add-s
     loop-less

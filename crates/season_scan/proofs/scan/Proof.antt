@@ -10,7 +10,7 @@ use native.Mathlib.Omega.{arith}
 use borrow.Author.Needs.{needs}
 use borrow.Author.Tests.{leb-true, leb-false}
 use lib.ListN.{length, take, drop, length-drop}
-use Rattle.season_lines.specs.Fields.{fieldOf}
+use Rattle.season_lines.specs.Lines.{fieldOf}
 use Rattle.season_lines.specs.Inner.{before, heldField}
 use Rattle.season_lines.proofs.Pieces.{before-le}
 use Rattle.season_scan.proofs.Laws.{line-end, length-part}

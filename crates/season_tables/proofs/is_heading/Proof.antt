@@ -1,6 +1,5 @@
 -- `season_tables::is_heading` meets its contract: each return compares with the names of its table. Assumes nothing.
 use borrow.Author.Needs.{needs}
-use Rattle.report.specs.Words.{wordsOf, moreWords}
 use Rattle.season_tables.proofs.Due.{names-0, names-1, names-2, names-3}
 use Rattle.season_tables.proofs.is_heading.Statement.{statement}
 use Rattle.season_tables.proofs.is_heading.Tie as tie
@@ -15,7 +14,6 @@ same-requires : tie.Need-same-requires
 same-requires c κs = search needs
 
 returns : tie.Need-returns
-unfolding wordsOf moreWords
 returns c =
     let a = c .before .before .before .before .args in
     names-0 (a .table) (a .line .now) (c .same .result) (c .before .before .if1 .taken) (c .same .ensures)
@@ -27,7 +25,6 @@ same-requires-2 : tie.Need-same-requires-2
 same-requires-2 c κs = search needs
 
 returns-2 : tie.Need-returns-2
-unfolding wordsOf moreWords
 returns-2 c =
     let a = c .before .before .before .before .before .args in
     names-1 (a .table) (a .line .now) (c .same2 .result) (c .before .before .if2 .taken) (c .same2 .ensures)
@@ -39,7 +36,6 @@ same-requires-3 : tie.Need-same-requires-3
 same-requires-3 c κs = search needs
 
 returns-3 : tie.Need-returns-3
-unfolding wordsOf moreWords
 returns-3 c =
     let a = c .before .before .before .before .before .before .args in
     names-2 (a .table) (a .line .now) (c .same3 .result) (c .before .before .if3 .taken) (c .same3 .ensures)
@@ -51,7 +47,6 @@ same-requires-4 : tie.Need-same-requires-4
 same-requires-4 c κs = search needs
 
 returns-4 : tie.Need-returns-4
-unfolding wordsOf moreWords
 returns-4 c =
     let a = c .before .before .before .before .before .before .args in
     names-3 (a .table) (a .line .now) (c .same4 .result) (c .before .before .before .before .if1 .left) (c .before .before .before .if2 .left) (c .before .before .if3 .left) (c .same4 .ensures)

@@ -1,6 +1,6 @@
 -- `season_text::report_season` meets its contract. Assumes nothing.
 use borrow.Author.Needs.{needs}
-use Rattle.cache_state.specs.View.{view}
+use Rattle.cache_state.specs.Cache.{view}
 use Rattle.layout.specs.Layout.{cacheOf}
 use Rattle.report.specs.declared.Rival.the-variants.{Against}
 use Rattle.report.specs.Inner.{RivalOk}

@@ -1,7 +1,7 @@
 -- `cache_value::Cache::close` meets its contract: the closing, its number as an answer. Assumes nothing.
 use borrow.Author.Needs.{needs}
 use Rattle.landlord.specs.Calls.{close}
-use Rattle.cache_value.proofs.Calls.{answered, call-number}
+use Rattle.cache_value.proofs.Answers.{answered, call-number}
 use Rattle.cache_value.proofs.Cache.close.Statement.{statement}
 use Rattle.cache_value.proofs.Cache.close.Tie as tie
 

@@ -1,6 +1,6 @@
 -- `cache_value::Cache::open` meets its contract: the opening, its number as an answer. Assumes nothing.
 use borrow.Author.Needs.{needs}
-use Rattle.cache_value.proofs.Openings.{opening-number, opened-as}
+use Rattle.cache_value.proofs.Answers.{opening-number, opened-as}
 use Rattle.cache_value.proofs.Cache.open.Statement.{statement}
 use Rattle.cache_value.proofs.Cache.open.Tie as tie
 

@@ -1,7 +1,8 @@
 -- `cache_value::Cache::step` meets its contract: a step by its numbers, the reply's number as an answer. Assumes nothing.
 use borrow.Author.Needs.{needs}
 use Rattle.landlord.specs.Calls.{callOf}
-use Rattle.cache_value.proofs.Calls.{answered, call-number, called-as}
+use Rattle.cache_value.proofs.Answers.{answered, call-number}
+use Rattle.cache_value.proofs.Calls.{called-as}
 use Rattle.cache_value.proofs.Cache.step.Statement.{statement}
 use Rattle.cache_value.proofs.Cache.step.Tie as tie
 

@@ -4,7 +4,8 @@ use mathlib.Core.Path.{_≡_}
 use Prim.Native.Nat.{ℕ}
 use native.Mathlib.Omega.{arith}
 use borrow.Author.Needs.{needs}
-use Rattle.layout.specs.Layout.{numbersAt, atLoadCredits, atWriteCredits, atTenths, atItemLoads, atItemWritebacks, atItemLoadCosts, atItemWriteCosts, atBlocks}
+use Rattle.layout.specs.Layout.{numbersAt}
+use Rattle.layout.specs.InnerRows.{atLoadCredits, atWriteCredits, atTenths, atItemLoads, atItemWritebacks, atItemLoadCosts, atItemWriteCosts, atBlocks}
 use Rattle.cache_value.proofs.bytes.decode.Statement.{statement}
 use Rattle.cache_value.proofs.bytes.decode.Tie as tie
 

@@ -7,7 +7,7 @@ use lib.ListN.{getD}
 use borrow.Author.Needs.{needs}
 use Rattle.layout.specs.InnerRows.{fieldRows, WholeArrays, Fits}
 use Rattle.layout.proofs.Rounds.{store-all}
-use Rattle.cache_value.specs.Struct.{recordOf}
+use Rattle.cache_value.specs.Contract.{recordOf}
 use Rattle.cache_value.proofs.bytes.encode.Statement.{statement}
 use Rattle.cache_value.proofs.bytes.encode.Tie as tie
 

@@ -1,0 +1,78 @@
+-- A refusal is told by its number and its line, and its number is one of the table's. Assumes nothing.
+use mathlib.Core.Path.{_≡_, refl, sym, ap, _∙_}
+use mathlib.Core.List.{List, [], _∷_}
+use Prim.Native.Nat.{ℕ, _≤_}
+use native.Mathlib.Omega.{arith}
+use lib.ListN.{getD}
+use Rattle.landlord.specs.declared.Refusal.{Refusal}
+use Rattle.landlord.specs.declared.Refusal.the-variants.{Malformed, Heading, OutOfRange, OutOfSequence, PlanTooLarge, UnknownItem, ItemTooLarge, LogFull, Closed, ActOutOfOrder, NotHeld, AlreadyHeld, OverCapacity, RequestNotHeld, ShortBuffer, InputTooLong, InvalidState}
+use Rattle.landlord.specs.Types.{Told, telling, told, refusalNumber}
+use Rattle.landlord.specs.Plan.{Fault, unknownItem, notHeld, alreadyHeld, requestNotHeld, overCapacity, faultRefusal, faultNumber}
+
+-- the refusals on a line, in the order of the table
+abbrev refusals : ℕ → List Refusal
+refusals l =
+    Malformed l ∷ Heading l ∷ OutOfRange l ∷ OutOfSequence l ∷ PlanTooLarge l ∷ UnknownItem l ∷ ItemTooLarge l ∷ LogFull l ∷ Closed l ∷ ActOutOfOrder l ∷ NotHeld l ∷ AlreadyHeld l ∷ OverCapacity l ∷ RequestNotHeld l ∷ ShortBuffer l ∷ InputTooLong l ∷ InvalidState l ∷ []
+
+-- the refusal that tells so much; nothing has number 0
+abbrev refusalFrom : Told → Refusal
+refusalFrom t = getD (InvalidState 0 ∷ refusals (t .line)) (t .number) (InvalidState 0)
+
+refusal-back : (r : Refusal) → refusalFrom (told r) ≡ r
+refusal-back (Malformed l) = refl
+refusal-back (Heading l) = refl
+refusal-back (OutOfRange l) = refl
+refusal-back (OutOfSequence l) = refl
+refusal-back (PlanTooLarge l) = refl
+refusal-back (UnknownItem l) = refl
+refusal-back (ItemTooLarge l) = refl
+refusal-back (LogFull l) = refl
+refusal-back (Closed l) = refl
+refusal-back (ActOutOfOrder l) = refl
+refusal-back (NotHeld l) = refl
+refusal-back (AlreadyHeld l) = refl
+refusal-back (OverCapacity l) = refl
+refusal-back (RequestNotHeld l) = refl
+refusal-back (ShortBuffer l) = refl
+refusal-back (InputTooLong l) = refl
+refusal-back (InvalidState l) = refl
+
+-- two refusals that tell the same are the same
+pub refusal-one : (r z : Refusal) → told r ≡ told z → r ≡ z
+refusal-one r z e = sym (refusal-back r) ∙ ap refusalFrom e ∙ refusal-back z
+
+-- a refusal's number is one of the table's
+pub refusal-range : (r : Refusal) → (1 ≤ refusalNumber r) × (refusalNumber r ≤ 17)
+refusal-range (Malformed l) = omega arith
+refusal-range (Heading l) = omega arith
+refusal-range (OutOfRange l) = omega arith
+refusal-range (OutOfSequence l) = omega arith
+refusal-range (PlanTooLarge l) = omega arith
+refusal-range (UnknownItem l) = omega arith
+refusal-range (ItemTooLarge l) = omega arith
+refusal-range (LogFull l) = omega arith
+refusal-range (Closed l) = omega arith
+refusal-range (ActOutOfOrder l) = omega arith
+refusal-range (NotHeld l) = omega arith
+refusal-range (AlreadyHeld l) = omega arith
+refusal-range (OverCapacity l) = omega arith
+refusal-range (RequestNotHeld l) = omega arith
+refusal-range (ShortBuffer l) = omega arith
+refusal-range (InputTooLong l) = omega arith
+refusal-range (InvalidState l) = omega arith
+
+-- so it is not 0
+pub refused-some : (r : Refusal) → refusalNumber r ≡ 0 → ⊥
+refused-some r e = omega (arith, refusal-range r .0)
+
+-- a fault of a plan is told by its number, on the line where it is told
+pub fault-tells : (f : Fault) (n : ℕ) → told (faultRefusal f n) ≡ telling (faultNumber f) n
+fault-tells (unknownItem s a i) n = refl
+fault-tells (notHeld s a i) n = refl
+fault-tells (alreadyHeld s a i) n = refl
+fault-tells (requestNotHeld s i) n = refl
+fault-tells (overCapacity s) n = refl
+
+-- so its number is one of the table's
+pub fault-range : (f : Fault) → (1 ≤ faultNumber f) × (faultNumber f ≤ 17)
+fault-range f = refusal-range (faultRefusal f 0)
