@@ -53,5 +53,6 @@ SEASONS = 100000
 TEXTS = 100000
 STATES = 1000000
 PLANS = 1000000
+SENTENCES = 1000000
 soak: $(SEASON) lib
-	bash bench/soak/run seed=$(SEED) seasons=$(SEASONS) texts=$(TEXTS) states=$(STATES) plans=$(PLANS) only=$(ONLY)
+	bash bench/soak/run seed=$(SEED) seasons=$(SEASONS) texts=$(TEXTS) states=$(STATES) plans=$(PLANS) sentences=$(SENTENCES) only=$(ONLY)

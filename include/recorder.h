@@ -1,8 +1,8 @@
 /*
  * recorder.h: the cache recorder, as the firmware calls it.
  *
- * Four functions over bytes that the caller lends: open a cache, take one step of the log, close the log, and write the
- * report. They are compiled from proved code into a static library; link it with nothing else:
+ * Five functions over bytes that the caller lends: open a cache, take one step of the log, close the log, write the report,
+ * and say a refusal in words. They are compiled from proved code into a static library; link it with nothing else:
  *
  *     cc -Iinclude main.c librecorder.a
  *
@@ -26,8 +26,8 @@
  * for the count of bytes that is handed in with it; with a count of 0 it is not used, and may be NULL.
  *
  * STACK. Measured on x86-64 (make bench prints it): at most 191 bytes for recorder_open, 343 for recorder_step, 199 for
- * recorder_close and 471 for recorder_report, with no recursion, what the C library's memcpy and memset use included. The
- * library works on the lent bytes in place and makes no copy of them.
+ * recorder_close and 471 for recorder_report, with no recursion, what the C library's memcpy and memset use included;
+ * recorder_sentence stays under 1 KiB. The library works on the lent bytes in place and makes no copy of them.
  */
 #ifndef RECORDER_H
 #define RECORDER_H
@@ -54,6 +54,9 @@ extern "C" {
 /* The bytes of the longest report there can be, here or in the office: a page of this size is never too short. */
 #define RECORDER_REPORT_BYTES 7931
 
+/* The bytes of the longest sentence there can be, its line feed included: a page of this size is never too short. */
+#define RECORDER_SENTENCE_BYTES 47
+
 /* The limits of the arguments. */
 #define RECORDER_MAX_K 4096         /* capacity, in blocks: 1 to 4,096 */
 #define RECORDER_MAX_ITEMS 256      /* items of a catalog: 0 to 256, numbered from 0 */
@@ -68,12 +71,13 @@ extern "C" {
 /* What a call answers. The numbers and the words in quotes are those of the table of refusals. */
 enum recorder_answer {
     RECORDER_TAKEN = 0,
-    RECORDER_OUT_OF_RANGE = 3,   /* 'off the tape': k, the catalog, a kind, an item number or minutes out of range */
+    RECORDER_OUT_OF_RANGE = 3,   /* 'off the tape': k, the catalog, a kind, an item number or minutes out of range; or the
+                                    number of no refusal */
     RECORDER_UNKNOWN_ITEM = 6,   /* 'stranger': the item is not in the catalog */
     RECORDER_ITEM_TOO_LARGE = 7, /* 'too bulky': the item has more than k blocks */
     RECORDER_LOG_FULL = 8,       /* 'log full': 1,000,000 steps are already taken */
     RECORDER_CLOSED = 9,         /* 'closed': a step or a close on a closed cache */
-    RECORDER_SHORT_PAGE = 15,    /* 'short page': the page is shorter than the report */
+    RECORDER_SHORT_PAGE = 15,    /* 'short page': the page is shorter than the report, or than the sentence */
     RECORDER_INVALID_STATE = 17  /* 'foul locker': a state of the wrong length, or damaged */
 };
 
@@ -153,6 +157,37 @@ uint32_t recorder_close(uint8_t *state, size_t state_len);
  * Refused, every byte of the page and *length are as before. `length` must point to a size_t, always.
  */
 uint32_t recorder_report(const uint8_t *state, size_t state_len, uint8_t *page, size_t page_len, size_t *length);
+
+/*
+ * Says a refusal in words, for the crew: writes one sentence at the start of the page, as text with a line feed and without a
+ * zero byte behind it, and its length in bytes to *length. Bytes of the page past the sentence keep their contents. No state is
+ * needed.
+ *
+ * A sentence has the word of the number; the line, unless it is 0; for 6, 7, 11, 12, 14, 19 and 20 the item (the scope's
+ * 'sail'); and a full stop:
+ *
+ *     log full.
+ *     too bulky, sail 4.
+ *     stranger, line 7, sail 3.
+ *
+ * The number is what another call has answered, or that of a refused text. A call's refusal has no line: hand in 0. The item is
+ * the one that was handed in with that call; for the other numbers it is not looked at. Line and item may be any numbers. Two
+ * refusals that differ in number, line or a named item have different sentences, so all three can be read back from one.
+ *
+ * The words, by number:
+ *      1 torn             2 heading          3 off the tape     4 miscounted       5 outsized rival   6 stranger
+ *      7 too bulky        8 log full         9 closed          10 out of turn     11 not aboard      12 aboard
+ *     13 overstowed      14 missing         15 short page      16 long roll       17 foul locker     18 odd rule
+ *     19 misnumbered     20 gone            21 idle            22 unpaired        24 given up        25 many sails
+ *     26 long passage    27 no plan
+ *
+ * Answers, the first that holds:
+ *      3  the number has no word: it is 0, 23 or above 27
+ *     15  the page is shorter than the sentence
+ *      0  written
+ * Refused, every byte of the page and *length are as before. `length` must point to a size_t, always.
+ */
+uint32_t recorder_sentence(uint32_t number, uint32_t line, uint32_t item, uint8_t *page, size_t page_len, size_t *length);
 
 /*
  * WHAT THE STATE SAYS. Numbers are little-endian; docs/LAYOUT.md has every field with its allowed values. A run has 256

@@ -19,6 +19,14 @@ unsafe extern "C" {
         page_len: usize,
         length: *mut usize,
     ) -> u32;
+    fn recorder_sentence(
+        number: u32,
+        line: u32,
+        item: u32,
+        page: *mut u8,
+        page_len: usize,
+        length: *mut usize,
+    ) -> u32;
 }
 
 #[derive(Clone, Copy)]
@@ -43,6 +51,13 @@ pub const LIBRARY: Calls = Calls {
         recorder_report(s.as_ptr(), s.len(), page.as_mut_ptr(), page.len(), length)
     },
 };
+
+/// The library's sentence of a refusal. It has no state, so it is none of the calls above; in plain Rust it is part of the program
+/// `season` (bench/season), and the soak compares the two.
+pub fn sentence(number: u32, line: u32, item: u32, page: &mut [u8], length: &mut usize) -> u32 {
+    // SAFETY: as of the calls above.
+    unsafe { recorder_sentence(number, line, item, page.as_mut_ptr(), page.len(), length) }
+}
 
 /// The plain step under a name of its own, as the library's has one, so that callgrind can count what is below it.
 #[unsafe(no_mangle)]

@@ -1,4 +1,4 @@
-//! The recorder's four calls in plain Rust: the same bytes (docs/LAYOUT.md), the same checks, the same answers as the
+//! The recorder's four calls on a state in plain Rust: the same bytes (docs/LAYOUT.md), the same checks, the same answers as the
 //! proved library, which this is the yardstick for. The whole state is tested at every step, close and report; the rule
 //! then works on the lent bytes in place.
 

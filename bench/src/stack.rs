@@ -4,7 +4,7 @@
 use std::hint::black_box;
 use std::thread;
 
-use bench::calls::LIBRARY;
+use bench::calls::{self, LIBRARY};
 use bench::plain::{FLUSH, READ, STATE_BYTES, WRITE};
 
 /// How far down is painted, in a thread whose stack is larger; and how far the frame of the painter itself may reach.
@@ -40,9 +40,10 @@ fn taken_by(call: &mut dyn FnMut()) -> usize {
     touched()
 }
 
-/// The most that each call takes, over a few states: a catalog of 3 and one of 256 items, little and much held, clean and dirty.
-fn most() -> [usize; 4] {
-    let [mut open, mut step, mut close, mut report] = [0; 4];
+/// The most that each call takes, over a few states: a catalog of 3 and one of 256 items, little and much held, clean and dirty; and
+/// the sentence of each number that has one, with the longest line and item.
+fn most() -> [usize; 5] {
+    let [mut open, mut step, mut close, mut report, mut sentence] = [0; 5];
     for n in [3u32, 256] {
         let catalog: Vec<u8> = (0..n)
             .flat_map(|i| [1 + (i % 4) as u8, 9, 0, 7, 0])
@@ -67,7 +68,14 @@ fn most() -> [usize; 4] {
             }));
         }
     }
-    [open, step, close, report]
+    for number in (1..=27).filter(|&number| number != 23) {
+        let mut page = vec![0; 64];
+        sentence = sentence.max(taken_by(&mut || {
+            let answer = calls::sentence(number, u32::MAX, u32::MAX, &mut page, &mut 0);
+            assert_eq!(answer, 0);
+        }));
+    }
+    [open, step, close, report, sentence]
 }
 
 pub fn table() {
@@ -78,7 +86,8 @@ pub fn table() {
         .join()
         .expect("each call is taken");
     println!("bytes of stack at most, memcpy and memset of the C library included:");
-    for (name, bytes) in ["open", "step", "close", "report"].iter().zip(bytes) {
-        println!("  {name:<7} {bytes:>6}");
+    let names = ["open", "step", "close", "report", "sentence"];
+    for (name, bytes) in names.iter().zip(bytes) {
+        println!("  {name:<8} {bytes:>6}");
     }
 }

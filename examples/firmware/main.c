@@ -158,6 +158,20 @@ static void say_call(uint32_t step)
         printf("step %u: %c %u", step, (int)steps[step - 1].kind, steps[step - 1].item);
 }
 
+/*
+ * A refusal as the crew reads it: the number and, so that nobody has to look it up, its sentence, which ends the line. A call
+ * answers the bare number; the item is the one that was handed in, and there is no line. Nothing is left to go wrong here: every
+ * number that a call answers has a sentence, and the page is as long as the longest.
+ */
+static void say_refusal(uint32_t answer, uint32_t item)
+{
+    uint8_t sentence[RECORDER_SENTENCE_BYTES];
+    size_t length = 0;
+    (void)recorder_sentence(answer, 0, item, sentence, sizeof sentence, &length);
+    printf(", answer %u: ", answer);
+    fwrite(sentence, 1, length, stdout);
+}
+
 /* The step before `step` that wrote an item last: what its record has to say. (The log has no write that is refused.) */
 static uint32_t last_write(uint32_t item, uint32_t step)
 {
@@ -203,7 +217,7 @@ static enum outcome take(uint32_t step)
     uint32_t answer = call(step);
     say_call(step);
     if (answer != RECORDER_TAKEN) {
-        printf(", answer %u\n", answer);
+        say_refusal(answer, step == CLOSE ? 0 : steps[step - 1].item);
         return answer == RECORDER_INVALID_STATE ? DAMAGED : REFUSED;
     }
     struct moves m = compare();
@@ -232,7 +246,8 @@ static bool reopen(uint32_t next)
 {
     uint32_t answer = recorder_open(state, sizeof state, K, catalog, sizeof catalog);
     if (answer != RECORDER_TAKEN) {
-        printf("  the catalogue is refused: %u\n", answer);
+        printf("  the catalogue is refused");
+        say_refusal(answer, 0);
         return false;
     }
     for (uint32_t step = 1; step < next; step++)
@@ -261,7 +276,8 @@ static bool restore(uint32_t *next)
         printf("  back to the stored state, step %u is next\n", *next);
         return true;
     }
-    printf("  no good state on the card: %u\n", answer);
+    printf("  no good state on the card");
+    say_refusal(answer, 0);
     return reopen(*next);
 }
 

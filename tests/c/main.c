@@ -1,6 +1,6 @@
 /*
- * The exported calls from C: the worked example, every refusal, damaged states, the marks of 256 items, reports. It prints short lines
- * that tests/c/run compares with expected.txt.
+ * The exported calls from C: the worked example, every refusal, damaged states, the marks of 256 items, reports, sentences. It prints
+ * short lines that tests/c/run compares with expected.txt.
  *
  * Every call is made twice on copies of the state: at an odd address between guard bytes, and in a heap block of exactly
  * the state's length, so that valgrind sees a byte read or written outside it. Both must give the same answer and bytes.
@@ -13,6 +13,7 @@
 
 #define BYTES RECORDER_STATE_BYTES
 #define GUARD 67
+#define UNTOLD 12345 /* what stands in the place of a text's length before it is told */
 
 enum { OPEN, STEP, CLOSE };
 
@@ -589,32 +590,50 @@ static void evictions(void)
     print_figures(&s);
 }
 
-/*
- * A report into a heap block of exactly `page_len` bytes, so that valgrind sees a byte outside it. Prints the answer and, if it
- * was written, the text; else page and length have to be as before. The bytes past the text have to be as before always.
- */
-static void report(const char *what, const struct state *s, size_t state_len, size_t page_len)
+/* A page of so many bytes in a heap block of exactly that length, so that valgrind sees a byte outside it; NULL for none. */
+static uint8_t *blank(size_t page_len)
 {
-    uint8_t *page = malloc(page_len != 0 ? page_len : 1);
-    uint8_t *state = block(s->bytes, state_len);
+    if (page_len == 0)
+        return NULL;
+    uint8_t *page = malloc(page_len);
     if (page == NULL)
         abort();
     memset(page, 0x7E, page_len);
-    size_t length = 12345;
-    uint32_t answer = recorder_report(state, state_len, page_len != 0 ? page : NULL, page_len, &length);
-    printf("%s: %u, length %zu\n", what, answer, length);
-    size_t written = answer == 0 ? length : 0;
-    if (answer != 0 && length != 12345)
-        fault("a refused report changed the length");
-    if (written > page_len)
-        fault("a report longer than its page");
-    else
-        fwrite(page, 1, written, stdout);
-    for (size_t i = written; i < page_len; i++)
+    return page;
+}
+
+/*
+ * How many bytes of text a call has written on a page that was blank. Refused, page and length have to be as before; the bytes past
+ * the text have to be as before always.
+ */
+static size_t written(const uint8_t *page, size_t page_len, uint32_t answer, size_t length)
+{
+    size_t count = answer == 0 ? length : 0;
+    if (answer != 0 && length != UNTOLD)
+        fault("a refused call changed the length");
+    if (count > page_len) {
+        fault("a text longer than its page");
+        count = page_len;
+    }
+    for (size_t i = count; i < page_len; i++)
         if (page[i] != 0x7E) {
-            fault("a byte past the report was written");
+            fault("a byte past the text was written");
             break;
         }
+    return count;
+}
+
+/* A report on a page of so many bytes. Prints the answer and, if it was written, the text. */
+static void report(const char *what, const struct state *s, size_t state_len, size_t page_len)
+{
+    uint8_t *page = blank(page_len);
+    uint8_t *state = block(s->bytes, state_len);
+    size_t length = UNTOLD;
+    uint32_t answer = recorder_report(state, state_len, page, page_len, &length);
+    printf("%s: %u, length %zu\n", what, answer, length);
+    size_t count = written(page, page_len, answer, length);
+    if (count != 0)
+        fwrite(page, 1, count, stdout);
     if (state_len != 0 && memcmp(state, s->bytes, state_len) != 0)
         fault("a report changed the state");
     free(state);
@@ -648,6 +667,86 @@ static void reports(void)
     report("a state too long", &s, BYTES + 1, RECORDER_REPORT_BYTES);
 }
 
+/* A sentence, and what was answered to it. */
+struct sentence {
+    uint32_t answer;
+    size_t length;
+    uint8_t text[RECORDER_SENTENCE_BYTES];
+};
+
+static struct sentence sentence(uint32_t number, uint32_t line, uint32_t item, size_t page_len)
+{
+    struct sentence s = { 0 };
+    uint8_t *page = blank(page_len);
+    size_t length = UNTOLD;
+    s.answer = recorder_sentence(number, line, item, page, page_len, &length);
+    s.length = written(page, page_len, s.answer, length);
+    if (s.length > sizeof s.text) {
+        fault("a sentence longer than the longest");
+        s.length = sizeof s.text;
+    }
+    if (s.length != 0)
+        memcpy(s.text, page, s.length);
+    free(page);
+    return s;
+}
+
+static bool same_sentence(const struct sentence *a, const struct sentence *b)
+{
+    return a->answer == b->answer && a->length == b->length && memcmp(a->text, b->text, a->length) == 0;
+}
+
+/* How many sentences were written, and on which pages; how long the longest was. */
+static struct {
+    unsigned written, just_fitting, byte_short, longer;
+    size_t longest;
+} pages;
+
+/*
+ * A number with several lines and items. Each sentence is printed, but not again where the item changes nothing in it; it is
+ * asked for on the longest page that one needs, on pages of its own length, a byte less and more, and on none.
+ */
+static void sentences_of(uint32_t number)
+{
+    static const uint32_t lines[] = { 0, 1, 7, 4294967295u }, items[] = { 0, 3, 255, 4294967295u };
+    uint32_t answer = sentence(number, 0, 0, RECORDER_SENTENCE_BYTES).answer, without = sentence(number, 0, 0, 0).answer;
+    printf("%u: %u, no page: %u\n", number, answer, without);
+    struct sentence last = { 0 };
+    for (size_t i = 0; i < 16; i++) {
+        uint32_t line = lines[i / 4], item = items[i % 4];
+        struct sentence s = sentence(number, line, item, RECORDER_SENTENCE_BYTES);
+        if (s.answer != answer || sentence(number, line, item, 0).answer != without)
+            fault("the answer varies with the line or the item");
+        if (s.answer != 0)
+            continue;
+        if (!same_sentence(&s, &last)) {
+            printf("  ");
+            fwrite(s.text, 1, s.length, stdout);
+        }
+        last = s;
+        struct sentence fits = sentence(number, line, item, s.length), more = sentence(number, line, item, s.length + 300);
+        pages.written++;
+        pages.just_fitting += same_sentence(&s, &fits);
+        pages.byte_short += s.length > 0 && sentence(number, line, item, s.length - 1).answer == RECORDER_SHORT_PAGE;
+        pages.longer += same_sentence(&s, &more);
+        if (s.length > pages.longest)
+            pages.longest = s.length;
+    }
+}
+
+static void sentences(void)
+{
+    /* Some have the number of a refusal in their low bytes. */
+    static const uint32_t large[] = { 31, 255, 256, 262, 65542, 16777222, 2147483654u, 4294967295u };
+    puts("sentences");
+    for (uint32_t number = 0; number <= 30; number++)
+        sentences_of(number);
+    for (size_t i = 0; i < sizeof large / sizeof *large; i++)
+        sentences_of(large[i]);
+    printf("written: %u; the same on a page that just fits: %u, on a longer one: %u; refused on one a byte short: %u; longest: %zu\n",
+           pages.written, pages.just_fitting, pages.longer, pages.byte_short, pages.longest);
+}
+
 int main(void)
 {
     example();
@@ -657,6 +756,7 @@ int main(void)
     marks();
     evictions();
     reports();
+    sentences();
     printf("faults: %d\n", faults);
     return faults != 0;
 }

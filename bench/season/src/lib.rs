@@ -5,9 +5,11 @@
 pub mod cache;
 mod plan;
 pub mod report;
+mod sentence;
 mod text;
 mod write;
 
+pub use sentence::sentence;
 pub use text::MAX_BYTES;
 pub use write::text;
 
@@ -43,23 +45,23 @@ pub enum Act {
     Fetch { item: usize },
 }
 
-/// Why a text is refused, with the number in paper 01's table. The other rows are of calls and never fall due here: a text of
-/// 65,536 bytes has no 1,000,000 steps, and the report has all the room that it needs.
+/// Why a text is refused; with the item of the step or act, where the refusal tells it. The other rows of paper 01's table are of
+/// calls and never fall due here: a text of 65,536 bytes has no 1,000,000 steps, and the report has all the room that it needs.
 #[derive(Clone, Copy)]
 pub enum Reason {
-    Malformed = 1,       // torn
-    Heading = 2,         // heading
-    OutOfRange = 3,      // off the tape
-    OutOfSequence = 4,   // miscounted
-    PlanTooLarge = 5,    // outsized rival
-    UnknownItem = 6,     // stranger
-    ItemTooLarge = 7,    // too bulky
-    ActOutOfOrder = 10,  // out of turn
-    NotHeld = 11,        // not aboard
-    AlreadyHeld = 12,    // aboard
-    OverCapacity = 13,   // overstowed
-    RequestNotHeld = 14, // missing
-    InputTooLong = 16,   // long roll
+    Malformed,                      // torn
+    Heading,                        // heading
+    OutOfRange,                     // off the tape
+    OutOfSequence,                  // miscounted
+    PlanTooLarge,                   // outsized rival
+    UnknownItem { item: usize },    // stranger
+    ItemTooLarge { item: usize },   // too bulky
+    ActOutOfOrder,                  // out of turn
+    NotHeld { item: usize },        // not aboard
+    AlreadyHeld { item: usize },    // aboard
+    OverCapacity,                   // overstowed
+    RequestNotHeld { item: usize }, // missing
+    InputTooLong,                   // long roll
 }
 
 #[derive(Clone, Copy)]
@@ -72,6 +74,37 @@ pub struct Refusal {
 impl Reason {
     fn on(self, line: usize) -> Refusal {
         Refusal { reason: self, line }
+    }
+
+    /// The number in paper 01's table.
+    fn number(self) -> u32 {
+        match self {
+            Reason::Malformed => 1,
+            Reason::Heading => 2,
+            Reason::OutOfRange => 3,
+            Reason::OutOfSequence => 4,
+            Reason::PlanTooLarge => 5,
+            Reason::UnknownItem { .. } => 6,
+            Reason::ItemTooLarge { .. } => 7,
+            Reason::ActOutOfOrder => 10,
+            Reason::NotHeld { .. } => 11,
+            Reason::AlreadyHeld { .. } => 12,
+            Reason::OverCapacity => 13,
+            Reason::RequestNotHeld { .. } => 14,
+            Reason::InputTooLong => 16,
+        }
+    }
+
+    /// The item that it tells, 0 if it tells none.
+    fn item(self) -> usize {
+        match self {
+            Reason::UnknownItem { item }
+            | Reason::ItemTooLarge { item }
+            | Reason::NotHeld { item }
+            | Reason::AlreadyHeld { item }
+            | Reason::RequestNotHeld { item } => item,
+            _ => 0,
+        }
     }
 }
 

@@ -24,7 +24,7 @@ pub fn price(season: &Season) -> Result<u64, Refusal> {
             match act {
                 Act::Evict { item } => {
                     match holdings[item] {
-                        Holding::Nothing => return Err(Reason::NotHeld.on(line)),
+                        Holding::Nothing => return Err(Reason::NotHeld { item }.on(line)),
                         Holding::Clean => {}
                         Holding::Dirty => cost += catalog[item].write,
                     }
@@ -33,7 +33,7 @@ pub fn price(season: &Season) -> Result<u64, Refusal> {
                 }
                 Act::Fetch { item } => {
                     if holdings[item] != Holding::Nothing {
-                        return Err(Reason::AlreadyHeld.on(line));
+                        return Err(Reason::AlreadyHeld { item }.on(line));
                     }
                     holdings[item] = Holding::Clean;
                     used += catalog[item].blocks;
@@ -45,7 +45,7 @@ pub fn price(season: &Season) -> Result<u64, Refusal> {
         let line = season.first_step_line + place;
         if let Step::Read { item } | Step::Write { item, .. } = step {
             if holdings[item] == Holding::Nothing {
-                return Err(Reason::RequestNotHeld.on(line));
+                return Err(Reason::RequestNotHeld { item }.on(line));
             }
         }
         if used > season.h {

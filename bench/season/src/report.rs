@@ -1,9 +1,9 @@
-//! The report of a closed season, and the two numbers of a refused text.
+//! The report of a closed season, and the output of a refused text.
 
 use std::fmt::{self, Write};
 
 use crate::cache::Counts;
-use crate::Refusal;
+use crate::{sentence, Refusal};
 
 /// The report on a closed cache of `k` blocks, beside a plan of `h` blocks that costs `rival`.
 pub fn report(counts: &Counts, k: u32, h: u32, rival: u64) -> String {
@@ -19,8 +19,11 @@ pub fn alone(counts: &Counts) -> String {
     written(counts, "", "")
 }
 
+/// A refusal: its names, its number and line, and its sentence.
 pub fn refused(Refusal { reason, line }: Refusal) -> String {
-    format!("refusal line\n{} {line}\n", reason as u32)
+    let number = reason.number();
+    let sentence = sentence(number, line, reason.item()).expect("each reason has its word");
+    format!("refusal line\n{number} {line}\n{sentence}")
 }
 
 /// A report whose last two lines end so.

@@ -214,8 +214,9 @@ fn step(line: &[u8], k: u32, catalog: &[Item]) -> Result<Step, Reason> {
         _ => return Err(Reason::Malformed),
     };
     require(i <= 255, Reason::OutOfRange)?;
-    let item = catalog.get(i as usize).ok_or(Reason::UnknownItem)?;
-    require(item.blocks <= k, Reason::ItemTooLarge)?;
+    let item = i as usize;
+    let Item { blocks, .. } = catalog.get(item).ok_or(Reason::UnknownItem { item })?;
+    require(*blocks <= k, Reason::ItemTooLarge { item })?;
     Ok(step)
 }
 
@@ -241,6 +242,7 @@ fn act(line: &[u8], earliest: usize, steps: usize, n: usize) -> Result<(usize, A
     require(at <= 999_999 && i <= 255, Reason::OutOfRange)?;
     let at = at as usize;
     require((earliest..steps).contains(&at), Reason::ActOutOfOrder)?;
-    require((i as usize) < n, Reason::UnknownItem)?;
+    let item = i as usize;
+    require(item < n, Reason::UnknownItem { item })?;
     Ok((at, act))
 }

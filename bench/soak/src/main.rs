@@ -1,7 +1,7 @@
 //! A long differential run: the recorder's exported calls and the program `season` against plain Rust, on random seasons, texts,
-//! hostile states and small seasons beside their cheapest plans. It ends at the first difference, with status 1.
+//! hostile states, small seasons beside their cheapest plans, and sentences. It ends at the first difference, with status 1.
 //! bench/soak/run builds and runs it:
-//!   soak program=target/bin/season seed=1 seasons=1000 texts=1000 states=10000 plans=1000
+//!   soak program=target/bin/season seed=1 seasons=1000 texts=1000 states=10000 plans=1000 sentences=1000
 //!   soak program=target/bin/season seed=1 only=seasons:123
 //! With trace=1 each case is named before it is run.
 
@@ -16,6 +16,7 @@ mod program;
 mod rule;
 mod run;
 mod seasons;
+mod sentences;
 mod summary;
 mod texts;
 
@@ -53,7 +54,9 @@ impl Words {
 
 fn usage(word: &str) -> ! {
     eprintln!("soak: {word} is not understood");
-    eprintln!("usage: soak program=FILE [seed=N] [seasons=N] [texts=N] [states=N] [plans=N]");
+    eprintln!(
+        "usage: soak program=FILE [seed=N] [seasons=N] [texts=N] [states=N] [plans=N] [sentences=N]"
+    );
     eprintln!("       soak program=FILE [seed=N] only=PART:N");
     std::process::exit(2);
 }
@@ -67,8 +70,8 @@ struct Soak {
     seen: Seen,
     worst: Worst,
     tally: Tally,
-    /// Seasons, texts, states and small seasons.
-    done: [u64; 4],
+    /// Seasons, texts, states, small seasons and sentences.
+    done: [u64; 5],
 }
 
 impl Soak {
@@ -79,6 +82,7 @@ impl Soak {
             Part::Texts => texts::case(run, &self.program),
             Part::States => hostile::case(run, &mut self.seen),
             Part::Plans => plans::case(run, &self.program, &mut self.worst),
+            Part::Sentences => sentences::case(run),
         }
     }
 
@@ -100,6 +104,7 @@ impl Soak {
             Part::Texts => texts::TO_A_SEASON,
             Part::States => hostile::TO_A_START,
             Part::Plans => plans::TO_A_CLIMB,
+            Part::Sentences => 1,
         };
         let cases = count.div_ceil(to_a_case);
         let mut run = Run::new(self.seed, part);
@@ -142,7 +147,7 @@ fn main() {
         seen: Seen::default(),
         worst: Worst::default(),
         tally: Tally::default(),
-        done: [0; 4],
+        done: [0; 5],
     };
     if let Some(which) = words.value("only") {
         soak.only(which);

@@ -48,18 +48,18 @@ impl Call<'_> {
 const GUARD: usize = 64;
 const FENCE: u8 = 0xC3;
 
-/// What stands in the place of a report's length before it is told.
-const UNTOLD: usize = 12_345;
+/// What stands in the place of a text's length before it is told.
+pub const UNTOLD: usize = 12_345;
 
 /// Bytes that are lent to the library, at some address, between guards.
-struct Lent {
+pub struct Lent {
     arena: Vec<u8>,
     start: usize,
     end: usize,
 }
 
 impl Lent {
-    fn of(bytes: &[u8], shift: usize) -> Lent {
+    pub fn of(bytes: &[u8], shift: usize) -> Lent {
         let start = GUARD + shift;
         let end = start + bytes.len();
         let mut arena = vec![FENCE; end + GUARD];
@@ -67,15 +67,15 @@ impl Lent {
         Lent { arena, start, end }
     }
 
-    fn bytes(&self) -> &[u8] {
+    pub fn bytes(&self) -> &[u8] {
         &self.arena[self.start..self.end]
     }
 
-    fn bytes_mut(&mut self) -> &mut [u8] {
+    pub fn bytes_mut(&mut self) -> &mut [u8] {
         &mut self.arena[self.start..self.end]
     }
 
-    fn guards_kept(&self) -> bool {
+    pub fn guards_kept(&self) -> bool {
         let fence = |bytes: &[u8]| bytes.iter().all(|&byte| byte == FENCE);
         fence(&self.arena[..self.start]) && fence(&self.arena[self.end..])
     }

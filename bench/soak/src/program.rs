@@ -45,6 +45,13 @@ impl Program {
             ];
             run.differ(&what, &details);
         }
+        if let Some(sail) = sail(&plain) {
+            if field_of_sail(&plain, text) != Some(sail.as_bytes()) {
+                let details = [kept("soak-difference.text", text), plain.clone()];
+                run.differ("a sail is told that does not stand on the line", &details);
+            }
+            run.tally.sails_told += 1;
+        }
         let number = number(&plain);
         run.tally.count(Asked::Text, number);
         let longest_taken = number == 0 && text.len() == plain_season::MAX_BYTES;
@@ -60,6 +67,23 @@ pub fn number(output: &str) -> u32 {
     number.map_or(0, |number| {
         number.parse().expect("a refusal has its number")
     })
+}
+
+/// The sail that the sentence of a refusal tells, if it tells one.
+fn sail(output: &str) -> Option<&str> {
+    let (_, sail) = output.split_once(", sail ")?;
+    sail.strip_suffix(".\n")
+}
+
+/// Where the sail of a refused step or act stands in the text: on the line that the refusal names, behind the kind, which is first in
+/// a step's line and second in an act's.
+fn field_of_sail<'a>(output: &str, text: &'a [u8]) -> Option<&'a [u8]> {
+    let (_, line) = output.lines().nth(1)?.split_once(' ')?;
+    let line: usize = line.parse().ok()?;
+    let mut lines = text.split(|&byte| byte == b'\n');
+    let mut fields = lines.nth(line.checked_sub(1)?)?.split(|&byte| byte == b' ');
+    fields.find(|field| matches!(field, [b'A'..=b'Z']))?;
+    fields.next()
 }
 
 /// The last line of a report: from hits to total, rival, left and right.

@@ -10,10 +10,17 @@ pub enum Part {
     Texts,
     States,
     Plans,
+    Sentences,
 }
 
 impl Part {
-    pub const ALL: [Part; 4] = [Part::Seasons, Part::Texts, Part::States, Part::Plans];
+    pub const ALL: [Part; 5] = [
+        Part::Seasons,
+        Part::Texts,
+        Part::States,
+        Part::Plans,
+        Part::Sentences,
+    ];
 
     pub fn name(self) -> &'static str {
         match self {
@@ -21,6 +28,7 @@ impl Part {
             Part::Texts => "texts",
             Part::States => "states",
             Part::Plans => "plans",
+            Part::Sentences => "sentences",
         }
     }
 }
@@ -33,16 +41,19 @@ pub enum Asked {
     Close,
     Report,
     Text,
+    Sentence,
 }
 
-pub const ASKED: [&str; 5] = ["open", "step", "close", "report", "text"];
+pub const ASKED: [&str; 6] = ["open", "step", "close", "report", "text", "sentence"];
 
 /// How often each number was answered, to each kind of question.
 #[derive(Default)]
 pub struct Tally {
-    pub answers: [[u64; 18]; 5],
+    pub answers: [[u64; 18]; 6],
     /// Texts as long as one may be that were taken.
     pub longest_taken: u64,
+    /// Refused texts whose sentence tells a sail.
+    pub sails_told: u64,
 }
 
 impl Tally {
@@ -57,6 +68,7 @@ impl Tally {
             .zip(more)
             .for_each(|(sum, count)| *sum += count);
         self.longest_taken += other.longest_taken;
+        self.sails_told += other.sails_told;
     }
 
     pub fn questions(&self) -> u64 {
@@ -64,7 +76,7 @@ impl Tally {
     }
 }
 
-/// A run over the cases of the four parts. Each case has random numbers of its own, so that it can be repeated by itself.
+/// A run over the cases of the five parts. Each case has random numbers of its own, so that it can be repeated by itself.
 pub struct Run {
     pub seed: u64,
     pub part: Part,

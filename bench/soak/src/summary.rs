@@ -11,9 +11,13 @@ fn answers(tally: &Tally) {
     for (name, answers) in ASKED.iter().zip(tally.answers) {
         let answers = answers.iter().enumerate().filter(|(_, count)| **count > 0);
         let words: Vec<String> = answers.map(|(n, count)| format!("{n}: {count}")).collect();
-        println!("  {name:<7} {}", words.join(", "));
+        println!("  {name:<8} {}", words.join(", "));
     }
     println!("  {} texts of 65,536 bytes were taken", tally.longest_taken);
+    println!(
+        "  {} refused texts were told a sail, each the one on its line",
+        tally.sails_told
+    );
 }
 
 fn states(seen: &Seen) {
@@ -59,11 +63,11 @@ pub fn print(soak: &Soak) {
     answers(&soak.tally);
     states(&soak.seen);
     worst(&soak.worst);
-    let [seasons, texts, states, plans] = soak.done;
+    let [seasons, texts, states, plans, sentences] = soak.done;
     let (questions, time) = (soak.tally.questions(), soak.begun.elapsed());
     println!(
-        "seed {}: {seasons} seasons, {texts} texts, {states} hostile states, {plans} small seasons beside their cheapest plans: \
-         {questions} answers compared in {} s, no difference",
+        "seed {}: {seasons} seasons, {texts} texts, {states} hostile states, {plans} small seasons beside their cheapest plans, \
+         {sentences} sentences: {questions} answers compared in {} s, no difference",
         soak.seed,
         time.as_secs()
     );

@@ -10,7 +10,7 @@ use Rattle.landlord.specs.declared.Step.the-variants.{Read, Write, Flush}
 use Rattle.landlord.specs.Types.{Told, telling}
 use Rattle.landlord.specs.Catalog.{Catalog, itemAt, capacityInRange, catalogInRange}
 use Rattle.landlord.specs.Figures.{Standing, opened}
-use Rattle.landlord.specs.Calls.{Call, stepCall, close, stepOf, inRange, itemRefusal, refusalAt, refusalNow, openingRefusal}
+use Rattle.landlord.specs.Calls.{Call, stepCall, close, callItem, stepOf, inRange, itemRefusal, refusalAt, refusalNow, openingRefusal}
 use Rattle.cache.specs.Contract.{Called}
 use Rattle.cache_value.specs.declared.Cache.{Cache}
 use Rattle.cache_value.specs.declared.Answered.{Answered}
@@ -59,35 +59,35 @@ opening-number {k = k} {cat = cat} o =
 
 -- ---- the answer tells it
 
-pub number-told : {t : Told} {n : ℕ} → t ≡ telling n 0 → t .number ≡ n
-number-told e = λ j. e j .number
+pub number-told : {t : Told} {n : ℕ} (item : ℕ) → t ≡ telling n 0 item → t .number ≡ n
+number-told item e = λ j. e j .number
 
-own-told : {t : Told} {n : ℕ} → t ≡ telling n 0 → t ≡ telling (t .number) 0
-own-told e = e ∙ ap (λ (m : ℕ). telling m 0) (sym (number-told e))
+own-told : {t : Told} {n : ℕ} (item : ℕ) → t ≡ telling n 0 item → t ≡ telling (t .number) 0 item
+own-told item e = e ∙ ap (λ (m : ℕ). telling m 0 item) (sym (number-told item e))
 
 -- what a reply's number and cache promise, its answer and cache do
 of-reply :
-    (P : ℕ → Cache → Type 0) {n : ℕ} {d : Cache} (r : Answered) →
-    answerTold (r .answer) ≡ telling n 0 →
+    (P : ℕ → Cache → Type 0) {n : ℕ} {d : Cache} (item : ℕ) (r : Answered) →
+    answerTold (r .answer) ≡ telling n 0 item →
     r .cache ≡ d →
     P n d →
     P (answerNumber (r .answer)) (r .cache)
-of-reply P {d = d} r t e h =
-    subst (P (answerNumber (r .answer))) (sym e) (subst (λ (m : ℕ). P m d) (sym (number-told t)) h)
+of-reply P {d = d} item r t e h =
+    subst (P (answerNumber (r .answer))) (sym e) (subst (λ (m : ℕ). P m d) (sym (number-told item t)) h)
 
 -- so of a call, and of an opening
-pub answered : (c d : Cache) (call : Call) (n : ℕ) (r : Answered) → Called byValue c call n d → answerTold (r .answer) ≡ telling n 0 → r .cache ≡ d → CalledBy c call r
-answered c d call n r h t e = record { called = of-reply (Called byValue c call) r t e h; tells = own-told t }
+pub answered : (c d : Cache) (call : Call) (n : ℕ) (r : Answered) → Called byValue c call n d → answerTold (r .answer) ≡ telling n 0 (callItem call) → r .cache ≡ d → CalledBy c call r
+answered c d call n r h t e = record { called = of-reply (Called byValue c call) (callItem call) r t e h; tells = own-told (callItem call) t }
 
 -- where an opening stands, by its number
 abbrev atOpening : ℕ → Catalog → ℕ → Standing
 atOpening k cat m = cond (eqb m 0) (opened k cat) refusedOpening
 
-pub opened-as : (k : ℕ) (cat : Catalog) (n : ℕ) (c : Cache) (r : Answered) → Opened k cat n c → answerTold (r .answer) ≡ telling n 0 → r .cache ≡ c → OpenedBy k cat r
+pub opened-as : (k : ℕ) (cat : Catalog) (n : ℕ) (c : Cache) (r : Answered) → Opened k cat n c → answerTold (r .answer) ≡ telling n 0 0 → r .cache ≡ c → OpenedBy k cat r
 opened-as k cat n c r o t e =
-    let p = of-reply (Opened k cat) r t e o in
+    let p = of-reply (Opened k cat) 0 r t e o in
     record {
-      tells = t ∙ ap (λ (m : ℕ). telling m 0) (o .answer);
+      tells = t ∙ ap (λ (m : ℕ). telling m 0 0) (o .answer);
       valid = p .valid;
       stands = p .stands ∙ ap (atOpening k cat) (p .answer);
       empty = p .empty;
@@ -95,5 +95,5 @@ opened-as k cat n c r o t e =
 
 pub opened-by : (k : ℕ) (cat : Catalog) (r : Answered) → OpenedBy k cat r → Opened k cat (answerNumber (r .answer)) (r .cache)
 opened-by k cat r o =
-    let n = number-told (o .tells) in
+    let n = number-told 0 (o .tells) in
     record { answer = n; valid = o .valid; stands = o .stands ∙ ap (atOpening k cat) (sym n); empty = o .empty }

@@ -29,15 +29,15 @@ pub run-refused :
     (k : ℕ) (cat : Catalog) (calls : List Call) (before : List ℕ) (n : ℕ) (c : Cache) (r : Answered) →
     Opened k cat n c →
     n ≢ 0 →
-    answerTold (r .answer) ≡ telling n 0 →
+    answerTold (r .answer) ≡ telling n 0 0 →
     r .cache ≡ c →
     Ran k cat calls before before r
 run-refused k cat calls before n c r o d t e =
     record {
-      tells = t ∙ ap (λ (m : ℕ). telling m 0) (o .answer);
+      tells = t ∙ ap (λ (m : ℕ). telling m 0 0) (o .answer);
       refused = λ z. (refl, ap (λ (q : Cache). view (recordOf q)) e ∙ o .stands ∙ rw (ne-eqb n 0 d));
       numbers = [];
-      season = λ z. absurd (d (sym (number-told t) ∙ z));
+      season = λ z. absurd (d (sym (number-told 0 t) ∙ z));
     }
 
 -- the bytes of an opened cache begin a season in place
@@ -72,7 +72,7 @@ pub run-taken :
     Ran k cat calls before after (record { answer = Taken; cache = d })
 run-taken k cat calls before n c d {b = b} {left = left} o z s ran e =
     record {
-      tells = ap (λ (m : ℕ). telling m 0) (sym z ∙ o .answer);
+      tells = ap (λ (m : ℕ). telling m 0 0) (sym z ∙ o .answer);
       refused = λ w. absurd (w refl);
       numbers = ran .numbers;
       season = λ w. (season-carried k cat calls (ran .numbers) left d e (season-theorem lent (bytes-begin k cat n c b o z s) (ran .follows)), ran .noted);

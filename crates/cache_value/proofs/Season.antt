@@ -5,7 +5,7 @@ use Prim.Native.Nat.{ℕ, zero, suc}
 use lib.ListN.{getD, length-map}
 use Rattle.landlord.specs.Types.{telling}
 use Rattle.landlord.specs.Catalog.{Catalog}
-use Rattle.landlord.specs.Calls.{Call}
+use Rattle.landlord.specs.Calls.{Call, close, callItem}
 use Rattle.cache.specs.Contract.{Follows, none, then, Season, Prefix}
 use Rattle.cache.specs.Inner.{BeginsAt}
 use Rattle.cache.proofs.Season.{season-theorem, season-prefix}
@@ -40,8 +40,12 @@ pub method-follows : {c d : Cache} {calls : List Call} {answers : List Answer} �
 method-follows noCall = none
 method-follows (thenCall m f) = then (m .called) (method-follows f)
 
--- an answer tells the number that is in its place, and no line
-told-at : {c d : Cache} {calls : List Call} {answers : List Answer} → FollowsBy c calls answers d → (i : ℕ) → answerTold (getD answers i Taken) ≡ telling (getD (map answerNumber answers) i 0) 0
+-- an answer tells the number that is in its place and its call's item, and no line
+told-at :
+    {c d : Cache} {calls : List Call} {answers : List Answer} →
+    FollowsBy c calls answers d →
+    (i : ℕ) →
+    answerTold (getD answers i Taken) ≡ telling (getD (map answerNumber answers) i 0) 0 (callItem (getD calls i close))
 told-at noCall i = refl
 told-at (thenCall m f) zero = m .tells
 told-at (thenCall m f) (suc i) = told-at f i
@@ -60,7 +64,7 @@ pub season-by-methods : (k : ℕ) (cat : Catalog) (calls : List Call) (answers :
 season-by-methods k cat calls answers d chain =
     record {
       count = sym (length-map answers answerNumber) ∙ s .season .answers .count;
-      each = λ i l. told-at (chain .follows) i ∙ ap (λ (n : ℕ). telling n 0) (s .season .answers .each i l);
+      each = λ i l. told-at (chain .follows) i ∙ ap (λ (n : ℕ). telling n 0 (callItem (getD calls i close))) (s .season .answers .each i l);
       byNumber = s;
     }
   where

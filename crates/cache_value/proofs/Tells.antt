@@ -3,7 +3,7 @@
 use mathlib.Core.Path.{_≡_, refl, sym, ap, _∙_}
 use Prim.Native.Nat.{ℕ}
 use Rattle.landlord.specs.Types.{telling}
-use Rattle.landlord.specs.Calls.{Call}
+use Rattle.landlord.specs.Calls.{Call, callItem}
 use Rattle.landlord.proofs.Refusals.{refusal-one, refused-some}
 use Rattle.cache_state.proofs.Tells.{Sizes}
 use Rattle.cache_state.proofs.Tells as records
@@ -74,4 +74,4 @@ pub method-one :
     (r .answer ≡ s .answer) × (r .cache ≡ s .cache)
 method-one c call r s ok sr ss p q =
     let one = answers-one c (r .cache) (s .cache) call _ _ sr ss (p .called .fine ok) (q .called .fine ok) in
-    (answer-one (r .answer) (s .answer) (p .tells ∙ ap (λ (n : ℕ). telling n 0) (one .0) ∙ sym (q .tells)), one .1)
+    (answer-one (r .answer) (s .answer) (p .tells ∙ ap (λ (n : ℕ). telling n 0 (callItem call)) (one .0) ∙ sym (q .tells)), one .1)

@@ -2,7 +2,7 @@
 use mathlib.Core.{Path._≡_, Bool.{true, cond}, List.{List, [], _∷_, map}, Logic._≢_}
 use Prim.Native.Nat.{ℕ, _<_, _+_}
 use lib.{Dec.eqb, ListN.{getD, length, take}, Seq.sets}
-use Rattle.landlord.specs.{Types.{telling, nothingTold, told, Told}, Fold.tab, Catalog.Catalog, Rule.emptied, Figures.{Standing, nothing, opened}, Calls.{Call, openingRefusal, close, refusal}}
+use Rattle.landlord.specs.{Types.{telling, nothingTold, told, Told}, Fold.tab, Catalog.Catalog, Rule.emptied, Figures.{Standing, nothing, opened}, Calls.{Call, callItem, openingRefusal, close, refusal}}
 use Rattle.cache_state.specs.Cache.{Cache as Record, view, Valid, EmptyPlace}
 use Rattle.cache.specs.Contract.{Kind, Called, Closing, Bounded, Season}
 use Rattle.cache_value.specs.declared.{Cache.Cache, Answer.{Answer, the-variants.{Taken, Refused}}, Answered.Answered}
@@ -56,14 +56,14 @@ answerTold (Refused r) = told r
 abbrev pub answerNumber : Answer → ℕ
 answerNumber a = answerTold a .number
 
--- a step or the closing as a method: the answer tells the call's number and no line, and the next cache comes with it
+-- a step or the closing as a method: the answer tells the call's number and its item, and no line; the next cache comes with it
 pub record CalledBy (c : Cache) (call : Call) (r : Answered) : Type 0 where
   pub called : Called byValue c call (answerNumber (r .answer)) (r .cache)
-  pub tells : answerTold (r .answer) ≡ telling (answerNumber (r .answer)) 0
+  pub tells : answerTold (r .answer) ≡ telling (answerNumber (r .answer)) 0 (callItem call)
 
 -- the opening: 0 or 3, and the one valid cache that stands at the opening, or that of a refused one, all its places empty
 pub record OpenedBy (k : ℕ) (cat : Catalog) (r : Answered) : Type 0 where
-  pub tells : answerTold (r .answer) ≡ telling (openingRefusal k cat) 0
+  pub tells : answerTold (r .answer) ≡ telling (openingRefusal k cat) 0 0
   pub valid : byValue .Valid (r .cache)
   pub stands : byValue .view (r .cache) ≡ cond (eqb (openingRefusal k cat) 0) (opened k cat) refusedOpening
   -- "It has 256 places, one for each sail number, empty at opening"
@@ -93,17 +93,18 @@ pub record ChainBy (k : ℕ) (cat : Catalog) (calls : List Call) (answers : List
   pub follows : FollowsBy (reply .cache) calls answers d
 
 -- The first conclusion for the answers themselves: answer i tells the number that the table gives, from the opening's arguments and
--- the calls before it, and no line. The other two are stated for the numbers.
+-- the calls before it, with the call's item and no line. The other two are stated for the numbers.
 pub record SeasonByMethods (k : ℕ) (cat : Catalog) (calls : List Call) (answers : List Answer) (d : Cache) : Type 0 where
   pub count : length answers ≡ length calls
   pub each :
-      (i : ℕ) → i < length calls → answerTold (getD answers i Taken) ≡ telling (refusal k cat (take i calls) (getD calls i close)) 0
+      (i : ℕ) → i < length calls →
+      answerTold (getD answers i Taken) ≡ telling (refusal k cat (take i calls) (getD calls i close)) 0 (callItem (getD calls i close))
   pub byNumber : SeasonByValue k cat calls (map answerNumber answers) d
 
 -- The season theorem of the arguments alone: a refused opening answers 3 and notes nothing; else the three conclusions hold of
 -- the answers noted and of the cache handed back.
 pub record Ran (k : ℕ) (cat : Catalog) (calls : List Call) (before after : List ℕ) (r : Answered) : Type 0 where
-  pub tells : answerTold (r .answer) ≡ telling (openingRefusal k cat) 0
+  pub tells : answerTold (r .answer) ≡ telling (openingRefusal k cat) 0 0
   pub refused : answerNumber (r .answer) ≢ 0 → (after ≡ before) × (byValue .view (r .cache) ≡ refusedOpening)
   pub numbers : List ℕ
   pub season : answerNumber (r .answer) ≡ 0 → SeasonByValue k cat calls numbers (r .cache) × (after ≡ sets before 0 numbers)

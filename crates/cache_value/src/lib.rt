@@ -220,26 +220,26 @@ fn call(c: Cache, which: u32, kind: u32, item: u32, minutes: u32) -> Reply
     }
 }
 
-// The answer with a call's number, and no line.
-fn answer_to(number: u32) -> Answer
+// The answer with a call's number, about an item, and no line.
+fn answer_to(number: u32, item: u32) -> Answer
     requires { ⌜ number ≤ 17 ⌝ }
-    ensures { λ r. ⌜ answerTold r ≡ telling number 0 ⌝ }
+    ensures { λ r. ⌜ answerTold r ≡ telling number 0 item ⌝ }
 {
     if number == 0 {
         return Answer::Taken;
     }
-    Answer::Refused(landlord::refusal_of(number, 0))
+    Answer::Refused(landlord::refusal_of(number, 0, item))
 }
 
-// A reply with its number as an answer.
-fn answer_with(r: Reply) -> Answered
+// A reply with its number as an answer, about the call's item.
+fn answer_with(r: Reply, item: u32) -> Answered
     requires { ⌜ r .number ≤ 17 ⌝ }
-    ensures { λ a. ⌜ (answerTold (a .answer) ≡ telling (r .number) 0) × (a .cache ≡ r .cache) ⌝ }
+    ensures { λ a. ⌜ (answerTold (a .answer) ≡ telling (r .number) 0 item) × (a .cache ≡ r .cache) ⌝ }
 {
     let next = r.cache;
     let number = r.number;
     Answered {
-        answer: answer_to(number),
+        answer: answer_to(number, item),
         cache: next,
     }
 }
@@ -255,21 +255,22 @@ impl Cache {
     ) -> Answered
         ensures { λ r. ⌜ OpenedBy k (catalogFrom n blocks load write) r ⌝ }
     {
-        answer_with(opening(k, n, blocks, load, write))
+        answer_with(opening(k, n, blocks, load, write), 0)
     }
 
     // Takes one step.
     pub fn step(self, s: Step) -> Answered
         ensures { λ r. ⌜ CalledBy self (callOf s) r ⌝ }
     {
-        answer_with(call(self, 0, s.kind(), s.item(), s.minutes()))
+        let item = s.item();
+        answer_with(call(self, 0, s.kind(), item, s.minutes()), item)
     }
 
     // Closes the log: what is dirty is written back.
     pub fn close(self) -> Answered
         ensures { λ r. ⌜ CalledBy self close r ⌝ }
     {
-        answer_with(call(self, 1, 0, 0, 0))
+        answer_with(call(self, 1, 0, 0, 0), 0)
     }
 }
 
@@ -292,7 +293,7 @@ pub fn run(
     let number = first.number;
     let c = first.cache;
     if number != 0 {
-        return answer_with(first);
+        return answer_with(first, 0);
     }
     let mut b = [0u8; layout::STATE_BYTES];
     bytes::encode(c, &mut b);

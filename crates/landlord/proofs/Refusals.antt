@@ -1,4 +1,4 @@
--- A refusal is told by its number and its line, and its number is one of the table's. Assumes nothing.
+-- A refusal is told by its number, its line and its item, and its number is one of the table's. Assumes nothing.
 use mathlib.Core.Path.{_≡_, refl, sym, ap, _∙_}
 use mathlib.Core.List.{List, [], _∷_}
 use Prim.Native.Nat.{ℕ, _≤_}
@@ -9,14 +9,14 @@ use Rattle.landlord.specs.declared.Refusal.the-variants.{Malformed, Head
 use Rattle.landlord.specs.Types.{Told, telling, told, refusalNumber}
 use Rattle.landlord.specs.Plan.{Fault, unknownItem, notHeld, alreadyHeld, requestNotHeld, overCapacity, faultRefusal, faultNumber}
 
--- the refusals on a line, in the order of the table
-abbrev refusals : ℕ → List Refusal
-refusals l =
-    Malformed l ∷ Heading l ∷ OutOfRange l ∷ OutOfSequence l ∷ PlanTooLarge l ∷ UnknownItem l ∷ ItemTooLarge l ∷ LogFull l ∷ Closed l ∷ ActOutOfOrder l ∷ NotHeld l ∷ AlreadyHeld l ∷ OverCapacity l ∷ RequestNotHeld l ∷ ShortBuffer l ∷ InputTooLong l ∷ InvalidState l ∷ []
+-- the refusals on a line and about an item, in the order of the table
+abbrev refusals : ℕ → ℕ → List Refusal
+refusals l i =
+    Malformed l ∷ Heading l ∷ OutOfRange l ∷ OutOfSequence l ∷ PlanTooLarge l ∷ UnknownItem l i ∷ ItemTooLarge l i ∷ LogFull l ∷ Closed l ∷ ActOutOfOrder l ∷ NotHeld l i ∷ AlreadyHeld l i ∷ OverCapacity l ∷ RequestNotHeld l i ∷ ShortBuffer l ∷ InputTooLong l ∷ InvalidState l ∷ []
 
 -- the refusal that tells so much; nothing has number 0
 abbrev refusalFrom : Told → Refusal
-refusalFrom t = getD (InvalidState 0 ∷ refusals (t .line)) (t .number) (InvalidState 0)
+refusalFrom t = getD (InvalidState 0 ∷ refusals (t .line) (t .item)) (t .number) (InvalidState 0)
 
 refusal-back : (r : Refusal) → refusalFrom (told r) ≡ r
 refusal-back (Malformed l) = refl
@@ -24,15 +24,15 @@ refusal-back (Heading l) = refl
 refusal-back (OutOfRange l) = refl
 refusal-back (OutOfSequence l) = refl
 refusal-back (PlanTooLarge l) = refl
-refusal-back (UnknownItem l) = refl
-refusal-back (ItemTooLarge l) = refl
+refusal-back (UnknownItem l i) = refl
+refusal-back (ItemTooLarge l i) = refl
 refusal-back (LogFull l) = refl
 refusal-back (Closed l) = refl
 refusal-back (ActOutOfOrder l) = refl
-refusal-back (NotHeld l) = refl
-refusal-back (AlreadyHeld l) = refl
+refusal-back (NotHeld l i) = refl
+refusal-back (AlreadyHeld l i) = refl
 refusal-back (OverCapacity l) = refl
-refusal-back (RequestNotHeld l) = refl
+refusal-back (RequestNotHeld l i) = refl
 refusal-back (ShortBuffer l) = refl
 refusal-back (InputTooLong l) = refl
 refusal-back (InvalidState l) = refl
@@ -48,15 +48,15 @@ refusal-range (Heading l) = omega arith
 refusal-range (OutOfRange l) = omega arith
 refusal-range (OutOfSequence l) = omega arith
 refusal-range (PlanTooLarge l) = omega arith
-refusal-range (UnknownItem l) = omega arith
-refusal-range (ItemTooLarge l) = omega arith
+refusal-range (UnknownItem l i) = omega arith
+refusal-range (ItemTooLarge l i) = omega arith
 refusal-range (LogFull l) = omega arith
 refusal-range (Closed l) = omega arith
 refusal-range (ActOutOfOrder l) = omega arith
-refusal-range (NotHeld l) = omega arith
-refusal-range (AlreadyHeld l) = omega arith
+refusal-range (NotHeld l i) = omega arith
+refusal-range (AlreadyHeld l i) = omega arith
 refusal-range (OverCapacity l) = omega arith
-refusal-range (RequestNotHeld l) = omega arith
+refusal-range (RequestNotHeld l i) = omega arith
 refusal-range (ShortBuffer l) = omega arith
 refusal-range (InputTooLong l) = omega arith
 refusal-range (InvalidState l) = omega arith
@@ -65,8 +65,16 @@ refusal-range (InvalidState l) = omega arith
 pub refused-some : (r : Refusal) → refusalNumber r ≡ 0 → ⊥
 refused-some r e = omega (arith, refusal-range r .0)
 
--- a fault of a plan is told by its number, on the line where it is told
-pub fault-tells : (f : Fault) (n : ℕ) → told (faultRefusal f n) ≡ telling (faultNumber f) n
+-- the item that a fault is about; a plan that holds too much names none
+abbrev pub faultItem : Fault → ℕ
+faultItem (unknownItem s a i) = i
+faultItem (notHeld s a i) = i
+faultItem (alreadyHeld s a i) = i
+faultItem (requestNotHeld s i) = i
+faultItem (overCapacity s) = 0
+
+-- a fault of a plan is told by its number and its item, on the line where it is told
+pub fault-tells : (f : Fault) (n : ℕ) → told (faultRefusal f n) ≡ telling (faultNumber f) n (faultItem f)
 fault-tells (unknownItem s a i) n = refl
 fault-tells (notHeld s a i) n = refl
 fault-tells (alreadyHeld s a i) n = refl

@@ -19,6 +19,11 @@ pub data Call : Type 0 where
 abbrev pub callOf : Step → Call
 callOf s = stepCall (stepKind s) (stepItem s) (stepMinutes s)
 
+-- the item that a call is about; the closing is about none
+abbrev pub callItem : Call → ℕ
+callItem (stepCall kind item minutes) = item
+callItem close = 0
+
 -- the step that a call of a known kind means; values that a step lacks are not looked at
 unfoldable pub stepOf : ℕ → ℕ → ℕ → Step
 stepOf kind item minutes = cond (eqb kind 82) (Read item) (cond (eqb kind 87) (Write item minutes) Flush)

@@ -55,10 +55,10 @@ pub data Fault : Type 0 where
 
 -- its refusal, told on a line: stranger, not aboard, aboard, missing, overstowed
 abbrev pub faultRefusal : Fault → ℕ → Refusal
-faultRefusal (unknownItem s a i) n = UnknownItem n
-faultRefusal (notHeld s a i) n = NotHeld n
-faultRefusal (alreadyHeld s a i) n = AlreadyHeld n
-faultRefusal (requestNotHeld s i) n = RequestNotHeld n
+faultRefusal (unknownItem s a i) n = UnknownItem n i
+faultRefusal (notHeld s a i) n = NotHeld n i
+faultRefusal (alreadyHeld s a i) n = AlreadyHeld n i
+faultRefusal (requestNotHeld s i) n = RequestNotHeld n i
 faultRefusal (overCapacity s) n = OverCapacity n
 
 -- its number in paper 01's table

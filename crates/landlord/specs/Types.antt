@@ -1,6 +1,8 @@
 -- Paper 01's number, letter and values for each case of the shared types.
 -- Assumes nothing.
+use mathlib.Core.Bool.{Bool, cond, _||_}
 use Prim.Native.Nat.{ℕ}
+use lib.Dec.{eqb}
 use Rattle.landlord.specs.declared.{Step.{Step, the-variants.{Read, Write, Flush}}, Act.{Act, the-variants.{Evict, Fetch}}, Refusal.{Refusal, the-variants.{Malformed, Heading, OutOfRange, OutOfSequence, PlanTooLarge, UnknownItem, ItemTooLarge, LogFull, Closed, ActOutOfOrder, NotHeld, AlreadyHeld, OverCapacity, RequestNotHeld, ShortBuffer, InputTooLong, InvalidState}}}
 
 -- a step's letter, as its code: R is 82, W is 87, L is 76
@@ -31,41 +33,54 @@ abbrev pub actItem : Act → ℕ
 actItem (Evict i) = i
 actItem (Fetch i) = i
 
--- what an answer tells: a number of paper 01's table, 'When the library says no', and the line of the text, from 1; 0 where no text was
--- read
+-- whether a refusal of this number names an item: "for 6, 7, 11, 12 and 14 the sail", and "19 and 20 print the sail" (paper 02, 'One')
+abbrev pub namesItem : ℕ → Bool
+namesItem number =
+    eqb number 6 || eqb number 7 || eqb number 11 || eqb number 12 || eqb number 14 || eqb number 19 || eqb number 20
+
+-- the item that a refusal of this number tells: 0 where it names none
+abbrev pub itemTold : ℕ → ℕ → ℕ
+itemTold number item = cond (namesItem number) item 0
+
+-- what an answer tells: a number of paper 01's table, 'When the library says no'; the line of the text, from 1, and 0 where no text was
+-- read; and the item, where the number names one
 pub record Told : Type 0 where
   pub number : ℕ
   pub line : ℕ
+  pub item : ℕ
 
-abbrev pub telling : ℕ → ℕ → Told
-telling number line = record { number = number; line = line }
+abbrev pub telling : ℕ → ℕ → ℕ → Told
+telling number line item = record { number = number; line = line; item = itemTold number item }
 
 -- nothing is refused
 abbrev pub nothingTold : Told
-nothingTold = telling 0 0
+nothingTold = telling 0 0 0
 
 -- what a refusal tells
 abbrev pub told : Refusal → Told
-told (Malformed l) = telling 1 l
-told (Heading l) = telling 2 l
-told (OutOfRange l) = telling 3 l
-told (OutOfSequence l) = telling 4 l
-told (PlanTooLarge l) = telling 5 l
-told (UnknownItem l) = telling 6 l
-told (ItemTooLarge l) = telling 7 l
-told (LogFull l) = telling 8 l
-told (Closed l) = telling 9 l
-told (ActOutOfOrder l) = telling 10 l
-told (NotHeld l) = telling 11 l
-told (AlreadyHeld l) = telling 12 l
-told (OverCapacity l) = telling 13 l
-told (RequestNotHeld l) = telling 14 l
-told (ShortBuffer l) = telling 15 l
-told (InputTooLong l) = telling 16 l
-told (InvalidState l) = telling 17 l
+told (Malformed l) = telling 1 l 0
+told (Heading l) = telling 2 l 0
+told (OutOfRange l) = telling 3 l 0
+told (OutOfSequence l) = telling 4 l 0
+told (PlanTooLarge l) = telling 5 l 0
+told (UnknownItem l i) = telling 6 l i
+told (ItemTooLarge l i) = telling 7 l i
+told (LogFull l) = telling 8 l 0
+told (Closed l) = telling 9 l 0
+told (ActOutOfOrder l) = telling 10 l 0
+told (NotHeld l i) = telling 11 l i
+told (AlreadyHeld l i) = telling 12 l i
+told (OverCapacity l) = telling 13 l 0
+told (RequestNotHeld l i) = telling 14 l i
+told (ShortBuffer l) = telling 15 l 0
+told (InputTooLong l) = telling 16 l 0
+told (InvalidState l) = telling 17 l 0
 
 abbrev pub refusalNumber : Refusal → ℕ
 refusalNumber r = told r .number
 
 abbrev pub refusalLine : Refusal → ℕ
 refusalLine r = told r .line
+
+abbrev pub refusalItem : Refusal → ℕ
+refusalItem r = told r .item

@@ -3,7 +3,7 @@
 ghost use mathlib.Core.Path.{_≡_};
 ghost use Rattle.landlord.specs.Calls.{inRange};
 ghost use Prim.Native.Nat.{_≤_};
-ghost use Rattle.landlord.specs.Types.{stepKind, stepItem, stepMinutes, actKind, actItem, told, telling, refusalNumber, refusalLine};
+ghost use Rattle.landlord.specs.Types.{stepKind, stepItem, stepMinutes, actKind, actItem, told, telling, refusalNumber, refusalLine, refusalItem};
 
 // A step of the log. Its numbers are as given: nothing here says that they are in range.
 pub enum Step {
@@ -22,7 +22,7 @@ pub enum Act {
 }
 
 // A refusal, one case for each row of paper 01's table, in its order. The payload is the line of the text, counted
-// from 1; it is 0 where a call is refused and no text was read.
+// from 1; it is 0 where a call is refused and no text was read. Some name the item that they are about.
 pub enum Refusal {
     // 1, torn
     Malformed { line: u32 },
@@ -35,9 +35,9 @@ pub enum Refusal {
     // 5, outsized rival
     PlanTooLarge { line: u32 },
     // 6, stranger
-    UnknownItem { line: u32 },
+    UnknownItem { line: u32, item: u32 },
     // 7, too bulky
-    ItemTooLarge { line: u32 },
+    ItemTooLarge { line: u32, item: u32 },
     // 8, log full
     LogFull { line: u32 },
     // 9, closed
@@ -45,13 +45,13 @@ pub enum Refusal {
     // 10, out of turn
     ActOutOfOrder { line: u32 },
     // 11, not aboard
-    NotHeld { line: u32 },
+    NotHeld { line: u32, item: u32 },
     // 12, aboard
-    AlreadyHeld { line: u32 },
+    AlreadyHeld { line: u32, item: u32 },
     // 13, overstowed
     OverCapacity { line: u32 },
     // 14, missing
-    RequestNotHeld { line: u32 },
+    RequestNotHeld { line: u32, item: u32 },
     // 15, short page
     ShortBuffer { line: u32 },
     // 16, long roll
@@ -134,15 +134,15 @@ impl Refusal {
             Refusal::OutOfRange { line: _ } => 3,
             Refusal::OutOfSequence { line: _ } => 4,
             Refusal::PlanTooLarge { line: _ } => 5,
-            Refusal::UnknownItem { line: _ } => 6,
-            Refusal::ItemTooLarge { line: _ } => 7,
+            Refusal::UnknownItem { line: _, item: _ } => 6,
+            Refusal::ItemTooLarge { line: _, item: _ } => 7,
             Refusal::LogFull { line: _ } => 8,
             Refusal::Closed { line: _ } => 9,
             Refusal::ActOutOfOrder { line: _ } => 10,
-            Refusal::NotHeld { line: _ } => 11,
-            Refusal::AlreadyHeld { line: _ } => 12,
+            Refusal::NotHeld { line: _, item: _ } => 11,
+            Refusal::AlreadyHeld { line: _, item: _ } => 12,
             Refusal::OverCapacity { line: _ } => 13,
-            Refusal::RequestNotHeld { line: _ } => 14,
+            Refusal::RequestNotHeld { line: _, item: _ } => 14,
             Refusal::ShortBuffer { line: _ } => 15,
             Refusal::InputTooLong { line: _ } => 16,
             Refusal::InvalidState { line: _ } => 17,
@@ -161,15 +161,15 @@ impl Refusal {
             Refusal::OutOfRange { line } => line,
             Refusal::OutOfSequence { line } => line,
             Refusal::PlanTooLarge { line } => line,
-            Refusal::UnknownItem { line } => line,
-            Refusal::ItemTooLarge { line } => line,
+            Refusal::UnknownItem { line, item: _ } => line,
+            Refusal::ItemTooLarge { line, item: _ } => line,
             Refusal::LogFull { line } => line,
             Refusal::Closed { line } => line,
             Refusal::ActOutOfOrder { line } => line,
-            Refusal::NotHeld { line } => line,
-            Refusal::AlreadyHeld { line } => line,
+            Refusal::NotHeld { line, item: _ } => line,
+            Refusal::AlreadyHeld { line, item: _ } => line,
             Refusal::OverCapacity { line } => line,
-            Refusal::RequestNotHeld { line } => line,
+            Refusal::RequestNotHeld { line, item: _ } => line,
             Refusal::ShortBuffer { line } => line,
             Refusal::InputTooLong { line } => line,
             Refusal::InvalidState { line } => line,
@@ -177,10 +177,37 @@ impl Refusal {
     }
 }
 
-// The refusal of a number of the table, told on a line of the text.
-pub fn refusal_of(number: u32, line: u32) -> Refusal
+impl Refusal {
+    // The item that the refusal is about; 0 where it names none.
+    pub fn item(self) -> u32
+        ensures { λ r. ⌜ r ≡ refusalItem self ⌝ }
+    {
+        match self {
+            Refusal::Malformed { line: _ } => 0,
+            Refusal::Heading { line: _ } => 0,
+            Refusal::OutOfRange { line: _ } => 0,
+            Refusal::OutOfSequence { line: _ } => 0,
+            Refusal::PlanTooLarge { line: _ } => 0,
+            Refusal::UnknownItem { line: _, item } => item,
+            Refusal::ItemTooLarge { line: _, item } => item,
+            Refusal::LogFull { line: _ } => 0,
+            Refusal::Closed { line: _ } => 0,
+            Refusal::ActOutOfOrder { line: _ } => 0,
+            Refusal::NotHeld { line: _, item } => item,
+            Refusal::AlreadyHeld { line: _, item } => item,
+            Refusal::OverCapacity { line: _ } => 0,
+            Refusal::RequestNotHeld { line: _, item } => item,
+            Refusal::ShortBuffer { line: _ } => 0,
+            Refusal::InputTooLong { line: _ } => 0,
+            Refusal::InvalidState { line: _ } => 0,
+        }
+    }
+}
+
+// The refusal of a number of the table, told on a line of the text. The item is looked at where the number names one.
+pub fn refusal_of(number: u32, line: u32, item: u32) -> Refusal
     requires { ⌜ (1 ≤ number) × (number ≤ 17) ⌝ }
-    ensures { λ r. ⌜ told r ≡ telling number line ⌝ }
+    ensures { λ r. ⌜ told r ≡ telling number line item ⌝ }
 {
     match number {
         1 => Refusal::Malformed { line: line },
@@ -188,15 +215,30 @@ pub fn refusal_of(number: u32, line: u32) -> Refusal
         3 => Refusal::OutOfRange { line: line },
         4 => Refusal::OutOfSequence { line: line },
         5 => Refusal::PlanTooLarge { line: line },
-        6 => Refusal::UnknownItem { line: line },
-        7 => Refusal::ItemTooLarge { line: line },
+        6 => Refusal::UnknownItem {
+            line: line,
+            item: item,
+        },
+        7 => Refusal::ItemTooLarge {
+            line: line,
+            item: item,
+        },
         8 => Refusal::LogFull { line: line },
         9 => Refusal::Closed { line: line },
         10 => Refusal::ActOutOfOrder { line: line },
-        11 => Refusal::NotHeld { line: line },
-        12 => Refusal::AlreadyHeld { line: line },
+        11 => Refusal::NotHeld {
+            line: line,
+            item: item,
+        },
+        12 => Refusal::AlreadyHeld {
+            line: line,
+            item: item,
+        },
         13 => Refusal::OverCapacity { line: line },
-        14 => Refusal::RequestNotHeld { line: line },
+        14 => Refusal::RequestNotHeld {
+            line: line,
+            item: item,
+        },
         15 => Refusal::ShortBuffer { line: line },
         16 => Refusal::InputTooLong { line: line },
         _ => Refusal::InvalidState { line: line },

@@ -1,5 +1,6 @@
--- What the exported report promises of the bytes that C lends. Assumes nothing.
-use mathlib.Core.{Path._≡_, Bool.cond, List.List}
+-- What the exported report and the exported sentence promise of the bytes that C lends. Assumes nothing.
+use mathlib.Core.{Bool.{true, false, cond}, Path._≡_, List.List}
+use Rattle.sentence.specs.Sentences.{inTable, sentenceOf}
 use Prim.Native.Nat.{ℕ}
 use lib.ListN.{length}
 use Rattle.decimal.specs.Decimal.{fits, pageOf}
@@ -17,3 +18,8 @@ pub record PutLent (t before : List ℕ) (was number : ℕ) (after : List ℕ) (
 pub record ReportedLent (b before : List ℕ) (was number : ℕ) (after : List ℕ) (told : ℕ) : Type 0 where
   pub fine : ValidBytes b → PutLent (reportOf (view (cacheOf b)) Absent) before was number after told
   pub invalid : (ValidBytes b → ⊥) → (number ≡ 17) × (after ≡ before) × (told ≡ was)
+
+-- the sentence of a refusal's numbers: "3 off the tape" if the number is in no row of the table, then 15
+pub record SaidLent (number line item : ℕ) (before : List ℕ) (was answer : ℕ) (after : List ℕ) (told : ℕ) : Type 0 where
+  pub row : inTable number ≡ true → PutLent (sentenceOf number line item) before was answer after told
+  pub none : inTable number ≡ false → (answer ≡ 3) × (after ≡ before) × (told ≡ was)

@@ -2,7 +2,7 @@
 // lent byte is as before. Nothing is asked of the caller: any bytes, any lengths and any numbers are answered.
 ghost use Rattle.landlord.specs.Calls.{stepCall, close};
 ghost use Rattle.cache.specs.Contract.{lent, Called, OpenedLent};
-ghost use Rattle.recorder.specs.Reports.{ReportedLent};
+ghost use Rattle.recorder.specs.Reports.{ReportedLent, SaidLent};
 use report::Rival;
 use report::Written;
 
@@ -42,4 +42,28 @@ pub extern "C" fn recorder_report(state: &[u8], page: &mut [u8], told: &mut usiz
         }
         Written::Refused(r) => r.number(),
     }
+}
+
+// Writes the sentence of a refusal on the page, and how long it is in the length's place. A caller has the line and the item: 0 for what
+// a refusal has not.
+#[no_mangle]
+pub extern "C" fn recorder_sentence(
+    number: u32,
+    line: u32,
+    item: u32,
+    page: &mut [u8],
+    told: &mut usize,
+) -> u32
+    ensures { λ r. ⌜ SaidLent number line item (now (page .entry)) (now (told .entry)) r (now (page .exit)) (now (told .exit)) ⌝ }
+{
+    if !sentence::in_table(number) {
+        return 3;
+    }
+    // No sentence is empty, so nothing is written only where the page is too short.
+    let bytes = sentence::write_sentence(number, line, item, page);
+    if bytes == 0 {
+        return 15;
+    }
+    *told = bytes;
+    0
 }

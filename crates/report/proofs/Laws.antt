@@ -14,7 +14,8 @@ use Rattle.decimal.specs.Decimal.{digitsOf, wroteOf, pageOf}
 use Rattle.decimal.proofs.Laws.{wrote-all, wrote-none, page-all, page-none}
 use Rattle.landlord.specs.declared.Refusal.{Refusal}
 use Rattle.landlord.specs.declared.Refusal.the-variants.{ShortBuffer, InvalidState}
-use Rattle.landlord.specs.Types.{refusalNumber, refusalLine}
+use Rattle.landlord.specs.Types.{refusalNumber, refusalLine, refusalItem}
+use Rattle.sentence.specs.Sentences.{sentenceOf}
 use Rattle.landlord.specs.Figures.{Use, noUse, Standing, totalCost, leftSide, rightSide}
 use Rattle.cache_state.specs.Cache.{Cache, usesOf, view}
 use Rattle.cache_state.specs.InnerView.{usageOf}
@@ -25,7 +26,7 @@ use Rattle.report.specs.declared.Rival.the-variants.{Absent, Against}
 use Rattle.report.specs.declared.Written.{Written}
 use Rattle.report.specs.declared.Written.the-variants.{Text, Refused}
 use Rattle.report.specs.Report.{separator, lineOf, itemLines, rivalNumbers, totalNames, totalNumbers, totalLines, reportOf, refusalText, Put, Reported}
-use Rattle.report.specs.Inner.{itemNumbers, itemNames, totalsThen, refusalNames, textOver, RivalOk, rivalCount}
+use Rattle.report.specs.Inner.{itemNumbers, itemNames, totalsThen, refusalNames, refusedText, textOver, RivalOk, rivalCount}
 
 -- ## A text at a place of a page
 
@@ -331,9 +332,21 @@ report-count v rival =
       length-append (itemLines 0 (v .figures .uses)) (10 ∷ totalLines v rival),
     )
 
-pub refusal-count : (r : Refusal) → length (refusalText r) ≡ 13 + length (lineOf (refusalNumber r ∷ refusalLine r ∷ []))
+-- the names and the two numbers of a refusal
+pub told-count : (number line : ℕ) → length (refusalNames ++ lineOf (number ∷ line ∷ [])) ≡ 13 + length (lineOf (number ∷ line ∷ []))
+told-count number line = omega (arith, refusal-names-count, length-append refusalNames (lineOf (number ∷ line ∷ [])))
+
+-- and the sentence behind them
+pub refused-count :
+    (number line item : ℕ) →
+    length (refusedText number line item) ≡ 13 + length (lineOf (number ∷ line ∷ [])) + length (sentenceOf number line item)
+refused-count number line item =
+    omega (arith, told-count number line, length-append (refusalNames ++ lineOf (number ∷ line ∷ [])) (sentenceOf number line item))
+
+-- the output of a refusal is that of what it tells
+pub refusal-is : (r : Refusal) → refusalText r ≡ refusedText (refusalNumber r) (refusalLine r) (refusalItem r)
 unfolding refusalText
-refusal-count r = omega (arith, refusal-names-count, length-append refusalNames (lineOf (refusalNumber r ∷ refusalLine r ∷ [])))
+refusal-is r = refl
 
 -- ## The answer
 

@@ -8,7 +8,8 @@ use lib.ListN.{length, drop, length-append}
 use Rattle.decimal.specs.Decimal.{digitsOf}
 use Rattle.decimal.proofs.Laws.{digits-length}
 use Rattle.landlord.specs.declared.Refusal.{Refusal}
-use Rattle.landlord.specs.Types.{refusalNumber, refusalLine}
+use Rattle.sentence.proofs.Sentences.{sentence-fits}
+use Rattle.landlord.specs.Types.{refusalNumber, refusalLine, refusalItem}
 use Rattle.landlord.specs.Rule.{size}
 use Rattle.landlord.specs.Figures.{Use, useAt, totalCost, leftSide, rightSide}
 use Rattle.landlord.proofs.Sums.{sum-term}
@@ -21,7 +22,7 @@ use Rattle.report.specs.Report.{separator, lineOf, itemLines, rivalNumbe
 use Rattle.report.specs.Inner.{itemNumbers, RivalOk}
 use Rattle.landlord.proofs.Refusals.{refusal-range}
 use Rattle.report.proofs.Sides.{few-blocks, left-fits, right-fits}
-use Rattle.report.proofs.Laws.{items-count, items-end, names-alone-count, names-priced-count, totals-count, report-count, refusal-count}
+use Rattle.report.proofs.Laws.{items-count, items-end, names-alone-count, names-priced-count, totals-count, report-count, refusal-is, refused-count}
 
 -- a number of at most w digits in front of a line makes it longer by at most w + 1
 cons-longest :
@@ -114,9 +115,14 @@ no-longer c rival v f =
 
 -- ## A refusal
 
-pub refusal-no-longer : (r : Refusal) → refusalLine r < 2 ^ 32 → length (refusalText r) ≤ longest
-refusal-no-longer r h =
+pub refusal-no-longer : (r : Refusal) → refusalLine r < 2 ^ 32 → refusalItem r < 2 ^ 32 → length (refusalText r) ≤ longest
+refusal-no-longer r h k =
     let line : length (lineOf (refusalNumber r ∷ refusalLine r ∷ [])) ≤ 14 =
     cons-longest (refusalNumber r) 2 11 _ (omega (arith, refusal-range r .1)) (omega arith)
     (cons-longest (refusalLine r) 10 0 _ (omega arith) (omega arith) none-longest) in
-    omega (arith, refusal-count r)
+    omega (
+      arith,
+      ap length (refusal-is r),
+      refused-count (refusalNumber r) (refusalLine r) (refusalItem r),
+      sentence-fits (refusalNumber r) (refusalLine r) (refusalItem r) (omega arith) (omega arith),
+    )

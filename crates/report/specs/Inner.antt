@@ -1,4 +1,5 @@
 -- What the writers of lines ask and give. Assumes nothing.
+use Rattle.sentence.specs.Sentences.{sentenceOf}
 use mathlib.Core.List.{[], List, _∷_, _++_}
 use Rattle.landlord.specs.Figures.{Use, Standing, totalCost}
 use Prim.Native.Nat.{ℕ, _≤_}
@@ -6,7 +7,7 @@ use lib.ListN.{length, drop}
 use Rattle.cache_state.specs.Cache.{view}
 use Rattle.layout.specs.Layout.{cacheOf, ValidBytes}
 use Rattle.decimal.specs.Decimal.{textOf}
-use Rattle.report.specs.{declared.{Rival.{Rival, the-variants.{Absent, Against}}, Written.Written}, Report.writtenTold}
+use Rattle.report.specs.{declared.{Rival.{Rival, the-variants.{Absent, Against}}, Written.Written}, Report.{lineOf, writtenTold}}
 
 -- the page with the text t at its start
 abbrev pub textOver : List ℕ → List ℕ → List ℕ
@@ -29,6 +30,10 @@ totalsThen v more =
 -- the names above a refusal's two numbers
 abbrev pub refusalNames : List ℕ
 refusalNames = textOf "refusal line\n"
+
+-- the output of a refusal that tells so much
+abbrev pub refusedText : ℕ → ℕ → ℕ → List ℕ
+refusedText number line item = (refusalNames ++ lineOf (number ∷ line ∷ [])) ++ sentenceOf number line item
 
 -- the number that an answer tells
 abbrev pub writtenNumber : Written → ℕ

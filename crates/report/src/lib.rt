@@ -9,7 +9,7 @@ ghost use Rattle.cache_state.specs.InnerView.{usageOf, figuresOf};
 ghost use Rattle.landlord.specs.Figures.{totalCost, leftSide, rightSide};
 ghost use Rattle.layout.specs.Layout.{stateBytes, cacheOf, ValidBytes};
 ghost use Rattle.report.specs.Report.{lineOf, itemLines, rivalNumbers, totalNumbers, totalLines, reportOf, refusalText, Put, Reported, longest};
-ghost use Rattle.report.specs.Inner.{itemNumbers, textOver, RivalOk, Comparable, TextFits, rivalCount};
+ghost use Rattle.report.specs.Inner.{refusedText, itemNumbers, textOver, RivalOk, Comparable, TextFits, rivalCount};
 use landlord::Refusal;
 
 // The bytes of the longest report there can be, with or without a rival's figures.
@@ -276,17 +276,39 @@ pub fn report(b: &[u8], rival: Rival, page: &mut [u8]) -> Written
     Written::Text(needed)
 }
 
-// The output of a refused input: the refusal's number and its line; 15 if the page is too short.
+// How many bytes the output of a refused input has: the names, the two numbers, and the sentence.
+fn refusal_length(number: u32, line: u32, item: u32) -> usize
+    ensures { λ r. ⌜ r ≡ length (refusedText number line item) ⌝ }
+{
+    let numbers = [wide(number), wide(line)];
+    let first = 13 + line_length(&numbers);
+    first + sentence::sentence_bytes(number, line, item)
+}
+
+// Writes the output of a refused input at the start of the page, which has room for it.
+fn put_refusal(page: &mut [u8], number: u32, line: u32, item: u32)
+    requires { ⌜ length (refusedText number line item) ≤ length (now page) ⌝ }
+    ensures { λ _. ⌜ now (page .exit) ≡ textOver (refusedText number line item) (now (page .entry)) ⌝ }
+{
+    let both = [wide(number), wide(line)];
+    put_table(page, b"refusal line\n", &both);
+    let at = 13 + line_length(&both);
+    sentence::write_sentence(number, line, item, &mut page[at..]);
+}
+
+// The output of a refused input: the refusal's number and its line, and the sentence of both and of the item that it names; 15 if the
+// page is too short.
 pub fn refused(r: Refusal, page: &mut [u8]) -> Written
     ensures { λ w. ⌜ Put (refusalText r) (now (page .entry)) w (now (page .exit)) ⌝ }
+    ensures { λ _. ⌜ length (refusalText r) ≤ longest ⌝ }
 {
-    let number = wide(r.number());
-    let at = wide(r.line());
-    let line = [number, at];
-    let bytes = 13 + line_length(&line);
+    let number = r.number();
+    let line = r.line();
+    let item = r.item();
+    let bytes = refusal_length(number, line, item);
     if page.len() < bytes {
         return Written::Refused(Refusal::ShortBuffer { line: 0 });
     }
-    put_table(page, b"refusal line\n", &line);
+    put_refusal(page, number, line, item);
     Written::Text(bytes)
 }

@@ -23,9 +23,9 @@ use Rattle.season_plan.specs.declared.Copies.{Copies}
 use Rattle.season_plan.specs.declared.Did.{Did}
 use Rattle.season_plan.specs.declared.Acted.{Acted}
 use Rattle.season_plan.specs.Plans.{actsAt, actsBefore}
-use Rattle.season_plan.specs.Inner.{copiesOf, HoldsCopies, Does, PlanReady, Known, Acts, faultAct, ActsDone, most, Actable, RunsActs}
+use Rattle.season_plan.specs.Inner.{copiesOf, HoldsCopies, Does, PlanReady, Known, Acts, ofAct, ActsDone, most, Actable, RunsActs}
 use Rattle.season_plan.proofs.Places.{catalog-is, count-is, noted-act, act-again, sound-ordered, parted, parted-is, at-skip, at-here, at-none}
-use Rattle.season_plan.proofs.Costs.{Cheap, Faults, ofAct, fault-some, act-cheap, act-faults}
+use Rattle.season_plan.proofs.Costs.{Cheap, Faults, fault-some, act-cheap, act-faults}
 
 -- the copies that the program holds, of the items of the catalog
 abbrev pub copiesIn : List ℕ → Copies → List Copy
@@ -70,16 +70,14 @@ then-done v s (faulty f) next before r t did e rest = absurd (fault-some f (sym 
 
 -- an act that was not
 then-fails :
-    (v : Sofar) (s a : ℕ) (d : Done) (next : List Copy → Done) (before : ℕ) (r : Did) (t : Acted) →
+    (v : Sofar) (s : ℕ) (d : Done) (next : List Copy → Done) (before : ℕ) (r : Did) (t : Acted) →
     Does (v .catalog) d before r →
     r .number ≢ 0 →
-    Faults (λ f. ofAct s f × (faultAct f ≡ a)) d →
     t .number ≡ r .number →
-    t .next ≡ actsBefore s (v .acts) + a →
+    Faults (ofAct s (actsBefore s (v .acts)) (t .next) (actItem (placedAt (v .acts) (t .next) .act))) d →
     ActsDone v s (andThen d next) before t
-then-fails v s a (done q c) next before r t did e fault same at = absurd (e (did .0))
-then-fails v s a (faulty f) next before r t did e fault same at =
-    (same ∙ did, at ∙ ap (λ u. actsBefore s (v .acts) + u) (sym (fault .1)))
+then-fails v s (done q c) next before r t did e same of = absurd (e (did .0))
+then-fails v s (faulty f) next before r t did e same of = (same ∙ did, of)
 
 -- what a part that was done leaves: the blocks of its copies, and a sum
 pub did-ready :
@@ -219,13 +217,15 @@ module _ (x : Seen) (xs acts : List ℕ) (p : Copies) (first s : ℕ) (pre : Act
         pub acting-fails : (t : Acted) → r .number ≢ 0 → t .number ≡ r .number → t .next ≡ a → RunsActs x xs p acts first s t
         unfolding allActs
         acting-fails t e number next calls v paid o h sound begins st =
+            let here = actsBefore s (v .acts) in
+            let d = planActs (v .catalog) s (a - first) (placedAt (v .acts) a .act) (copiesIn xs q) in
             whole calls v t paid o h sound begins st
             (so .leads calls v t h
             (subst (λ (u : List Act). ActsDone v s (allActs (v .catalog) s (a - first) u (copiesIn xs q)) (q .paid) t) (sym (left calls v h))
-            (then-fails v s (a - first) (planActs (v .catalog) s (a - first) (placedAt (v .acts) a .act) (copiesIn xs q))
-            (allActs (v .catalog) s (suc (a - first)) (actsAt s (drop (suc a) (v .acts)))) (q .paid) r t (does calls v h (a - first)) e
-            (act-faults (v .catalog) s (a - first) (placedAt (v .acts) a .act) (copiesIn xs q)) number
-            (omega (arith, next, begins, so .begun)))))
+            (then-fails v s d
+            (allActs (v .catalog) s (suc (a - first)) (actsAt s (drop (suc a) (v .acts)))) (q .paid) r t (does calls v h (a - first)) e number
+            (subst (λ (n : ℕ). Faults (ofAct s here n (actItem (placedAt (v .acts) n .act))) d) (sym next)
+            (act-faults (v .catalog) s here a (a - first) (placedAt (v .acts) a .act) (copiesIn xs q) (omega (arith, begins, so .begun)))))))
 
     module _ (t : Acted) (number : t .number ≡ 0) (next : t .next ≡ a) (same : t .copies ≡ q) where
       -- no act is left where every further one stands behind the step

@@ -1,9 +1,9 @@
--- What a part of a plan costs at most, which faults it can end in, and what follows when one part is done. Assumes nothing.
+-- What a part of a plan costs at most, and which faults it can end in. Assumes nothing.
 use mathlib.Core.Path.{_≡_, refl}
 use mathlib.Core.Logic.{_≢_}
 use mathlib.Core.Bool.{cond}
-use mathlib.Core.List.{List, [], _∷_}
-use Prim.Native.Nat.{ℕ, suc, _≤_}
+use mathlib.Core.List.{List}
+use Prim.Native.Nat.{ℕ, _+_, _≤_}
 use native.Mathlib.Omega.{arith}
 use lib.ListN.{length}
 use lib.Dec.{ltb, leb}
@@ -12,11 +12,12 @@ use Rattle.landlord.specs.declared.Step.{Step}
 use Rattle.landlord.specs.declared.Step.the-variants.{Read, Write, Flush}
 use Rattle.landlord.specs.declared.Act.{Act}
 use Rattle.landlord.specs.declared.Act.the-variants.{Evict, Fetch}
+use Rattle.landlord.specs.Types.{stepItem, actItem}
 use Rattle.landlord.specs.Catalog.{Catalog, CatalogOk, itemAt}
-use Rattle.landlord.specs.Plan.{Copy, has, isChanged, copyAt, planUsed, owed, Fault, unknownItem, notHeld, alreadyHeld, requestNotHeld, overCapacity, faultNumber, Done, done, faulty, planActs, andPaid, andThen, allActs, planServes}
+use Rattle.landlord.specs.Plan.{Copy, has, isChanged, copyAt, planUsed, owed, Fault, unknownItem, notHeld, alreadyHeld, requestNotHeld, overCapacity, faultNumber, Done, done, faulty, planActs, planServes}
 use Rattle.landlord.proofs.Folds.{either}
 use Rattle.landlord.proofs.Ranges.{catalog-facts}
-use Rattle.season_plan.specs.Inner.{faultAct}
+use Rattle.season_plan.specs.Inner.{ofAct}
 use Rattle.season_plan.proofs.Marks.{cond-most, sum-most}
 
 -- a part of a plan costs at most so much
@@ -24,21 +25,13 @@ abbrev pub Cheap : ℕ → Done → Type 0
 Cheap m (done q c) = c ≤ m
 Cheap m (faulty f) = Unit {0}
 
--- a fault of an act, before step s
-abbrev pub ofAct : ℕ → Fault → Type 0
-ofAct s (unknownItem t a i) = t ≡ s
-ofAct s (notHeld t a i) = t ≡ s
-ofAct s (alreadyHeld t a i) = t ≡ s
-ofAct s (requestNotHeld t i) = ⊥
-ofAct s (overCapacity t) = ⊥
-
--- a fault of step s itself
-abbrev pub ofStep : ℕ → Fault → Type 0
-ofStep s (unknownItem t a i) = ⊥
-ofStep s (notHeld t a i) = ⊥
-ofStep s (alreadyHeld t a i) = ⊥
-ofStep s (requestNotHeld t i) = t ≡ s
-ofStep s (overCapacity t) = t ≡ s
+-- a fault of step s itself, whose item is i
+abbrev pub ofStep : ℕ → ℕ → Fault → Type 0
+ofStep s i (unknownItem t a j) = ⊥
+ofStep s i (notHeld t a j) = ⊥
+ofStep s i (alreadyHeld t a j) = ⊥
+ofStep s i (requestNotHeld t j) = (s ≡ t) × (i ≡ j)
+ofStep s i (overCapacity t) = s ≡ t
 
 -- what holds of the fault, if there is one
 abbrev pub Faults : (Fault → Type 0) → Done → Type 0
@@ -92,50 +85,26 @@ module _ (cat : Catalog) (ok : CatalogOk cat) where
 
 module _ (cat : Catalog) where
   -- an act's fault is of that act
-  pub act-faults : (s a : ℕ) (act : Act) (q : List Copy) → Faults (λ f. ofAct s f × (faultAct f ≡ a)) (planActs cat s a act q)
+  pub act-faults : (s first n a : ℕ) (act : Act) (q : List Copy) → n ≡ first + a → Faults (ofAct s first n (actItem act)) (planActs cat s a act q)
   unfolding planActs
-  act-faults s a (Evict i) q =
-      either (Faults (λ f. ofAct s f × (faultAct f ≡ a))) (ltb i (length cat)) _ _
-      (λ l. either (Faults (λ f. ofAct s f × (faultAct f ≡ a))) (has (copyAt q i)) _ _ (λ h. tt) (λ h. (refl, refl)))
-      (λ l. (refl, refl))
-  act-faults s a (Fetch i) q =
-      either (Faults (λ f. ofAct s f × (faultAct f ≡ a))) (ltb i (length cat)) _ _
-      (λ l. either (Faults (λ f. ofAct s f × (faultAct f ≡ a))) (has (copyAt q i)) _ _ (λ h. (refl, refl)) (λ h. tt))
-      (λ l. (refl, refl))
-
-  then-faults :
-      (P : Fault → Type 0) (d : Done) (next : List Copy → Done) →
-      Faults P d →
-      ((q : List Copy) → Faults P (next q)) →
-      Faults P (andThen d next)
-  then-faults P (done q c) next here later = go (next q) (later q)
-    where
-      go : (e : Done) → Faults P e → Faults P (andPaid c e)
-      go (done r b) h = tt
-      go (faulty f) h = h
-  then-faults P (faulty f) next here later = here
-
-  -- a fault among the acts before step s is of an act before step s
-  pub acts-fault : (s a : ℕ) (acts : List Act) (q : List Copy) → Faults (ofAct s) (allActs cat s a acts q)
-  unfolding allActs
-  acts-fault s a [] q = tt
-  acts-fault s a (act ∷ acts) q =
-      then-faults (ofAct s) (planActs cat s a act q) (allActs cat s (suc a) acts)
-      (weaker (planActs cat s a act q) (act-faults s a act q)) (acts-fault s (suc a) acts)
-    where
-      weaker : (d : Done) → Faults (λ f. ofAct s f × (faultAct f ≡ a)) d → Faults (ofAct s) d
-      weaker (done r c) h = tt
-      weaker (faulty f) h = h .0
+  act-faults s first n a (Evict i) q e =
+      either (Faults (ofAct s first n i)) (ltb i (length cat)) _ _
+      (λ l. either (Faults (ofAct s first n i)) (has (copyAt q i)) _ _ (λ h. tt) (λ h. (refl, e, refl)))
+      (λ l. (refl, e, refl))
+  act-faults s first n a (Fetch i) q e =
+      either (Faults (ofAct s first n i)) (ltb i (length cat)) _ _
+      (λ l. either (Faults (ofAct s first n i)) (has (copyAt q i)) _ _ (λ h. (refl, e, refl)) (λ h. tt))
+      (λ l. (refl, e, refl))
 
   -- a step's fault is of that step
-  pub serve-fault : (h s : ℕ) (st : Step) (q : List Copy) → Faults (ofStep s) (planServes cat h s st q)
+  pub serve-fault : (h s : ℕ) (st : Step) (q : List Copy) → Faults (ofStep s (stepItem st)) (planServes cat h s st q)
   unfolding planServes
   serve-fault h s (Read i) q =
-      either (Faults (ofStep s)) (has (copyAt q i)) _ _
-      (λ e. either (Faults (ofStep s)) (leb (planUsed cat q) h) _ _ (λ f. tt) (λ f. refl))
-      (λ e. refl)
+      either (Faults (ofStep s i)) (has (copyAt q i)) _ _
+      (λ e. either (Faults (ofStep s i)) (leb (planUsed cat q) h) _ _ (λ f. tt) (λ f. refl))
+      (λ e. (refl, refl))
   serve-fault h s (Write i m) q =
-      either (Faults (ofStep s)) (has (copyAt q i)) _ _
-      (λ e. either (Faults (ofStep s)) (leb (planUsed cat q) h) _ _ (λ f. tt) (λ f. refl))
-      (λ e. refl)
-  serve-fault h s Flush q = either (Faults (ofStep s)) (leb (planUsed cat q) h) _ _ (λ f. tt) (λ f. refl)
+      either (Faults (ofStep s i)) (has (copyAt q i)) _ _
+      (λ e. either (Faults (ofStep s i)) (leb (planUsed cat q) h) _ _ (λ f. tt) (λ f. refl))
+      (λ e. (refl, refl))
+  serve-fault h s Flush q = either (Faults (ofStep s 0)) (leb (planUsed cat q) h) _ _ (λ f. tt) (λ f. refl)

@@ -10,14 +10,15 @@ use lib.Dec.{ltb, eqb}
 use borrow.Author.Tests.{ltb-true, eqb-true}
 use Rattle.landlord.specs.declared.Step.{Step}
 use Rattle.landlord.specs.declared.Act.{Act}
+use Rattle.landlord.specs.Types.{stepItem, actItem}
 use Rattle.landlord.specs.Fold.{tab}
 use Rattle.landlord.specs.Catalog.{Catalog}
 use Rattle.landlord.specs.Plan.{Plan, Copy, noCopy, Fault, unknownItem, notHeld, alreadyHeld, requestNotHeld, overCapacity, Done, done, faulty, Priced, costs, fault, planActs, andPaid, andThen, allActs, planServes, pricedWith, priceThen, priceFrom}
 use Rattle.season_tables.specs.Tables.{Placed, Sofar, on, readingOf}
 use Rattle.season_tables.proofs.LineNumbers.{accepted-lines}
 use Rattle.season_plan.specs.Plans.{actsAt, actsBefore, faultLine, priceOf}
-use Rattle.season_plan.specs.Inner.{planOf, faultAct}
-use Rattle.season_plan.proofs.Costs.{Faults, ofAct, ofStep, act-faults, serve-fault}
+use Rattle.season_plan.specs.Inner.{planOf, ofAct}
+use Rattle.season_plan.proofs.Costs.{Faults, ofStep, act-faults, serve-fault}
 
 -- a fault of an act that its step has, or of one of the first n steps
 abbrev InPlan : Plan → ℕ → Fault → Type 0
@@ -61,19 +62,19 @@ alone P (done q c) h = tt
 alone P (faulty f) h = h
 
 module _ (cat : Catalog) (h : ℕ) (plan : Plan) (n : ℕ) where
-  act-in-plan : (s a : ℕ) → a < length (plan s) → (f : Fault) → ofAct s f × (faultAct f ≡ a) → InPlan plan n f
-  act-in-plan s a l (unknownItem t b i) (of, e) = omega (arith, e, ap (λ u. length (plan u)) of)
-  act-in-plan s a l (notHeld t b i) (of, e) = omega (arith, e, ap (λ u. length (plan u)) of)
-  act-in-plan s a l (alreadyHeld t b i) (of, e) = omega (arith, e, ap (λ u. length (plan u)) of)
-  act-in-plan s a l (requestNotHeld t i) (of, e) = absurd of
-  act-in-plan s a l (overCapacity t) (of, e) = absurd of
+  act-in-plan : (s a i : ℕ) → a < length (plan s) → (f : Fault) → ofAct s 0 a i f → InPlan plan n f
+  act-in-plan s a i l (unknownItem t b j) of = omega (arith, of .1, ap (λ u. length (plan u)) (of .0))
+  act-in-plan s a i l (notHeld t b j) of = omega (arith, of .1, ap (λ u. length (plan u)) (of .0))
+  act-in-plan s a i l (alreadyHeld t b j) of = omega (arith, of .1, ap (λ u. length (plan u)) (of .0))
+  act-in-plan s a i l (requestNotHeld t j) of = absurd of
+  act-in-plan s a i l (overCapacity t) of = absurd of
 
-  step-in-plan : (s : ℕ) → s < n → (f : Fault) → ofStep s f → InPlan plan n f
-  step-in-plan s l (unknownItem t a i) of = absurd of
-  step-in-plan s l (notHeld t a i) of = absurd of
-  step-in-plan s l (alreadyHeld t a i) of = absurd of
-  step-in-plan s l (requestNotHeld t i) of = omega (arith, of)
-  step-in-plan s l (overCapacity t) of = omega (arith, of)
+  step-in-plan : (s i : ℕ) → s < n → (f : Fault) → ofStep s i f → InPlan plan n f
+  step-in-plan s i l (unknownItem t a j) of = absurd of
+  step-in-plan s i l (notHeld t a j) of = absurd of
+  step-in-plan s i l (alreadyHeld t a j) of = absurd of
+  step-in-plan s i l (requestNotHeld t j) of = omega (arith, of .0)
+  step-in-plan s i l (overCapacity t) of = omega (arith, of)
 
   -- the acts from act a of step s on
   acts-in-plan : (s a : ℕ) (acts : List Act) (q : List Copy) → a + length acts ≤ length (plan s) → Faults (InPlan plan n) (allActs cat s a acts q)
@@ -82,8 +83,8 @@ module _ (cat : Catalog) (h : ℕ) (plan : Plan) (n : ℕ) where
   acts-in-plan s a (act ∷ acts) q l =
       alone (InPlan plan n) (andThen (planActs cat s a act q) (allActs cat s (suc a) acts))
       (turn-faults (InPlan plan n) (planActs cat s a act q) (allActs cat s (suc a) acts) (λ r. costs 0)
-      (faults-are (λ f. ofAct s f × (faultAct f ≡ a)) (InPlan plan n) (planActs cat s a act q)
-      (act-in-plan s a (omega arith)) (act-faults cat s a act q))
+      (faults-are (ofAct s 0 a (actItem act)) (InPlan plan n) (planActs cat s a act q)
+      (act-in-plan s a (actItem act) (omega arith)) (act-faults cat s 0 a a act q (omega arith)))
       (λ r. acts-in-plan s (suc a) acts r (omega arith)) (λ r. tt))
 
   -- the plan from step s on
@@ -93,7 +94,8 @@ module _ (cat : Catalog) (h : ℕ) (plan : Plan) (n : ℕ) where
   price-in-plan s (step ∷ steps) q l =
       turn-faults (InPlan plan n) (allActs cat s 0 (plan s) q) (planServes cat h s step) (priceFrom cat h plan (suc s) steps)
       (acts-in-plan s 0 (plan s) q (omega arith))
-      (λ r. faults-are (ofStep s) (InPlan plan n) (planServes cat h s step r) (step-in-plan s (omega arith)) (serve-fault cat h s step r))
+      (λ r. faults-are (ofStep s (stepItem step)) (InPlan plan n) (planServes cat h s step r)
+      (step-in-plan s (stepItem step) (omega arith)) (serve-fault cat h s step r))
       (λ r. price-in-plan (suc s) steps r (omega arith))
 
 -- the acts before those of a step, and those, are no more than all acts

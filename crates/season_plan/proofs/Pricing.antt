@@ -12,12 +12,12 @@ use lib.Seq.{drop-cons}
 use Rattle.landlord.specs.declared.Refusal.{Refusal}
 use Rattle.landlord.specs.declared.Step.{Step}
 use Rattle.landlord.specs.declared.Step.the-variants.{Read, Write, Flush}
-use Rattle.landlord.specs.Types.{stepKind, stepItem, stepMinutes, telling, told}
+use Rattle.landlord.specs.Types.{stepKind, stepItem, stepMinutes, actItem, telling, told}
 use Rattle.landlord.specs.Fold.{tab}
 use Rattle.landlord.specs.Catalog.{Catalog, CatalogOk, itemAt}
 use Rattle.landlord.specs.Calls.{inRange, stepOf}
-use Rattle.landlord.proofs.Refusals.{fault-tells, fault-range}
-use Rattle.landlord.specs.Plan.{Copy, noCopy, has, copyAt, planUsed, owed, Fault, unknownItem, notHeld, alreadyHeld, requestNotHeld, overCapacity, faultNumber, Done, done, faulty, Priced, costs, fault, andPaid, andThen, allActs, planServes, pricedWith, priceThen, priceFrom}
+use Rattle.landlord.proofs.Refusals.{fault-range}
+use Rattle.landlord.specs.Plan.{Copy, noCopy, has, copyAt, planUsed, owed, Fault, unknownItem, notHeld, alreadyHeld, requestNotHeld, overCapacity, faultRefusal, faultNumber, Done, done, faulty, Priced, costs, fault, andPaid, andThen, allActs, planServes, pricedWith, priceThen, priceFrom}
 use Rattle.landlord.proofs.Folds.{tab-eq}
 use Rattle.landlord.proofs.Sums.{sum-zero}
 use Rattle.landlord.proofs.Keeps.{Served}
@@ -27,18 +27,18 @@ use Rattle.catalog_bytes.proofs.Laws.{length-catalogIn}
 use Rattle.season_tables.specs.declared.Seen.{Seen}
 use Rattle.season_tables.specs.Tables.{Sofar}
 use Rattle.season_tables.specs.Inner.{Holds}
-use Rattle.season_tables.specs.InnerSound.{Sound}
+use Rattle.season_tables.specs.InnerSound.{Sound, placedAt}
 use Rattle.season_plan.specs.declared.Copies.{Copies}
 use Rattle.season_plan.specs.declared.Did.{Did}
 use Rattle.season_plan.specs.declared.Acted.{Acted}
 use Rattle.season_plan.specs.declared.Price.the-variants.{Cost, Refused}
-use Rattle.season_plan.specs.Plans.{actsBefore, faultLine, priceOf, PricedBy}
-use Rattle.season_plan.specs.Inner.{planOf, copyFrom, copiesOf, HoldsCopies, Does, PlanReady, PlanServable, Serves, faultAct, ActsDone, Priceable, most, Actable, RunsActs, ActsWithin, PricedAs}
+use Rattle.season_plan.specs.Plans.{actsBefore, lineOfStep, lineOfAct, faultLine, priceOf, PricedBy}
+use Rattle.season_plan.specs.Inner.{planOf, copyFrom, copiesOf, HoldsCopies, Does, PlanReady, PlanServable, Serves, ofAct, ActsDone, Priceable, most, Actable, RunsActs, ActsWithin, PricedAs}
 use Rattle.landlord.proofs.Calls.{same-step}
 use Rattle.landlord.proofs.Ranges.{catalog-facts}
 use Rattle.season_plan.proofs.Marks.{copy-at, copy-none}
-use Rattle.season_plan.proofs.Places.{stepAt, catalog-is, count-is, noted-step, step-kind, parted-is}
-use Rattle.season_plan.proofs.Costs.{Faults, ofAct, ofStep, fault-some, serve-cheap, acts-fault, serve-fault}
+use Rattle.season_plan.proofs.Places.{stepAt, catalog-is, count-is, noted-act, noted-step, step-kind, parted-is}
+use Rattle.season_plan.proofs.Costs.{Faults, ofStep, fault-some, serve-cheap, serve-fault}
 use Rattle.season_plan.proofs.Acting.{copiesIn, stands-ready, did-ready}
 
 -- the acts before step s, the step, and the log from step s on
@@ -100,58 +100,57 @@ does-number : (cat : Catalog) (d : Done) (paid : ℕ) (r : Did) → Does cat d p
 does-number cat (done q c) paid r did e = absurd (e (did .0))
 does-number cat (faulty f) paid r did e = rw did (fault-range f)
 
--- an act's fault is told on the act's line
-act-line :
-    (v : Sofar) (s : ℕ) (f : Fault) (line next : ℕ) →
-    ofAct s f →
-    next ≡ actsBefore s (v .acts) + faultAct f →
-    line ≡ 9 + length (v .catalog) + length (v .steps) + next →
-    line ≡ faultLine v f
-act-line v s (unknownItem t a i) line next of m l = omega (arith, ap (λ u. actsBefore u (v .acts)) of)
-act-line v s (notHeld t a i) line next of m l = omega (arith, ap (λ u. actsBefore u (v .acts)) of)
-act-line v s (alreadyHeld t a i) line next of m l = omega (arith, ap (λ u. actsBefore u (v .acts)) of)
-act-line v s (requestNotHeld t i) line next of m l = absurd of
-act-line v s (overCapacity t) line next of m l = absurd of
+-- the line of an act at fault
+act-line : (v : Sofar) (s t n a : ℕ) → s ≡ t → n ≡ actsBefore s (v .acts) + a → lineOfAct v n ≡ lineOfAct v (actsBefore t (v .acts) + a)
+act-line v s t n a same at = ap (lineOfAct v) (at ∙ ap (λ u. actsBefore u (v .acts) + a) same)
 
--- a step's fault on the step's
-step-line : (v : Sofar) (s : ℕ) (f : Fault) (line : ℕ) → ofStep s f → line ≡ 7 + length (v .catalog) + s → line ≡ faultLine v f
-step-line v s (unknownItem t a i) line of l = absurd of
-step-line v s (notHeld t a i) line of l = absurd of
-step-line v s (alreadyHeld t a i) line of l = absurd of
-step-line v s (requestNotHeld t i) line of l = omega arith
-step-line v s (overCapacity t) line of l = omega arith
+-- an act's fault is told with the act's line and item
+act-tells :
+    (v : Sofar) (s n i : ℕ) (f : Fault) →
+    ofAct s (actsBefore s (v .acts)) n i f →
+    telling (faultNumber f) (lineOfAct v n) i ≡ told (faultRefusal f (faultLine v f))
+act-tells v s n i (unknownItem t a j) (same, at, item) = λ k. telling 6 (act-line v s t n a same at k) (item k)
+act-tells v s n i (notHeld t a j) (same, at, item) = λ k. telling 11 (act-line v s t n a same at k) (item k)
+act-tells v s n i (alreadyHeld t a j) (same, at, item) = λ k. telling 12 (act-line v s t n a same at k) (item k)
+act-tells v s n i (requestNotHeld t j) of = absurd of
+act-tells v s n i (overCapacity t) of = absurd of
 
--- a refusal with a fault's number and line is the answer to it
-faulted : (v : Sofar) (f : Fault) {number line : ℕ} (y : Refusal) → told y ≡ telling number line → number ≡ faultNumber f → line ≡ faultLine v f → PricedBy v (fault f) (Refused y)
-faulted v f y tells e l = tells ∙ (λ j. telling (e j) (l j)) ∙ sym (fault-tells f (faultLine v f))
+-- and a step's with the step's; 13 names no item
+step-tells : (v : Sofar) (s i : ℕ) (f : Fault) → ofStep s i f → telling (faultNumber f) (lineOfStep v s) i ≡ told (faultRefusal f (faultLine v f))
+step-tells v s i (unknownItem t a j) of = absurd of
+step-tells v s i (notHeld t a j) of = absurd of
+step-tells v s i (alreadyHeld t a j) of = absurd of
+step-tells v s i (requestNotHeld t j) (same, item) = λ k. telling 14 (lineOfStep v (same k)) (item k)
+step-tells v s i (overCapacity t) same = ap (λ u. telling 13 (lineOfStep v u) 0) same
 
 act-faulty :
-    (v : Sofar) (s : ℕ) (d : Done) (serves : List Copy → Done) (next : List Copy → Priced) (paid line : ℕ) (b : Acted) (y : Refusal) →
-    told y ≡ telling (b .number) line →
+    (v : Sofar) (s : ℕ) (d : Done) (serves : List Copy → Done) (next : List Copy → Priced) (paid line item : ℕ) (b : Acted) (y : Refusal) →
+    told y ≡ telling (b .number) line item →
     ActsDone v s d paid b →
     b .number ≢ 0 →
-    Faults (ofAct s) d →
-    line ≡ 9 + length (v .catalog) + length (v .steps) + b .next →
+    line ≡ lineOfAct v (b .next) →
+    item ≡ actItem (placedAt (v .acts) (b .next) .act) →
     PricedBy v (pricedWith paid (priceThen (andThen d serves) next)) (Refused y)
-act-faulty v s (done q c) serves next paid line b y tells did e of l = absurd (e (did .0))
-act-faulty v s (faulty f) serves next paid line b y tells did e of l = faulted v f y tells (did .0) (act-line v s f line (b .next) of (did .1) l)
+act-faulty v s (done q c) serves next paid line item b y tells did e l i = absurd (e (did .0))
+act-faulty v s (faulty f) serves next paid line item b y tells did e l i =
+    tells ∙ (λ j. telling (did .0 j) (l j) (i j)) ∙ act-tells v s (b .next) (actItem (placedAt (v .acts) (b .next) .act)) f (did .1)
 
 step-faulty :
-    (v : Sofar) (s : ℕ) (d : Done) (serves : List Copy → Done) (next : List Copy → Priced) (paid line : ℕ) (b : Acted) (r : Did) (y : Refusal) →
-    told y ≡ telling (r .number) line →
+    (v : Sofar) (s : ℕ) (d : Done) (serves : List Copy → Done) (next : List Copy → Priced) (paid line item : ℕ) (b : Acted) (r : Did) (y : Refusal) →
+    told y ≡ telling (r .number) line item →
     ActsDone v s d paid b →
     b .number ≡ 0 →
     ((q : List Copy) (c : ℕ) → HoldsCopies (v .catalog) (b .copies) q c → Does (v .catalog) (serves q) c r) →
     r .number ≢ 0 →
-    ((q : List Copy) → Faults (ofStep s) (serves q)) →
-    line ≡ 7 + length (v .catalog) + s →
+    ((q : List Copy) → Faults (ofStep s item) (serves q)) →
+    line ≡ lineOfStep v s →
     PricedBy v (pricedWith paid (priceThen (andThen d serves) next)) (Refused y)
-step-faulty v s (done q c) serves next paid line b r y tells did e served f of l = go (serves q) (served q (paid + c) (did .1)) (of q)
+step-faulty v s (done q c) serves next paid line item b r y tells did e served f of l = go (serves q) (served q (paid + c) (did .1)) (of q)
   where
-    go : (t : Done) → Does (v .catalog) t (paid + c) r → Faults (ofStep s) t → PricedBy v (pricedWith paid (priceThen (andPaid c t) next)) (Refused y)
+    go : (t : Done) → Does (v .catalog) t (paid + c) r → Faults (ofStep s item) t → PricedBy v (pricedWith paid (priceThen (andPaid c t) next)) (Refused y)
     go (done o k) (number, st) here = absurd (f number)
-    go (faulty w) number here = faulted v w y tells number (step-line v s w line here l)
-step-faulty v s (faulty w) serves next paid line b r y tells did e served f of l = absurd (fault-some w (sym (did .0) ∙ e))
+    go (faulty w) number here = tells ∙ (λ j. telling (number j) (l j) item) ∙ step-tells v s item w here
+step-faulty v s (faulty w) serves next paid line item b r y tells did e served f of l = absurd (fault-some w (sym (did .0) ∙ e))
 
 -- what the acts leave, if they are done
 acts-next : (v : Sofar) (s : ℕ) (d : Done) (paid : ℕ) (b : Acted) → ActsDone v s d paid b → b .number ≡ 0 → b .next ≡ actsBefore (suc s) (v .acts)
@@ -251,14 +250,14 @@ module _ (x : Seen) (xs calls acts : List ℕ) (pre : Priceable x xs calls acts)
         pub pricing-act-number : b .number ≢ 0 → (1 ≤ b .number) × (b .number ≤ 17)
         pricing-act-number e = acts-number (pre .text) s (actsOf (pre .text) s (copiesIn xs p)) (p .paid) b (did (pre .text) (pre .holds) (pre .sound)) e
 
-        -- 11 or 12, with the act's line
+        -- 11 or 12, with the act's line and item
         pub pricing-act-fails :
-            (line : ℕ) (y : Refusal) → told y ≡ telling (b .number) line → b .number ≢ 0 → line ≡ 9 + x .n + x .steps + b .next → PricedAs x xs calls acts (Refused y)
+            (line : ℕ) (y : Refusal) → told y ≡ telling (b .number) line (getD acts (3 * b .next + 2) 0) → b .number ≢ 0 → line ≡ 9 + x .n + x .steps + b .next → PricedAs x xs calls acts (Refused y)
         pricing-act-fails line y tells e at v h sound =
             subst (λ (z : Priced). PricedBy v z (Refused y)) (unrolled v h sound)
             (act-faulty v s (actsOf v s (copiesIn xs p)) (stepOn v s)
-            (logFrom v (suc s)) (p .paid) line b y tells (did v h sound) e
-            (acts-fault (v .catalog) s 0 (planOf (v .acts) s) (copiesIn xs p)) (omega (arith, h .itemCount, h .stepCount)))
+            (logFrom v (suc s)) (p .paid) line (getD acts (3 * b .next + 2) 0) b y tells (did v h sound) e
+            (omega (arith, h .itemCount, h .stepCount)) (noted-act x xs calls acts v h (b .next) (bound .fault e) .item))
 
         module _ (e : b .number ≡ 0) where
           pub before-used : b .copies .used ≡ planUsed (catalogIn xs) (copiesIn xs (b .copies))
@@ -308,12 +307,14 @@ module _ (x : Seen) (xs calls acts : List ℕ) (pre : Priceable x xs calls acts)
                 does-number (catalogIn xs) (planServes (catalogIn xs) (x .h) s (stepOf (getD calls (4 * s + 1) 0) (getD calls (4 * s + 2) 0) 0) (copiesIn xs (b .copies))) (b .copies .paid) r
                 (served s 0 (b .copies .paid) (copiesIn xs (b .copies)) (stands-ready xs (b .copies) before-used)) f
 
-            -- 14 or 13, with the step's line
-            pub pricing-step-fails : (line : ℕ) (y : Refusal) → told y ≡ telling (r .number) line → r .number ≢ 0 → line ≡ 7 + x .n + s → PricedAs x xs calls acts (Refused y)
+            -- 14 or 13, with the step's line and item
+            pub pricing-step-fails :
+                (line : ℕ) (y : Refusal) → told y ≡ telling (r .number) line (getD calls (4 * s + 2) 0) → r .number ≢ 0 → line ≡ 7 + x .n + s → PricedAs x xs calls acts (Refused y)
             pricing-step-fails line y tells f at v h sound =
                 subst (λ (z : Priced). PricedBy v z (Refused y)) (unrolled v h sound)
                 (step-faulty v s (actsOf v s (copiesIn xs p)) (stepOn v s)
-                (logFrom v (suc s)) (p .paid) line b r y tells (did v h sound) e (serves v h) f
+                (logFrom v (suc s)) (p .paid) line (stepItem (stepAt (v .steps) s)) b r y
+                (tells ∙ ap (telling (r .number) line) (noted-step x xs calls acts v h s l .item)) (did v h sound) e (serves v h) f
                 (serve-fault (v .catalog) (v .h) s (stepAt (v .steps) s)) (omega (arith, h .itemCount)))
 
             -- the step is served

@@ -1,6 +1,6 @@
 -- How the program holds what a plan has, and what its functions give. Assumes nothing.
-use Rattle.landlord.specs.{Plan.{Plan, Copy, noCopy, cleanCopy, dirtyCopy, copyAt, cleaned, owed, Done, done, faulty, Fault, unknownItem, notHeld, alreadyHeld, requestNotHeld, overCapacity, faultNumber, planUsed, planEvicts, planFetches, planActs, allActs, planServes}, Fold.tab, Catalog.{Catalog, CatalogOk}, Calls.{inRange, stepOf}}
-use Rattle.season_tables.specs.{Tables.{Placed, Sofar}, declared.Seen.Seen, Inner.Holds, InnerSound.Sound}
+use Rattle.landlord.specs.{Types.actItem, Plan.{Plan, Copy, noCopy, cleanCopy, dirtyCopy, copyAt, cleaned, owed, Done, done, faulty, Fault, unknownItem, notHeld, alreadyHeld, requestNotHeld, overCapacity, faultNumber, planUsed, planEvicts, planFetches, planActs, allActs, planServes}, Fold.tab, Catalog.{Catalog, CatalogOk}, Calls.{inRange, stepOf}}
+use Rattle.season_tables.specs.{Tables.{Placed, Sofar}, declared.Seen.Seen, Inner.Holds, InnerSound.{Sound, placedAt}}
 use Rattle.season_plan.specs.declared.{Copies.Copies, Did.Did, Acted.Acted, Price.{Price, the-variants.{Cost, Refused}}}
 use Rattle.season_plan.specs.Plans.{actsAt, actsBefore, priceOf, PricedBy}
 use mathlib.Core.{Path._≡_, Logic._≢_, Bool.{Bool, true, false, cond}, List.List}
@@ -87,19 +87,20 @@ Serves xs h p kind i r =
     HoldsCopies (catalogIn xs) p q paid →
     Does (catalogIn xs) (planServes (catalogIn xs) h s (stepOf kind i minutes) q) paid r
 
--- the act's place in its step's list, where a fault is an act's
-abbrev pub faultAct : Fault → ℕ
-faultAct (unknownItem s a i) = a
-faultAct (notHeld s a i) = a
-faultAct (alreadyHeld s a i) = a
-faultAct (requestNotHeld s i) = 0
-faultAct (overCapacity s) = 0
+-- the fault is of an act before step s, of act n with item i, where the acts before the step begin at act `first`
+abbrev pub ofAct : ℕ → ℕ → ℕ → ℕ → Fault → Type 0
+ofAct s first n i (unknownItem t a j) = (s ≡ t) × (n ≡ first + a) × (i ≡ j)
+ofAct s first n i (notHeld t a j) = (s ≡ t) × (n ≡ first + a) × (i ≡ j)
+ofAct s first n i (alreadyHeld t a j) = (s ≡ t) × (n ≡ first + a) × (i ≡ j)
+ofAct s first n i (requestNotHeld t j) = ⊥
+ofAct s first n i (overCapacity t) = ⊥
 
 -- the acts before step s were done, and `next` is the first behind them; or act `next` is at fault
 abbrev pub ActsDone : Sofar → ℕ → Done → ℕ → Acted → Type 0
 ActsDone v s (done q c) before r =
     (r .number ≡ 0) × HoldsCopies (v .catalog) (r .copies) q (before + c) × (r .next ≡ actsBefore (suc s) (v .acts))
-ActsDone v s (faulty f) before r = (r .number ≡ faultNumber f) × (r .next ≡ actsBefore s (v .acts) + faultAct f)
+ActsDone v s (faulty f) before r =
+    (r .number ≡ faultNumber f) × ofAct s (actsBefore s (v .acts)) (r .next) (actItem (placedAt (v .acts) (r .next) .act)) f
 
 -- what pricing asks: the slices hold an accepted text, and the catalog's bytes are those of its items alone
 pub record Priceable (x : Seen) (xs calls acts : List ℕ) : Type 0 where
@@ -135,9 +136,10 @@ RunsActs x xs p acts first s r =
     HoldsCopies (v .catalog) p q paid →
     ActsDone v s (allActs (v .catalog) s 0 (planOf (v .acts) s) q) paid r
 
--- `next` is no further than behind the last act, and the sum grows by what an act may cost
+-- `next` is no further than behind the last act, an act at fault is one of them, and the sum grows by what an act may cost
 pub record ActsWithin (x : Seen) (s : ℕ) (r : Acted) : Type 0 where
   pub next : r .next ≤ x .acts
+  pub fault : r .number ≢ 0 → r .next < x .acts
   pub paid : r .number ≡ 0 → r .copies .paid ≤ most (r .next) s
 
 -- whatever text the slices hold, this is the price of its plan

@@ -49,7 +49,7 @@ abbrev pub priceCost : Price → ℕ
 priceCost (Cost c) = c
 priceCost (Refused r) = 0
 
--- "the plan runs; its first fault decides": its price is answered, or that fault's number and line
+-- "the plan runs; its first fault decides": its price is answered, or that fault's number, line and item
 abbrev pub PricedBy : Sofar → Priced → Price → Type 0
 PricedBy v (costs c) r = (priceTold r ≡ nothingTold) × (priceCost r ≡ c)
 PricedBy v (fault f) r = priceTold r ≡ told (faultRefusal f (faultLine v f))

@@ -227,19 +227,19 @@ pub fn price_plan(seen: Seen, catalog: &[u8], calls: &[u32], acts: &[u32]) -> Pr
         a = before.next;
         let number = before.number;
         if number != 0 {
-            return Price::Refused(landlord::refusal_of(number, (9 + seen.n + steps + a) as u32));
+            return Price::Refused(landlord::refusal_of(
+                number,
+                (9 + seen.n + steps + a) as u32,
+                acts[3 * a + 2],
+            ));
         }
         let ready = before.copies;
-        let served = serve(
-            catalog,
-            seen.h,
-            ready,
-            calls[4 * s + 1],
-            calls[4 * s + 2] as usize,
-        );
+        let kind = calls[4 * s + 1];
+        let item = calls[4 * s + 2];
+        let served = serve(catalog, seen.h, ready, kind, item as usize);
         let fault = served.number;
         if fault != 0 {
-            return Price::Refused(landlord::refusal_of(fault, (7 + seen.n + s) as u32));
+            return Price::Refused(landlord::refusal_of(fault, (7 + seen.n + s) as u32, item));
         }
         let next = served.copies;
         p = next;

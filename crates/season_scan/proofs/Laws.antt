@@ -14,7 +14,7 @@ use lib.ListN.{length, take, drop, length-append, length-drop, drop-of-length-le
 use lib.Seq.{drop-drop, take-take, length-take-le, take-nil, take-all}
 use Rattle.landlord.specs.declared.Refusal.{Refusal}
 use Rattle.landlord.specs.declared.Refusal.the-variants.{Malformed, Heading, OutOfSequence, PlanTooLarge, UnknownItem, ItemTooLarge, ActOutOfOrder}
-use Rattle.landlord.specs.Types.{actItem}
+use Rattle.landlord.specs.Types.{stepItem, actItem}
 use Rattle.landlord.specs.Calls.{itemRefusal}
 use Rattle.season_lines.specs.declared.Field.{Field}
 use Rattle.season_lines.specs.declared.Line.{Line}
@@ -132,7 +132,7 @@ grown-by v w table fs n e = go (lineIn table fs n) refl e
     go (StepLine s) l e =
         let number = itemRefusal (v .k) (v .catalog) s in
         grows-to v (withStep v s) w true (length fs)
-        (if-on (eqb number 0) (withStep v s) w (cond (eqb number 6) (UnknownItem n) (ItemTooLarge n)) e)
+        (if-on (eqb number 0) (withStep v s) w (cond (eqb number 6) (UnknownItem n (stepItem s)) (ItemTooLarge n (stepItem s))) e)
         (record {
           table = λ t. t;
           items = omega arith;
@@ -141,7 +141,7 @@ grown-by v w table fs n e = go (lineIn table fs n) refl e
         })
     go (ActLine place act) l e =
         grows-to v (withAct v place act) w true (length fs)
-        (if-both (inTurn v place) (ltb (actItem act) (length (v .catalog))) (withAct v place act) w (UnknownItem n)
+        (if-both (inTurn v place) (ltb (actItem act) (length (v .catalog))) (withAct v place act) w (UnknownItem n (actItem act))
         (ActOutOfOrder n) e)
         (record {
           table = λ t. t;

@@ -13,11 +13,12 @@ use borrow.Author.Tests.{lt-ltb, le-ltb, le-leb, lt-leb, eq-eqb, ne-eqb}
 use Rattle.landlord.specs.declared.Step.{Step}
 use Rattle.landlord.specs.declared.Act.{Act}
 use Rattle.landlord.specs.declared.Refusal.{Refusal}
-use Rattle.landlord.specs.declared.Refusal.the-variants.{Malformed, Heading, OutOfSequence, PlanTooLarge, UnknownItem, ItemTooLarge, ActOutOfOrder}
-use Rattle.landlord.specs.Types.{actItem}
+use Rattle.landlord.specs.declared.Refusal.the-variants.{Malformed, Heading, OutOfSequence, PlanTooLarge, UnknownItem, ActOutOfOrder}
+use Rattle.landlord.specs.Types.{stepItem, actItem, telling, told}
 use Rattle.landlord.specs.Fold.{fold}
 use Rattle.landlord.specs.Calls.{itemRefusal}
 use Rattle.landlord.proofs.Folds.{fold-append}
+use Rattle.landlord.proofs.Refusals.{refusal-one}
 use Rattle.catalog_bytes.specs.Inner.{catalogOfFirst, itemBytes}
 use Rattle.catalog_bytes.proofs.Laws.{none-first, one-more}
 use Rattle.season_lines.specs.declared.Line.{Line}
@@ -29,6 +30,7 @@ use Rattle.season_tables.specs.declared.Verdict.the-variants.{Taken, Ref
 use Rattle.season_tables.specs.Tables.{Placed, Sofar, on, stop, atStart, nowNamed, nextTable, takes, atEnd}
 use Rattle.season_tables.specs.Inner.{lastPlace, Holds, nothingRead, endVerdict, Leads, LeadsFrom, LeadsBy, NotesItem, NotesStep, NotesAct, KeepsPast, callNumbers, actNumbers, putAt, ItemPlaced}
 use Rattle.season_tables.proofs.Notes.{put-sets, noted-more, noted-past, calls-more, acts-more}
+use Rattle.season_tables.proofs.Items.{step-told}
 use Rattle.season_tables.proofs.Keeps.{taken-past}
 
 -- a line is taken, with what the struct holds then
@@ -263,13 +265,17 @@ module _ (q : Seen) (catalog calls : List ℕ) (s : Step) (at number : ℕ) (r :
   same-number : (acts : List ℕ) (v : Sofar) → number ≡ numberOf q catalog s → Holds q catalog calls acts v → itemRefusal (v .k) (v .catalog) s ≡ number
   same-number acts v e h = sym (e ∙ (λ i. itemRefusal (h .k i) (h .items i) s))
 
-  pub step-unknown : number ≡ numberOf q catalog s → number ≡ 6 → r .verdict ≡ Refused (UnknownItem at) → NotesStep q catalog calls (λ v. takes v (StepLine s) at) r calls
+  pub step-refuses :
+      (x : Refusal) →
+      number ≡ numberOf q catalog s →
+      (number ≡ 0 → ⊥) →
+      told x ≡ telling number at (stepItem s) →
+      r .verdict ≡ Refused x →
+      NotesStep q catalog calls (λ v. takes v (StepLine s) at) r calls
   unfolding takes
-  step-unknown e f t acts v h = rw (same-number acts v e h, f) t
-
-  pub step-large : number ≡ numberOf q catalog s → (number ≡ 6 → ⊥) → (number ≡ 0 → ⊥) → r .verdict ≡ Refused (ItemTooLarge at) → NotesStep q catalog calls (λ v. takes v (StepLine s) at) r calls
-  unfolding takes
-  step-large e f g t acts v h = rw (same-number acts v e h, ne-eqb number 0 g, ne-eqb number 6 f) t
+  step-refuses x e f tells t acts v h =
+      rw (same-number acts v e h, ne-eqb number 0 f)
+      (t ∙ ap Refused (refusal-one x _ (tells ∙ sym (step-told (q .k) (catalogOfFirst (q .n) catalog) number s e f at (stepItem s)))))
 
   pub step-noted :
       (after : List ℕ) →
@@ -349,9 +355,17 @@ module _ (q : Seen) (acts : List ℕ) (place : ℕ) (act : Act) (at : ℕ) (r : 
   unfolding takes
   act-late e f t catalog calls v h = rw (sym (h .last), sym (h .stepCount), le-leb (q .last) place e, le-ltb place (q .steps) f) t
 
-  pub act-unknown : q .last ≤ place → place < q .steps → q .n ≤ actItem act → r .verdict ≡ Refused (UnknownItem at) → NotesAct q acts (λ v. takes v (ActLine place act) at) r acts
+  pub act-unknown :
+      (i : ℕ) →
+      i ≡ actItem act →
+      q .last ≤ place →
+      place < q .steps →
+      q .n ≤ i →
+      r .verdict ≡ Refused (UnknownItem at i) →
+      NotesAct q acts (λ v. takes v (ActLine place act) at) r acts
   unfolding takes
-  act-unknown e f g t catalog calls v h = rw (in-turn catalog calls v h e f, count-is q catalog calls acts v h, le-ltb (actItem act) (q .n) g) t
+  act-unknown i d e f g t catalog calls v h =
+      rw (in-turn catalog calls v h e f, count-is q catalog calls acts v h, ← d, le-ltb i (q .n) g) t
 
   pub act-noted :
       (after : List ℕ) →

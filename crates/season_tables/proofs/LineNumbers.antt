@@ -12,7 +12,7 @@ use lib.Dec.{leb, ltb, eqb}
 use borrow.Author.Tests.{eqb-true}
 use Rattle.landlord.specs.declared.Refusal.{Refusal}
 use Rattle.landlord.specs.declared.Refusal.the-variants.{UnknownItem, ItemTooLarge}
-use Rattle.landlord.specs.Types.{actItem, refusalLine}
+use Rattle.landlord.specs.Types.{stepItem, actItem, refusalLine}
 use Rattle.landlord.specs.Calls.{itemRefusal}
 use Rattle.landlord.proofs.Folds.{either}
 use Rattle.season_lines.specs.declared.Field.{Field}
@@ -87,7 +87,7 @@ takes-by n v (StepLine s) l o =
     let number = itemRefusal (v .k) (v .catalog) s in
     either (ByLine n) (eqb number 0) _ _
     (λ e. omega (arith, length-append (v .steps) (s ∷ [])))
-    (λ e. either (λ r. refusalLine r ≡ n) (eqb number 6) (UnknownItem n) (ItemTooLarge n) (λ f. refl) (λ f. refl))
+    (λ e. either (λ r. refusalLine r ≡ n) (eqb number 6) (UnknownItem n (stepItem s)) (ItemTooLarge n (stepItem s)) (λ f. refl) (λ f. refl))
 takes-by n v (ActLine place act) l o =
     let a : Placed = record { place = place; act = act } in
     either (ByLine n) (inTurn v place) _ _

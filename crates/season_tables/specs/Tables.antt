@@ -4,7 +4,7 @@ use mathlib.Core.{Bool.{Bool, true, false, cond, _&&_}, List.{List, [], _∷_, _
 use Prim.Native.Nat.{ℕ, suc}
 use lib.{ListN.length, Dec.{leb, ltb, eqb}}
 use Rattle.landlord.specs.declared.{Step.Step, Act.Act, Refusal.{Refusal, the-variants.{Malformed, Heading, OutOfSequence, PlanTooLarge, UnknownItem, ItemTooLarge, ActOutOfOrder}}}
-use Rattle.landlord.specs.{Types.actItem, Fold.fold, Catalog.Catalog, Calls.itemRefusal}
+use Rattle.landlord.specs.{Types.{stepItem, actItem}, Fold.fold, Catalog.Catalog, Calls.itemRefusal}
 use Rattle.decimal.specs.Decimal.{textOf}
 use Rattle.season_lines.specs.declared.Line.{Line, the-variants.{Sizes, Item as ItemLine, Step as StepLine, Act as ActLine, Refused}}
 use Rattle.season_lines.specs.Lines.{split, fieldsOf, itemFrom, lineIn}
@@ -72,18 +72,18 @@ withAct v place act =
 abbrev pub inTurn : Sofar → ℕ → Bool
 inTurn v place = leb (fold (λ (p : ℕ) (a : Placed). a .place) 0 (v .acts)) place && ltb place (length (v .steps))
 
--- 6 or 7, told on line n; 0 is neither
-abbrev pub unlessRefused : ℕ → ℕ → Sofar → Led
-unlessRefused number n w = cond (eqb number 0) (on w) (stop (cond (eqb number 6) (UnknownItem n) (ItemTooLarge n)))
+-- 6 or 7, told on line n of an item; 0 is neither
+abbrev pub unlessRefused : ℕ → ℕ → ℕ → Sofar → Led
+unlessRefused number n item w = cond (eqb number 0) (on w) (stop (cond (eqb number 6) (UnknownItem n item) (ItemTooLarge n item)))
 
 -- A value line that is shaped and in range, on line n: "then for `locker rival` 5, for sails 4, for steps 6, 7, for acts 10, 6".
 unfoldable pub takes : Sofar → Line → ℕ → Led
 takes v (Sizes k h) n = cond (leb h k) (on (withSizes v k h)) (stop (PlanTooLarge n))
 takes v (ItemLine i b l w) n = cond (eqb i (length (v .catalog))) (on (withItem v b l w)) (stop (OutOfSequence n))
-takes v (StepLine s) n = unlessRefused (itemRefusal (v .k) (v .catalog) s) n (withStep v s)
+takes v (StepLine s) n = unlessRefused (itemRefusal (v .k) (v .catalog) s) n (stepItem s) (withStep v s)
 takes v (ActLine place act) n =
     cond (inTurn v place)
-    (cond (ltb (actItem act) (length (v .catalog))) (on (withAct v place act)) (stop (UnknownItem n)))
+    (cond (ltb (actItem act) (length (v .catalog))) (on (withAct v place act)) (stop (UnknownItem n (actItem act))))
     (stop (ActOutOfOrder n))
 takes v (Refused r) n = stop r
 

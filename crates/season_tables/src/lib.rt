@@ -253,11 +253,8 @@ fn take_step(seen: Seen, step: Step, at: u32, catalog: &[u8], calls: &mut [u32])
     ensures { λ r. ⌜ KeepsPast (4 * r .seen .steps) seen (now (calls .entry)) r (now (calls .exit)) ⌝ }
 {
     let number = step_refused(seen, catalog, step);
-    if number == 6 {
-        return stopped(seen, Refusal::UnknownItem { line: at });
-    }
     if number != 0 {
-        return stopped(seen, Refusal::ItemTooLarge { line: at });
+        return stopped(seen, landlord::refusal_of(number, at, step.item()));
     }
     let steps = seen.steps;
     put_step(calls, 4 * steps, step);
@@ -281,13 +278,19 @@ fn take_act(seen: Seen, place: u32, act: Act, at: u32, acts: &mut [u32]) -> Scan
     ensures { λ r. ⌜ NotesAct seen (now (acts .entry)) (λ v. takes v (ActLine place act) at) r (now (acts .exit)) ⌝ }
     ensures { λ r. ⌜ KeepsPast (3 * r .seen .acts) seen (now (acts .entry)) r (now (acts .exit)) ⌝ }
 {
-    let item = act.item() as usize;
+    let item = act.item();
     // It may not fall, and there is such a step.
     if place < seen.last || seen.steps <= place as usize {
         return stopped(seen, Refusal::ActOutOfOrder { line: at });
     }
-    if seen.n <= item {
-        return stopped(seen, Refusal::UnknownItem { line: at });
+    if seen.n <= item as usize {
+        return stopped(
+            seen,
+            Refusal::UnknownItem {
+                line: at,
+                item: item,
+            },
+        );
     }
     let count = seen.acts;
     put_act(acts, 3 * count, place, act);

@@ -6,7 +6,6 @@ use Prim.Native.Nat.{ℕ, _+_, _≤_}
 use native.Mathlib.Omega.{arith}
 use lib.ListN.{length}
 use lib.Dec.{leb}
-use borrow.Author.Tests.{leb-true}
 use Rattle.landlord.specs.declared.Refusal.{Refusal}
 use Rattle.landlord.specs.declared.Refusal.the-variants.{InputTooLong}
 use Rattle.landlord.specs.Types.{Told, refusalLine}
@@ -19,10 +18,10 @@ use Rattle.season_plan.proofs.FaultLines.{fault-line}
 use Rattle.season_text.specs.Answer.{Outcome, refused, priced, readingOutcome, outcomeOf}
 use Rattle.season_text.specs.Inner.{outcomeLine}
 
--- there are no more line feeds than bytes, and no text of more than 65,536 bytes is read
-lines-few : (s : List ℕ) → (outcomeLine (outcomeOf s) ≤ length s + 1) × (outcomeLine (outcomeOf s) ≤ 65537)
+-- there are no more line feeds than bytes, and a text that is too long names no line
+lines-few : (s : List ℕ) → outcomeLine (outcomeOf s) ≤ length s + 1
 unfolding outcomeOf
-lines-few s = whole (leb (length s) 65536) refl (readingOutcome (readingOf s)) (reading (readingOf s) refl)
+lines-few s = whole (leb (length s) 65536) (readingOutcome (readingOf s)) (reading (readingOf s) refl)
   where
     price : (v : Sofar) → readingOf s ≡ on v → (p : Priced) → priceOf v ≡ p → outcomeLine (priced v p) ≤ length s + 1
     price v is (costs c) at = omega arith
@@ -32,14 +31,9 @@ lines-few s = whole (leb (length s) 65536) refl (readingOutcome (readingOf s)) (
     reading (on v) is = price v is (priceOf v) refl
     reading (stop r) is = stop-line s r is
 
-    whole :
-        (b : Bool) → leb (length s) 65536 ≡ b → (o : Outcome) → outcomeLine o ≤ length s + 1 →
-        (outcomeLine (cond b o (refused (InputTooLong 0))) ≤ length s + 1) × (outcomeLine (cond b o (refused (InputTooLong 0))) ≤ 65537)
-    whole true e o h = (h, omega (arith, h, leb-true (length s) 65536 e))
-    whole false e o h = (omega arith, omega arith)
+    whole : (b : Bool) (o : Outcome) → outcomeLine o ≤ length s + 1 → outcomeLine (cond b o (refused (InputTooLong 0))) ≤ length s + 1
+    whole true o h = h
+    whole false o h = omega arith
 
 pub refusal-line : (s : List ℕ) (r : Refusal) → outcomeOf s ≡ refused r → refusalLine r ≤ length s + 1
-refusal-line s r e = subst (λ (o : Outcome). outcomeLine o ≤ length s + 1) e (lines-few s .0)
-
-pub refusal-few : (s : List ℕ) (r : Refusal) → outcomeOf s ≡ refused r → refusalLine r ≤ 65537
-refusal-few s r e = subst (λ (o : Outcome). outcomeLine o ≤ 65537) e (lines-few s .1)
+refusal-line s r e = subst (λ (o : Outcome). outcomeLine o ≤ length s + 1) e (lines-few s)

@@ -7,7 +7,7 @@ use Rattle.cache_value.proofs.answer_to.Statement.{statement}
 use Rattle.cache_value.proofs.answer_to.Tie as tie
 
 returns : tie.Need-returns
-returns c = ap (λ (n : ℕ). telling n 0) (sym (c .if1 .taken))
+returns c = ap (λ (n : ℕ). telling n 0 (c .before .args .item)) (sym (c .if1 .taken))
 
 refusal-of-requires : tie.Need-refusal-of-requires
 refusal-of-requires c κs = search needs

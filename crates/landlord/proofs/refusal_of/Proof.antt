@@ -6,59 +6,59 @@ use Rattle.landlord.specs.Types.{telling}
 use Rattle.landlord.proofs.refusal_of.Statement.{statement}
 use Rattle.landlord.proofs.refusal_of.Tie as tie
 
-row : {number m : ℕ} (line : ℕ) → number ≡ m → telling m line ≡ telling number line
-row line e = ap (λ (n : ℕ). telling n line) (sym e)
+row : {number m : ℕ} (line item : ℕ) → number ≡ m → telling m line item ≡ telling number line item
+row line item e = ap (λ (n : ℕ). telling n line item) (sym e)
 
 past : {number m : ℕ} → m ≤ number → (number ≡ m → ⊥) → suc m ≤ number
 past low e = omega (arith, low, e)
 
 returns : tie.Need-returns
-returns c = row (c .before .args .line) (c .match .keys1)
+returns c = row (c .before .args .line) (c .before .args .item) (c .match .keys1)
 
 returns-2 : tie.Need-returns-2
-returns-2 c = row (c .before .args .line) (c .match .keys2)
+returns-2 c = row (c .before .args .line) (c .before .args .item) (c .match .keys2)
 
 returns-3 : tie.Need-returns-3
-returns-3 c = row (c .before .args .line) (c .match .keys3)
+returns-3 c = row (c .before .args .line) (c .before .args .item) (c .match .keys3)
 
 returns-4 : tie.Need-returns-4
-returns-4 c = row (c .before .args .line) (c .match .keys4)
+returns-4 c = row (c .before .args .line) (c .before .args .item) (c .match .keys4)
 
 returns-5 : tie.Need-returns-5
-returns-5 c = row (c .before .args .line) (c .match .keys5)
+returns-5 c = row (c .before .args .line) (c .before .args .item) (c .match .keys5)
 
 returns-6 : tie.Need-returns-6
-returns-6 c = row (c .before .args .line) (c .match .keys6)
+returns-6 c = row (c .before .args .line) (c .before .args .item) (c .match .keys6)
 
 returns-7 : tie.Need-returns-7
-returns-7 c = row (c .before .args .line) (c .match .keys7)
+returns-7 c = row (c .before .args .line) (c .before .args .item) (c .match .keys7)
 
 returns-8 : tie.Need-returns-8
-returns-8 c = row (c .before .args .line) (c .match .keys8)
+returns-8 c = row (c .before .args .line) (c .before .args .item) (c .match .keys8)
 
 returns-9 : tie.Need-returns-9
-returns-9 c = row (c .before .args .line) (c .match .keys9)
+returns-9 c = row (c .before .args .line) (c .before .args .item) (c .match .keys9)
 
 returns-10 : tie.Need-returns-10
-returns-10 c = row (c .before .args .line) (c .match .keys10)
+returns-10 c = row (c .before .args .line) (c .before .args .item) (c .match .keys10)
 
 returns-11 : tie.Need-returns-11
-returns-11 c = row (c .before .args .line) (c .match .keys11)
+returns-11 c = row (c .before .args .line) (c .before .args .item) (c .match .keys11)
 
 returns-12 : tie.Need-returns-12
-returns-12 c = row (c .before .args .line) (c .match .keys12)
+returns-12 c = row (c .before .args .line) (c .before .args .item) (c .match .keys12)
 
 returns-13 : tie.Need-returns-13
-returns-13 c = row (c .before .args .line) (c .match .keys13)
+returns-13 c = row (c .before .args .line) (c .before .args .item) (c .match .keys13)
 
 returns-14 : tie.Need-returns-14
-returns-14 c = row (c .before .args .line) (c .match .keys14)
+returns-14 c = row (c .before .args .line) (c .before .args .item) (c .match .keys14)
 
 returns-15 : tie.Need-returns-15
-returns-15 c = row (c .before .args .line) (c .match .keys15)
+returns-15 c = row (c .before .args .line) (c .before .args .item) (c .match .keys15)
 
 returns-16 : tie.Need-returns-16
-returns-16 c = row (c .before .args .line) (c .match .keys16)
+returns-16 c = row (c .before .args .line) (c .before .args .item) (c .match .keys16)
 
 returns-17 : tie.Need-returns-17
 returns-17 c =
@@ -79,7 +79,7 @@ returns-17 c =
     let p14 = past p13 (r .0 .0 .1) in
     let p15 = past p14 (r .0 .1) in
     let p16 = past p15 (r .1) in
-    row (c .before .args .line) (omega (arith, p16, c .before .pre .1))
+    row (c .before .args .line) (c .before .args .item) (omega (arith, p16, c .before .pre .1))
 
 pub refusal-of-spec : {M : Type 1} → statement M
 refusal-of-spec =

@@ -39,44 +39,56 @@ add-refusal-of-3 c = omega (arith, c .before .before .before .before .before .be
 cast-refusal-of : tie.Need-cast-refusal-of Inv-loop μ-loop
 cast-refusal-of c = omega (arith, c .before .before .before .before .before .before .before .before .pre .fewSteps, c .before .before .before .before .before .before .before .before .pre .fewActs, c .before .before .before .before .before .before .before .before .pre .holds .few, c .before .before .acts-before .ensures .1 .next)
 
+mul-refusal-of : tie.Need-mul-refusal-of Inv-loop μ-loop
+mul-refusal-of c = omega (arith, c .before .before .before .before .before .before .before .before .pre .fewSteps, c .before .before .before .before .before .before .before .before .pre .fewActs, c .before .before .before .before .before .before .before .before .pre .holds .few, c .before .before .acts-before .ensures .1 .next)
+
+add-refusal-of-4 : tie.Need-add-refusal-of-4 Inv-loop μ-loop
+add-refusal-of-4 c = omega (arith, c .before .before .before .before .before .before .before .before .pre .fewSteps, c .before .before .before .before .before .before .before .before .pre .fewActs, c .before .before .before .before .before .before .before .before .pre .holds .few, c .before .before .acts-before .ensures .1 .next)
+
+mul-refusal-of-2 : tie.Need-mul-refusal-of-2 Inv-loop μ-loop
+mul-refusal-of-2 c = omega (arith, c .before .before .before .before .before .before .before .before .pre .fewSteps, c .before .before .before .before .before .before .before .before .pre .fewActs, c .before .before .before .before .before .before .before .before .pre .holds .few, c .before .before .acts-before .ensures .1 .next)
+
+shared-slice-read-refusal-of : tie.Need-shared-slice-read-refusal-of Inv-loop μ-loop
+shared-slice-read-refusal-of c = omega (arith, c .before .before .before .before .before .before .before .before .before .pre .fewActs, c .before .before .before .before .before .before .before .before .before .pre .forActs, c .before .before .before .acts-before .ensures .1 .next)
+
 refusal-of-requires : tie.Need-refusal-of-requires Inv-loop μ-loop
 refusal-of-requires c κs =
-    let t = c .before .before .before .before .before .before .before .before in
-    let l = c .before .before .before .before .loop in
-    pricing-act-number (t .args .seen) (t .args .catalog .now) (t .args .calls .now) (t .args .acts .now) (t .pre) (l .p) (l .a) (l .s) (l .inv) (omega arith) (c .before .before .acts-before .result) (c .before .before .acts-before .ensures .0) (c .before .before .acts-before .ensures .1) (c .before .if1 .taken)
+    let t = c .before .before .before .before .before .before .before .before .before in
+    let l = c .before .before .before .before .before .loop in
+    pricing-act-number (t .args .seen) (t .args .catalog .now) (t .args .calls .now) (t .args .acts .now) (t .pre) (l .p) (l .a) (l .s) (l .inv) (omega arith) (c .before .before .before .acts-before .result) (c .before .before .before .acts-before .ensures .0) (c .before .before .before .acts-before .ensures .1) (c .before .before .if1 .taken)
 
 returns : tie.Need-returns Inv-loop μ-loop
 returns c =
-    let t = c .before .before .before .before .before .before .before .before .before in
-    let l = c .before .before .before .before .before .loop in
-    (pricing-act-fails (t .args .seen) (t .args .catalog .now) (t .args .calls .now) (t .args .acts .now) (t .pre) (l .p) (l .a) (l .s) (l .inv) (omega arith) (c .before .before .before .acts-before .result) (c .before .before .before .acts-before .ensures .0) (c .before .before .before .acts-before .ensures .1) _ _ (c .refusal-of .ensures) (c .before .before .if1 .taken) (omega arith), tt)
+    let t = c .before .before .before .before .before .before .before .before .before .before in
+    let l = c .before .before .before .before .before .before .loop in
+    (pricing-act-fails (t .args .seen) (t .args .catalog .now) (t .args .calls .now) (t .args .acts .now) (t .pre) (l .p) (l .a) (l .s) (l .inv) (omega arith) (c .before .before .before .before .acts-before .result) (c .before .before .before .before .acts-before .ensures .0) (c .before .before .before .before .acts-before .ensures .1) _ _ (c .refusal-of .ensures) (c .before .before .before .if1 .taken) (omega arith), tt)
 
-mul-serve : tie.Need-mul-serve Inv-loop μ-loop
-mul-serve c = omega (arith, c .before .before .before .before .before .before .before .before .pre .fewSteps, c .before .before .before .before .before .before .before .before .pre .fewActs, c .before .before .before .before .before .before .before .before .pre .holds .few)
+mul-kind : tie.Need-mul-kind Inv-loop μ-loop
+mul-kind c = omega (arith, c .before .before .before .before .before .before .before .before .pre .fewSteps, c .before .before .before .before .before .before .before .before .pre .fewActs, c .before .before .before .before .before .before .before .before .pre .holds .few)
 
-add-serve : tie.Need-add-serve Inv-loop μ-loop
-add-serve c = omega (arith, c .before .before .before .before .before .before .before .before .pre .fewSteps, c .before .before .before .before .before .before .before .before .pre .fewActs, c .before .before .before .before .before .before .before .before .pre .holds .few)
+add-kind : tie.Need-add-kind Inv-loop μ-loop
+add-kind c = omega (arith, c .before .before .before .before .before .before .before .before .pre .fewSteps, c .before .before .before .before .before .before .before .before .pre .fewActs, c .before .before .before .before .before .before .before .before .pre .holds .few)
 
-mul-serve-2 : tie.Need-mul-serve-2 Inv-loop μ-loop
-mul-serve-2 c = omega (arith, c .before .before .before .before .before .before .before .before .pre .fewSteps, c .before .before .before .before .before .before .before .before .pre .fewActs, c .before .before .before .before .before .before .before .before .pre .holds .few)
+mul-kind-2 : tie.Need-mul-kind-2 Inv-loop μ-loop
+mul-kind-2 c = omega (arith, c .before .before .before .before .before .before .before .before .pre .fewSteps, c .before .before .before .before .before .before .before .before .pre .fewActs, c .before .before .before .before .before .before .before .before .pre .holds .few)
 
-shared-slice-read-serve : tie.Need-shared-slice-read-serve Inv-loop μ-loop
-shared-slice-read-serve c = omega (arith, c .before .before .before .before .before .before .before .before .before .pre .fewSteps, c .before .before .before .before .before .before .before .before .before .pre .forSteps)
+shared-slice-read-kind : tie.Need-shared-slice-read-kind Inv-loop μ-loop
+shared-slice-read-kind c = omega (arith, c .before .before .before .before .before .before .before .before .before .pre .fewSteps, c .before .before .before .before .before .before .before .before .before .pre .forSteps)
 
-mul-serve-3 : tie.Need-mul-serve-3 Inv-loop μ-loop
-mul-serve-3 c = omega (arith, c .before .before .before .before .before .before .before .before .before .pre .fewSteps, c .before .before .before .before .before .before .before .before .before .pre .fewActs, c .before .before .before .before .before .before .before .before .before .pre .holds .few)
+mul-item : tie.Need-mul-item Inv-loop μ-loop
+mul-item c = omega (arith, c .before .before .before .before .before .before .before .before .before .pre .fewSteps, c .before .before .before .before .before .before .before .before .before .pre .fewActs, c .before .before .before .before .before .before .before .before .before .pre .holds .few)
 
-add-serve-2 : tie.Need-add-serve-2 Inv-loop μ-loop
-add-serve-2 c = omega (arith, c .before .before .before .before .before .before .before .before .before .pre .fewSteps, c .before .before .before .before .before .before .before .before .before .pre .fewActs, c .before .before .before .before .before .before .before .before .before .pre .holds .few)
+add-item : tie.Need-add-item Inv-loop μ-loop
+add-item c = omega (arith, c .before .before .before .before .before .before .before .before .before .pre .fewSteps, c .before .before .before .before .before .before .before .before .before .pre .fewActs, c .before .before .before .before .before .before .before .before .before .pre .holds .few)
 
-mul-serve-4 : tie.Need-mul-serve-4 Inv-loop μ-loop
-mul-serve-4 c = omega (arith, c .before .before .before .before .before .before .before .before .before .pre .fewSteps, c .before .before .before .before .before .before .before .before .before .pre .fewActs, c .before .before .before .before .before .before .before .before .before .pre .holds .few)
+mul-item-2 : tie.Need-mul-item-2 Inv-loop μ-loop
+mul-item-2 c = omega (arith, c .before .before .before .before .before .before .before .before .before .pre .fewSteps, c .before .before .before .before .before .before .before .before .before .pre .fewActs, c .before .before .before .before .before .before .before .before .before .pre .holds .few)
 
-shared-slice-read-serve-2 : tie.Need-shared-slice-read-serve-2 Inv-loop μ-loop
-shared-slice-read-serve-2 c = omega (arith, c .before .before .before .before .before .before .before .before .before .before .pre .fewSteps, c .before .before .before .before .before .before .before .before .before .before .pre .forSteps)
+shared-slice-read-item : tie.Need-shared-slice-read-item Inv-loop μ-loop
+shared-slice-read-item c = omega (arith, c .before .before .before .before .before .before .before .before .before .before .pre .fewSteps, c .before .before .before .before .before .before .before .before .before .before .pre .forSteps)
 
 cast-serve : tie.Need-cast-serve Inv-loop μ-loop
-cast-serve c = omega (arith, c .shared-slice-known5 .given (4 * c .before .before .before .before .before .before .loop .s + 2))
+cast-serve c = omega (arith, c .shared-slice-known6 .given (4 * c .before .before .before .before .before .before .loop .s + 2))
 
 serve-requires : tie.Need-serve-requires Inv-loop μ-loop
 serve-requires c κs =
@@ -84,11 +96,11 @@ serve-requires c κs =
     let l = c .before .before .before .before .before .before .loop in
     pricing-serves (t .args .seen) (t .args .catalog .now) (t .args .calls .now) (t .args .acts .now) (t .pre) (l .p) (l .a) (l .s) (l .inv) (omega arith) (c .before .before .before .before .acts-before .result) (c .before .before .before .before .acts-before .ensures .0) (c .before .before .before .before .acts-before .ensures .1) (c .before .before .before .if1 .left)
 
-add-refusal-of-4 : tie.Need-add-refusal-of-4 Inv-loop μ-loop
-add-refusal-of-4 c = omega (arith, c .before .before .before .before .before .before .before .before .before .before .before .before .before .pre .fewSteps, c .before .before .before .before .before .before .before .before .before .before .before .before .before .pre .fewActs, c .before .before .before .before .before .before .before .before .before .before .before .before .before .pre .holds .few)
-
 add-refusal-of-5 : tie.Need-add-refusal-of-5 Inv-loop μ-loop
 add-refusal-of-5 c = omega (arith, c .before .before .before .before .before .before .before .before .before .before .before .before .before .pre .fewSteps, c .before .before .before .before .before .before .before .before .before .before .before .before .before .pre .fewActs, c .before .before .before .before .before .before .before .before .before .before .before .before .before .pre .holds .few)
+
+add-refusal-of-6 : tie.Need-add-refusal-of-6 Inv-loop μ-loop
+add-refusal-of-6 c = omega (arith, c .before .before .before .before .before .before .before .before .before .before .before .before .before .pre .fewSteps, c .before .before .before .before .before .before .before .before .before .before .before .before .before .pre .fewActs, c .before .before .before .before .before .before .before .before .before .before .before .before .before .pre .holds .few)
 
 cast-refusal-of-2 : tie.Need-cast-refusal-of-2 Inv-loop μ-loop
 cast-refusal-of-2 c = omega (arith, c .before .before .before .before .before .before .before .before .before .before .before .before .before .pre .fewSteps, c .before .before .before .before .before .before .before .before .before .before .before .before .before .pre .fewActs, c .before .before .before .before .before .before .before .before .before .before .before .before .before .pre .holds .few)
@@ -148,20 +160,24 @@ price-plan-spec =
     add-refusal-of-2
     add-refusal-of-3
     cast-refusal-of
+    mul-refusal-of
+    add-refusal-of-4
+    mul-refusal-of-2
+    shared-slice-read-refusal-of
     refusal-of-requires
     returns
-    mul-serve
-    add-serve
-    mul-serve-2
-    shared-slice-read-serve
-    mul-serve-3
-    add-serve-2
-    mul-serve-4
-    shared-slice-read-serve-2
+    mul-kind
+    add-kind
+    mul-kind-2
+    shared-slice-read-kind
+    mul-item
+    add-item
+    mul-item-2
+    shared-slice-read-item
     cast-serve
     serve-requires
-    add-refusal-of-4
     add-refusal-of-5
+    add-refusal-of-6
     cast-refusal-of-2
     refusal-of-requires-2
     returns-2

@@ -17,9 +17,6 @@ use Rattle.season_tables.proofs.taken.Reads as taken-reads
 item-requires : tie.Need-item-requires
 item-requires c κs = search needs
 
-cast-item : tie.Need-cast-item
-cast-item c = search needs
-
 stopped-requires : tie.Need-stopped-requires
 stopped-requires c κs = search needs
 
@@ -32,6 +29,9 @@ returns c =
       (refl, λ x t. (c .stopped .ensures .1, refl)),
     )
 
+cast-if3 : tie.Need-cast-if3
+cast-if3 c = search needs
+
 stopped-requires-2 : tie.Need-stopped-requires-2
 stopped-requires-2 c κs = search needs
 
@@ -39,7 +39,7 @@ returns-2 : tie.Need-returns-2
 returns-2 c =
     let a = c .before .before .before .before .before .before .before .before .before .args in
     let item = c .before .before .before .before .before .before .before .item in
-    (act-unknown (a .seen) (a .acts .now) (a .place) (a .act) (a .at) (c .stopped2 .result) (c .before .before .before .before .before .if1 .left) (leb-false _ _ (c .before .before .before .if2 .left)) (rw (sym (item .ensures)) (c .before .if3 .taken)) (c .stopped2 .ensures .0), (refl, λ x t. (c .stopped2 .ensures .1, refl)))
+    (act-unknown (a .seen) (a .acts .now) (a .place) (a .act) (a .at) (c .stopped2 .result) (item .result) (item .ensures) (c .before .before .before .before .before .if1 .left) (leb-false _ _ (c .before .before .before .if2 .left)) (c .before .if3 .taken) (c .stopped2 .ensures .0), (refl, λ x t. (c .stopped2 .ensures .1, refl)))
 
 mul-put-act : tie.Need-mul-put-act
 mul-put-act c = search needs
@@ -70,9 +70,9 @@ take-act-spec =
     tie.close
     (tie.spec
     item-requires
-    cast-item
     stopped-requires
     returns
+    cast-if3
     stopped-requires-2
     returns-2
     mul-put-act

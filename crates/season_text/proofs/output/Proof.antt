@@ -44,7 +44,7 @@ returns-2 c =
     let r = c .before .before .before .before .before .before .before .before .before .before .before .before .answer in
     let x = c .before .before .before .before .before .before .before .before .r .given in
     let w = c .before .before .before .before .before .refused in
-    let told = prints-refusal (denote.Ref.now (a .text)) (denote.Ref.now (a .page)) (r .last .1 .0) (w .last .1 .0) (r .result) (w .result) (x .0 .0) (r .ensures .0) (r .ensures .1) (x .1) (w .ensures) in
+    let told = prints-refusal (denote.Ref.now (a .text)) (denote.Ref.now (a .page)) (r .last .1 .0) (w .last .1 .0) (r .result) (w .result) (x .0 .0) (r .ensures .0) (r .ensures .1) (x .1) (w .ensures .0) (w .ensures .1) in
     let n = c .before .n2 .given in
     prints-case (denote.Ref.now (a .text)) (denote.Ref.now (a .page)) (w .last .1 .0) (w .result) (n .0 .0) told (ap writtenLength (n .1))
 
@@ -57,7 +57,7 @@ returns-3 c =
     let r = c .before .before .before .before .before .before .before .before .before .before .before .answer in
     let x = c .before .before .before .before .before .before .before .r .given in
     let w = c .before .before .before .before .refused in
-    let told = prints-refusal (denote.Ref.now (a .text)) (denote.Ref.now (a .page)) (r .last .1 .0) (w .last .1 .0) (r .result) (w .result) (x .0 .0) (r .ensures .0) (r .ensures .1) (x .1) (w .ensures) in
+    let told = prints-refusal (denote.Ref.now (a .text)) (denote.Ref.now (a .page)) (r .last .1 .0) (w .last .1 .0) (r .result) (w .result) (x .0 .0) (r .ensures .0) (r .ensures .1) (x .1) (w .ensures .0) (w .ensures .1) in
     prints-case (denote.Ref.now (a .text)) (denote.Ref.now (a .page)) (w .last .1 .0) (w .result) 0 told (ap writtenLength (c .enum-told .given .1))
 
 pub output-spec : {M : Type 1} → statement M

@@ -1,5 +1,7 @@
 -- `cache_value::Cache::step` meets its contract: a step by its numbers, the reply's number as an answer. Assumes nothing.
+use mathlib.Core.Path.{ap, _∙_}
 use borrow.Author.Needs.{needs}
+use Rattle.landlord.specs.Types.{telling}
 use Rattle.landlord.specs.Calls.{callOf}
 use Rattle.cache_value.proofs.Answers.{answered, call-number}
 use Rattle.cache_value.proofs.Calls.{called-as}
@@ -25,16 +27,17 @@ returns : tie.Need-returns
 returns c =
     let a = c .before .before .before .before .before .args in
     let r = c .before .call .result in
+    let item = c .before .before .before .before .item .ensures in
     answered (a .self) (r .cache) (callOf (a .s)) (r .number) _
-    (called-as (a .self) (r .cache) (a .s) (r .number) (c .before .before .before .before .kind .ensures) (c .before .before .before .item .ensures) (c .before .before .minutes .ensures) (c .before .call .ensures))
-    (c .answer-with .ensures .0) (c .answer-with .ensures .1)
+    (called-as (a .self) (r .cache) (a .s) (r .number) (c .before .before .before .kind .ensures) item (c .before .before .minutes .ensures) (c .before .call .ensures))
+    (c .answer-with .ensures .0 ∙ ap (telling (r .number) 0) item) (c .answer-with .ensures .1)
 
 pub step-spec : {M : Type 1} → statement M
 step-spec =
     tie.close
     (tie.spec
-    kind-requires
     item-requires
+    kind-requires
     minutes-requires
     call-requires
     answer-with-requires

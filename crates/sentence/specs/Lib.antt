@@ -1,0 +1,3 @@
+-- The definitions that the contracts of `sentence` cite. Assumes nothing.
+pub mod Sentences
+pub mod InnerSentences
