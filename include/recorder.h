@@ -26,8 +26,8 @@
  * for the count of bytes that is handed in with it; with a count of 0 it is not used, and may be NULL.
  *
  * STACK. Measured on x86-64 (make bench prints it): at most 191 bytes for recorder_open, 343 for recorder_step, 199 for
- * recorder_close and 471 for recorder_report, with no recursion, what the C library's memcpy and memset use included;
- * recorder_sentence stays under 1 KiB. The library works on the lent bytes in place and makes no copy of them.
+ * recorder_close, 471 for recorder_report and 623 for recorder_sentence, with no recursion, what the C library's memcpy and
+ * memset use included. The library works on the lent bytes in place and makes no copy of them.
  */
 #ifndef RECORDER_H
 #define RECORDER_H

@@ -1,5 +1,5 @@
-// The report of a state on a lent page, and the two numbers of a refused input. The whole length is known before the first byte is
-// written, so a page that is too short is left as it was; then each line is written into what remains of the page.
+// The report of a state on a lent page, and the output of a refused input: its two numbers and its sentence. The whole length is known
+// before the first byte is written, so a page that is too short is left as it was; then each line is written into what remains of the page.
 ghost use mathlib.Core.Path.{_≡_};
 ghost use mathlib.Core.List.{_++_};
 ghost use Prim.Native.Nat.{_+_, _≤_, _<_};
