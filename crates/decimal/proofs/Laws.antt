@@ -27,7 +27,7 @@ less-or-not x n = go (ltb x n) refl
     go true e = inl (ltb-true x n e)
     go false e = inr (ltb-false x n e)
 
-and-false : (t : Bool) → (t && false) ≡ false
+pub and-false : (t : Bool) → (t && false) ≡ false
 and-false true = refl
 and-false false = refl
 

@@ -1,3 +1,5 @@
--- The laws of decimal numbers, and the proofs of the functions. Assumes nothing.
+-- The laws of texts and of decimal numbers, and the proofs of the functions. Assumes nothing.
 pub mod Laws
+pub mod Texts
+pub mod Pages
 mod Examples

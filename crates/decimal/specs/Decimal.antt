@@ -1,5 +1,5 @@
--- Text as bytes: quoted text; decimal numbers, which texts are numbers and what they stand for; a text on a lent page. Nothing here
--- bounds a number or the count of its digits. Assumes nothing.
+-- Text as bytes: quoted text; whether two texts are one; decimal numbers, which texts are numbers and what they stand for; a text on a
+-- lent page. Nothing here bounds a number or the count of its digits. Assumes nothing.
 use mathlib.Core.{Bool.{Bool, true, false, cond, not, _&&_}, List.{List, [], _∷_, _++_}}
 use Prim.Native.{Nat.{ℕ, zero, suc, _+_, _*_, _-_, _^_, _/_, _%_}, Char.code, String.{String, [] as empty, _∷_ as _before_}}
 use lib.{Dec.{leb, ltb, eqb}, ListN.{length, getD, drop}}
@@ -8,6 +8,13 @@ use lib.{Dec.{leb, ltb, eqb}, ListN.{length, getD, drop}}
 abbrev pub textOf : String → List ℕ
 textOf empty = []
 textOf (c before s) = code c ∷ textOf s
+
+-- whether two texts are one
+unfoldable pub sameText : List ℕ → List ℕ → Bool
+sameText [] [] = true
+sameText [] (b ∷ s) = false
+sameText (a ∷ t) [] = false
+sameText (a ∷ t) (b ∷ s) = eqb a b && sameText t s
 
 -- ASCII digits: '0' is 48, '9' is 57
 unfoldable pub allDigits : List ℕ → Bool

@@ -1,11 +1,12 @@
-// Decimal numbers as bytes. A number is one or more ASCII digits with no leading zero but that of "0" itself. It may
+// Text and decimal numbers as bytes. A number is one or more ASCII digits with no leading zero but that of "0" itself. It may
 // have any count of digits: its value decides whether it is in range, never its width, and no sum here can wrap.
 
 ghost use mathlib.Core.Path.{_≡_};
-ghost use Prim.Native.Nat.{_+_, _%_};
+ghost use Prim.Native.Nat.{_+_, _%_, _≤_};
 ghost use lib.ListN.{length};
-ghost use Rattle.decimal.specs.Decimal.{shaped, digitsOf, wroteOf, pageOf};
+ghost use Rattle.decimal.specs.Decimal.{sameText, shaped, digitsOf, wroteOf, pageOf};
 ghost use Rattle.decimal.specs.InnerReads.{readOf};
+ghost use Rattle.decimal.specs.InnerPages.{textOver};
 
 // What a text is, read as a number with a limit: no number, a number above the limit, or one that is at most the limit.
 pub enum Number {
@@ -114,4 +115,35 @@ pub fn write(v: u64, page: &mut [u8]) -> usize
         rest = rest / 10;
     }
     count
+}
+
+// Whether two texts are one. Their lengths decide first, so that neither may go on where the other ends.
+pub fn same(s: &[u8], t: &[u8]) -> bool
+    ensures { λ r. ⌜ r ≡ sameText (now (s .entry)) (now (t .entry)) ⌝ }
+{
+    if s.len() != t.len() {
+        return false;
+    }
+    let mut i = 0;
+    while i < s.len() {
+        if s[i] != t[i] {
+            return false;
+        }
+        i += 1;
+    }
+    true
+}
+
+// Writes a text at the start of the page, which has room for it.
+pub fn put_text(text: &[u8], page: &mut [u8]) -> usize
+    requires { ⌜ length (now text) ≤ length (now page) ⌝ }
+    ensures { λ r. ⌜ r ≡ length (now (text .entry)) ⌝ }
+    ensures { λ r. ⌜ now (page .exit) ≡ textOver (now (text .entry)) (now (page .entry)) ⌝ }
+{
+    let mut i = 0;
+    while i < text.len() {
+        page[i] = text[i];
+        i += 1;
+    }
+    i
 }

@@ -9,8 +9,8 @@ use native.Mathlib.Omega.{arith}
 use lib.Dec.{eqb}
 use lib.ListN.{length, take, drop, getD, set, replicate, length-append, length-drop, length-set, take-append-drop, drop-of-length-le}
 use lib.Seq.{sets, set-append-left, sets-eq, length-take-le, take-at, drop-at, drop-append-add, drop-drop, take-add, take-length, getD-drop}
-use Rattle.fields.specs.LittleEndian.{un, unrun, unflags}
-use Rattle.fields.specs.Inner.{Below, le, runOf, flags}
+use Rattle.fields.specs.LittleEndian.{un, unrun, unflags, le}
+use Rattle.fields.specs.Inner.{Below, runOf, flags}
 
 -- ---- lengths
 

@@ -11,8 +11,8 @@ use lib.Dec.{eqb}
 use lib.ListN.{length, take, drop, getD, set, replicate, length-replicate, drop-of-length-le}
 use lib.Seq.{sets, length-sets, drop-cons, drop-drop, getD-drop}
 use mir.Val.{boolByte}
-use Rattle.fields.specs.LittleEndian.{un, unrun, unflags}
-use Rattle.fields.specs.Inner.{le, runOf, flags}
+use Rattle.fields.specs.LittleEndian.{un, unrun, unflags, le}
+use Rattle.fields.specs.Inner.{runOf, flags}
 use Rattle.fields.proofs.Laws.{length-le, length-unrun, length-unflags, sets-append, sets-all}
 
 -- ---- one number

@@ -1,16 +1,12 @@
 -- Numbers written as bytes, for the laws of reading and storing. Assumes nothing.
 use mathlib.Core.{List.{List, [], _∷_, _++_}, Bool.{Bool, cond}}
-use Prim.Native.Nat.{ℕ, _<_, zero, suc, _/_, _%_}
+use Prim.Native.Nat.{ℕ, _<_}
 use lib.ListN.{getD}
+use Rattle.fields.specs.LittleEndian.{le}
 
 -- every number of `vs` is below `m` (past the end `getD` answers 0)
 abbrev pub Below : ℕ → List ℕ → Type 0
 Below m vs = (i : ℕ) → getD vs i 0 < m
-
--- the `w` low bytes of `v`, the low byte first
-unfoldable pub le : ℕ → ℕ → List ℕ
-le zero v = []
-le (suc w) v = v % 256 ∷ le w (v / 256)
 
 -- numbers one after another, `w` bytes each
 unfoldable pub runOf : ℕ → List ℕ → List ℕ

@@ -6,8 +6,8 @@ ghost use mathlib.Core.Path.{_≡_};
 ghost use Prim.Native.Nat.{_+_, _^_, _≤_, _<_};
 ghost use lib.ListN.{length, take, drop};
 ghost use lib.Seq.{sets};
-ghost use Rattle.fields.specs.LittleEndian.{un, unrun, unflags};
-ghost use Rattle.fields.specs.Inner.{le, runOf, flags};
+ghost use Rattle.fields.specs.LittleEndian.{un, unrun, unflags, le};
+ghost use Rattle.fields.specs.Inner.{runOf, flags};
 
 // Stores the `w` low bytes of `v`, the low byte first.
 pub fn put(buf: &mut [u8], at: usize, w: usize, v: u64)

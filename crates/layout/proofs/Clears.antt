@@ -9,8 +9,8 @@ use native.Mathlib.Omega.{arith}
 use lib.Dec.{eqb}
 use lib.ListN.{length, take, drop, set, replicate, length-set}
 use lib.Seq.{sets, length-sets, sets-eq, take-all, take-suc-set, getD-drop}
-use Rattle.fields.specs.LittleEndian.{unflags}
-use Rattle.fields.specs.Inner.{Below, le}
+use Rattle.fields.specs.LittleEndian.{unflags, le}
+use Rattle.fields.specs.Inner.{Below}
 use Rattle.fields.proofs.Laws.{length-le, un-front, below-append, below-drop, past, un-blank, unrun-blank, unflags-blank}
 use Rattle.layout.specs.Layout.{stateBytes, format, numberAt, numbersAt, AllowedBytes}
 use Rattle.layout.specs.InnerRows.{atFormat, atCapacity, atCount, atClosed, atSteps, atHits, atLoads, atEvictions, atDirtyEvictions, atWritebacks, atFlushes, atLoadCost, atWriteCost, atDirty, atLoadCredits, atWriteCredits, atTenths, atItemLoads, atItemWritebacks, atItemLoadCosts, atItemWriteCosts, atBlocks, atHeld}

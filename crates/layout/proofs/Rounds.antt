@@ -8,8 +8,8 @@ use native.Mathlib.Omega.{arith}
 use lib.Dec.{eqb}
 use lib.ListN.{length, drop, getD, length-drop}
 use lib.Seq.{take-all, getD-drop}
-use Rattle.fields.specs.LittleEndian.{unflags}
-use Rattle.fields.specs.Inner.{Below, le, runOf, flags}
+use Rattle.fields.specs.LittleEndian.{unflags, le}
+use Rattle.fields.specs.Inner.{Below, runOf, flags}
 use Rattle.fields.proofs.Laws.{sets-all, length-unrun, length-unflags, un-front, un-take-lt, below-drop, rejoin, le-back, unrun-lt, unrun-run, run-back, flags-lt, unflags-flags, flag-byte, flags-back}
 use Rattle.cache_state.specs.Cache.{Cache}
 use Rattle.layout.specs.Layout.{stateBytes, format, numberAt, numbersAt, cacheOf, AllowedBytes}

@@ -7,7 +7,8 @@ use Prim.Native.Nat.{ℕ, zero, suc, _+_, _*_, _-_, _≤_, _<_}
 use native.Mathlib.Omega.{arith}
 use lib.ListN.{length, drop, getD, length-append}
 use lib.Seq.{sets}
-use Rattle.fields.specs.Inner.{Below, le, runOf, flags}
+use Rattle.fields.specs.LittleEndian.{le}
+use Rattle.fields.specs.Inner.{Below, runOf, flags}
 use Rattle.fields.proofs.Laws.{length-le, length-run, length-flags, le-lt, run-lt, flags-lt, below-append, past, sets-append, sets-past, sets-within}
 use Rattle.layout.specs.InnerRows.{FieldRow, rowBytes}
 

@@ -11,7 +11,8 @@ use borrow.Author.Needs.{needs}
 use mir.Val.{boolByte}
 use lib.ListN.{length, getD, set, length-set}
 use lib.Seq.{sets, getD-set-same, getD-set-other}
-use Rattle.fields.specs.Inner.{Below, le, runOf, flags}
+use Rattle.fields.specs.LittleEndian.{le}
+use Rattle.fields.specs.Inner.{Below, runOf, flags}
 use Rattle.fields.proofs.Laws.{length-le, length-run, length-flags, sets-all, run-set, flags-set}
 use Rattle.cache_state.specs.Cache.{Cache}
 use Rattle.cache_state.specs.InnerWith.{withCapacity, withCount, withClosed, withSteps, withHits, withLoads, withEvictions, withDirtyEvictions, withWritebacks, withFlushes, withLoadCost, withWriteCost, withDirty, withLoadCredit, withWriteCredit, withTenths, withItemLoads, withItemWritebacks, withItemLoadCost, withItemWriteCost, withBlocks, withHeld}

@@ -3,7 +3,8 @@
 use mathlib.Core.{Path._≡_, Bool.{Bool, cond}, List.{List, [], _∷_, _++_}}
 use Prim.Native.Nat.{ℕ, _^_, _<_}
 use lib.ListN.{length}
-use Rattle.fields.specs.Inner.{le, runOf, flags, Below}
+use Rattle.fields.specs.LittleEndian.{le}
+use Rattle.fields.specs.Inner.{runOf, flags, Below}
 use Rattle.cache_state.specs.Cache.{Cache}
 use Rattle.layout.specs.Layout.{format}
 

@@ -3,15 +3,11 @@ use Rattle.sentence.specs.Sentences.{sentenceOf}
 use mathlib.Core.List.{[], List, _∷_, _++_}
 use Rattle.landlord.specs.Figures.{Use, Standing, totalCost}
 use Prim.Native.Nat.{ℕ, _≤_}
-use lib.ListN.{length, drop}
+use lib.ListN.{length}
 use Rattle.cache_state.specs.Cache.{view}
 use Rattle.layout.specs.Layout.{cacheOf, ValidBytes}
 use Rattle.decimal.specs.Decimal.{textOf}
 use Rattle.report.specs.{declared.{Rival.{Rival, the-variants.{Absent, Against}}, Written.Written}, Report.{lineOf, writtenTold}}
-
--- the page with the text t at its start
-abbrev pub textOver : List ℕ → List ℕ → List ℕ
-textOver t page = t ++ drop (length t) page
 
 -- an item's line: its number, and what was counted for it
 abbrev pub itemNumbers : ℕ → Use → List ℕ

@@ -6,10 +6,11 @@ ghost use Prim.Native.Nat.{_+_, _≤_, _<_};
 ghost use lib.ListN.{length, take};
 ghost use Rattle.cache_state.specs.Cache.{view, usesOf};
 ghost use Rattle.cache_state.specs.InnerView.{usageOf, figuresOf};
+ghost use Rattle.decimal.specs.InnerPages.{textOver};
 ghost use Rattle.landlord.specs.Figures.{totalCost, leftSide, rightSide};
 ghost use Rattle.layout.specs.Layout.{stateBytes, cacheOf, ValidBytes};
 ghost use Rattle.report.specs.Report.{lineOf, itemLines, rivalNumbers, totalNumbers, totalLines, reportOf, refusalText, Put, Reported, longest};
-ghost use Rattle.report.specs.Inner.{refusedText, itemNumbers, textOver, RivalOk, Comparable, TextFits, rivalCount};
+ghost use Rattle.report.specs.Inner.{refusedText, itemNumbers, RivalOk, Comparable, TextFits, rivalCount};
 use landlord::Refusal;
 
 // The bytes of the longest report there can be, with or without a rival's figures.
@@ -67,26 +68,12 @@ fn put_line(page: &mut [u8], numbers: &[u64]) -> usize
     at
 }
 
-// Writes a text at the start of the page, which has room for it.
-fn put_text(page: &mut [u8], text: &[u8]) -> usize
-    requires { ⌜ length (now text) ≤ length (now page) ⌝ }
-    ensures { λ r. ⌜ r ≡ length (now (text .entry)) ⌝ }
-    ensures { λ r. ⌜ now (page .exit) ≡ textOver (now (text .entry)) (now (page .entry)) ⌝ }
-{
-    let mut i = 0;
-    while i < text.len() {
-        page[i] = text[i];
-        i += 1;
-    }
-    i
-}
-
 // Writes a line of names and a line of numbers at the start of the page, which has room for both.
 fn put_table(page: &mut [u8], names: &[u8], numbers: &[u64])
     requires { ⌜ length (now names ++ lineOf (now numbers)) ≤ length (now page) ⌝ }
     ensures { λ _. ⌜ now (page .exit) ≡ textOver (now (names .entry) ++ lineOf (now (numbers .entry))) (now (page .entry)) ⌝ }
 {
-    let at = put_text(page, names);
+    let at = decimal::put_text(names, page);
     put_line(&mut page[at..], numbers);
 }
 
@@ -253,9 +240,9 @@ fn put_report(page: &mut [u8], b: &[u8], rival: Rival)
     requires { ⌜ TextFits (now b) rival (reportOf (view (cacheOf (now b))) rival) (now page) ⌝ }
     ensures { λ _. ⌜ now (page .exit) ≡ textOver (reportOf (view (cacheOf (now (b .entry)))) rival) (now (page .entry)) ⌝ }
 {
-    let mut at = put_text(page, b"sail tenths loads writebacks\n");
+    let mut at = decimal::put_text(b"sail tenths loads writebacks\n", page);
     at += put_items(&mut page[at..], b);
-    at += put_text(&mut page[at..], b"\n");
+    at += decimal::put_text(b"\n", &mut page[at..]);
     put_totals(&mut page[at..], b, rival);
 }
 

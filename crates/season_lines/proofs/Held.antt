@@ -2,23 +2,23 @@
 -- the same, and a line in range has the same numbers. Assumes nothing.
 use mathlib.Core.Path.{_≡_, refl, sym, ap, _∙_}
 use mathlib.Core.Bool.{Bool, true, false, cond, false≢true}
-use mathlib.Core.List.{List, map}
+use mathlib.Core.List.{List, [], _∷_, map}
 use mathlib.Core.Logic.{_⊎_, inl, inr}
 use Prim.Native.Nat.{ℕ, _≤_, _<_}
 use native.Mathlib.Omega.{arith}
 use borrow.Author.Tests.{le-leb, lt-leb, leb-true, leb-false, ne-eqb}
 use lib.Dec.{leb, eqb}
-use lib.ListN.{length, length-map, List·getD-map}
+use lib.ListN.{length-map, List·getD-map}
 use Rattle.landlord.specs.declared.Step.the-variants.{Read, Write, Flush}
 use Rattle.landlord.specs.Calls.{inRange, stepOf}
 use Rattle.landlord.specs.Catalog.{itemInRange}
 use Rattle.season_lines.specs.declared.Field.{Field}
-use Rattle.season_lines.specs.declared.Field.the-variants.{Number, Letter, Dash, Other}
+use Rattle.season_lines.specs.declared.Field.the-variants.{Number, Letter, Dash, Word, Empty}
 use Rattle.season_lines.specs.declared.Line.{Line}
 use Rattle.season_lines.specs.declared.Line.the-variants.{Sizes, Item as ItemLine, Step, Act as Placed}
-use Rattle.season_lines.specs.Lines.{fieldAt, isNumber, isDash, isLetter, valueIn, shapeThenRange, sizesLine, itemFrom, itemLine, stepShape, stepLine, actOf, actLine, lineIn}
+use Rattle.season_lines.specs.Lines.{fieldAt, isNumber, isDash, isLetter, isEmpty, valueIn, noneEmpty, shapeThenRange, sizesLine, itemFrom, itemLine, stepShape, stepLine, actOf, actLine, valuesIn, lineIn}
 use Rattle.season_lines.specs.Inner.{beyond, heldField}
-use Rattle.season_lines.proofs.Laws.{and-parts, item-bounds, sizesShape, itemShape, stepsShape, actsShape, sizesRange, itemsRange, actsRange, sizesBy, itemBy, stepBy, actBy}
+use Rattle.season_lines.proofs.Laws.{and-parts, item-bounds, sizesShape, itemShape, stepsShape, actsShape, sizesRange, itemsRange, actsRange}
 use Rattle.season_lines.proofs.Pieces.{sizes-bounds, acts-bounds}
 
 -- ## A field
@@ -27,19 +27,29 @@ held-number : (f : Field) → isNumber (heldField f) ≡ isNumber f
 held-number (Number v) = refl
 held-number (Letter b) = refl
 held-number Dash = refl
-held-number Other = refl
+held-number Word = refl
+held-number Empty = refl
 
 held-dash : (f : Field) → isDash (heldField f) ≡ isDash f
 held-dash (Number v) = refl
 held-dash (Letter b) = refl
 held-dash Dash = refl
-held-dash Other = refl
+held-dash Word = refl
+held-dash Empty = refl
 
 held-letter : (f : Field) → isLetter (heldField f) ≡ isLetter f
 held-letter (Number v) = refl
 held-letter (Letter b) = refl
 held-letter Dash = refl
-held-letter Other = refl
+held-letter Word = refl
+held-letter Empty = refl
+
+held-empty : (f : Field) → isEmpty (heldField f) ≡ isEmpty f
+held-empty (Number v) = refl
+held-empty (Letter b) = refl
+held-empty Dash = refl
+held-empty Word = refl
+held-empty Empty = refl
 
 -- a number and what is held of it: the same, or both are beyond every range
 abbrev HeldAs : ℕ → ℕ → Type 0
@@ -53,7 +63,8 @@ held-value (Number v) = go (leb v beyond) refl
     go false e = inr (refl, leb-false v beyond e)
 held-value (Letter b) = inl refl
 held-value Dash = inl refl
-held-value Other = inl refl
+held-value Word = inl refl
+held-value Empty = inl refl
 
 -- so each test against a number below `beyond` gives the same
 module _ (f : Field) (m : ℕ) (low : m < beyond) where
@@ -91,7 +102,7 @@ module _ (f : Field) (m : ℕ) (low : m < beyond) where
       go (inl e) = e
       go (inr w) = absurd (omega (arith, w .1))
 
--- ## A line by its fields
+-- ## The line of each table
 
 -- lines of the same shape and in the same range, that say the same if they are in range
 same-judged :
@@ -107,10 +118,11 @@ same-judged s t p q l m n a b c = rw (a, b) (go t q c)
     go true false c = refl
     go false q c = refl
 
-held-sizes : (count : ℕ) (k h : Field) (n : ℕ) → sizesBy count (heldField k) (heldField h) n ≡ sizesBy count k h n
-held-sizes count k h n = same-judged _ _ _ _ _ _ n shape range says
+held-sizes : (k h : Field) (n : ℕ) → sizesLine (heldField k) (heldField h) n ≡ sizesLine k h n
+unfolding sizesLine
+held-sizes k h n = same-judged _ _ _ _ _ _ n shape range says
   where
-    shape : sizesShape count (heldField k) (heldField h) ≡ sizesShape count k h
+    shape : sizesShape (heldField k) (heldField h) ≡ sizesShape k h
     shape = rw (held-number k, held-number h)
 
     range : sizesRange (valueIn (heldField k)) (valueIn (heldField h)) ≡ sizesRange (valueIn k) (valueIn h)
@@ -130,11 +142,12 @@ held-sizes count k h n = same-judged _ _ _ _ _ _ n shape range says
         rw (held-same k 4096 (omega arith) (b .1), held-same h 4096 (omega arith) (b .3))
 
 held-item :
-    (count : ℕ) (i b l w : Field) (n : ℕ) →
-    itemBy count (heldField i) (heldField b) (heldField l) (heldField w) n ≡ itemBy count i b l w n
-held-item count i b l w n = same-judged _ _ _ _ _ _ n shape range says
+    (i b l w : Field) (n : ℕ) →
+    itemLine (heldField i) (heldField b) (heldField l) (heldField w) n ≡ itemLine i b l w n
+unfolding itemLine
+held-item i b l w n = same-judged _ _ _ _ _ _ n shape range says
   where
-    shape : itemShape count (heldField i) (heldField b) (heldField l) (heldField w) ≡ itemShape count i b l w
+    shape : itemShape (heldField i) (heldField b) (heldField l) (heldField w) ≡ itemShape i b l w
     shape = rw (held-number i, held-number b, held-number l, held-number w)
 
     range :
@@ -212,13 +225,14 @@ held-step-of kind item minutes e =
     go false false r e = refl
 
 held-step :
-    (count : ℕ) (kind item minutes : Field) (n : ℕ) →
-    stepBy count (heldField kind) (heldField item) (heldField minutes) n ≡ stepBy count kind item minutes n
-held-step count kind item minutes n = same-judged _ _ _ _ _ _ n shape range says
+    (kind item minutes : Field) (n : ℕ) →
+    stepLine (heldField kind) (heldField item) (heldField minutes) n ≡ stepLine kind item minutes n
+unfolding stepLine
+held-step kind item minutes n = same-judged _ _ _ _ _ _ n shape range says
   where
     shape :
-        stepsShape count (heldField kind) (valueIn (heldField kind)) (heldField item) (heldField minutes)
-        ≡ stepsShape count kind (valueIn kind) item minutes
+        stepsShape (heldField kind) (valueIn (heldField kind)) (heldField item) (heldField minutes)
+        ≡ stepsShape kind (valueIn kind) item minutes
     shape = rw (held-letter kind, held-shape kind item minutes)
 
     range :
@@ -240,13 +254,14 @@ held-step count kind item minutes n = same-judged _ _ _ _ _ _ n shape range says
     says e = ap Step (held-step-of kind item minutes e)
 
 held-act :
-    (count : ℕ) (place kind item : Field) (n : ℕ) →
-    actBy count (heldField place) (heldField kind) (heldField item) n ≡ actBy count place kind item n
-held-act count place kind item n = same-judged _ _ _ _ _ _ n shape range says
+    (place kind item : Field) (n : ℕ) →
+    actLine (heldField place) (heldField kind) (heldField item) n ≡ actLine place kind item n
+unfolding actLine
+held-act place kind item n = same-judged _ _ _ _ _ _ n shape range says
   where
     shape :
-        actsShape count (heldField place) (heldField kind) (valueIn (heldField kind)) (heldField item)
-        ≡ actsShape count place kind (valueIn kind) item
+        actsShape (heldField place) (heldField kind) (valueIn (heldField kind)) (heldField item)
+        ≡ actsShape place kind (valueIn kind) item
     shape =
         rw (
           held-number place,
@@ -284,32 +299,28 @@ held-act count place kind item n = same-judged _ _ _ _ _ _ n shape range says
 
 -- field j of the fields as they are held
 at-held : (fs : List Field) (j : ℕ) → fieldAt (map heldField fs) j ≡ heldField (fieldAt fs j)
-at-held fs j = List·getD-map heldField fs j Other
+at-held fs j = List·getD-map heldField fs j Empty
 
-module _ (fs : List Field) (n : ℕ) where
-  sizes-held : sizesLine (map heldField fs) n ≡ sizesLine fs n
-  unfolding sizesLine
-  sizes-held = rw (length-map fs heldField, at-held fs 0, at-held fs 1) (held-sizes (length fs) (fieldAt fs 0) (fieldAt fs 1) n)
+none-held : (fs : List Field) → noneEmpty (map heldField fs) ≡ noneEmpty fs
+unfolding noneEmpty
+none-held [] = refl
+none-held (f ∷ fs) = rw (held-empty f, none-held fs)
 
-  item-held : itemLine (map heldField fs) n ≡ itemLine fs n
-  unfolding itemLine
-  item-held =
-      rw (length-map fs heldField, at-held fs 0, at-held fs 1, at-held fs 2, at-held fs 3)
-      (held-item (length fs) (fieldAt fs 0) (fieldAt fs 1) (fieldAt fs 2) (fieldAt fs 3) n)
-
-  step-held : stepLine (map heldField fs) n ≡ stepLine fs n
-  unfolding stepLine
-  step-held =
-      rw (length-map fs heldField, at-held fs 0, at-held fs 1, at-held fs 2)
-      (held-step (length fs) (fieldAt fs 0) (fieldAt fs 1) (fieldAt fs 2) n)
-
-  act-held : actLine (map heldField fs) n ≡ actLine fs n
-  unfolding actLine
-  act-held =
-      rw (length-map fs heldField, at-held fs 0, at-held fs 1, at-held fs 2)
-      (held-act (length fs) (fieldAt fs 0) (fieldAt fs 1) (fieldAt fs 2) n)
+values-held : (table : ℕ) (fs : List Field) (n : ℕ) → valuesIn table (map heldField fs) n ≡ valuesIn table fs n
+unfolding valuesIn
+values-held table fs n =
+    rw (
+      at-held fs 0,
+      at-held fs 1,
+      at-held fs 2,
+      at-held fs 3,
+      held-sizes (fieldAt fs 0) (fieldAt fs 1) n,
+      held-item (fieldAt fs 0) (fieldAt fs 1) (fieldAt fs 2) (fieldAt fs 3) n,
+      held-step (fieldAt fs 0) (fieldAt fs 1) (fieldAt fs 2) n,
+      held-act (fieldAt fs 0) (fieldAt fs 1) (fieldAt fs 2) n,
+    )
 
 -- the line that fields make is the line that they make as they are held
-pub held-line : (table : ℕ) (fs : List Field) (n : ℕ) → lineIn table (map heldField fs) n ≡ lineIn table fs n
+pub held-line : (table form : ℕ) (fs : List Field) (n : ℕ) → lineIn table form (map heldField fs) n ≡ lineIn table form fs n
 unfolding lineIn
-held-line table fs n = rw (sizes-held fs n, item-held fs n, step-held fs n, act-held fs n)
+held-line table form fs n = rw (length-map fs heldField, none-held fs, values-held table fs n)

@@ -3,7 +3,7 @@
 use mathlib.Core.Path.{_≡_, refl, sym, _∙_}
 use mathlib.Core.Bool.{Bool, true, false, cond, not, _&&_, and-false, false≢true}
 use mathlib.Core.List.{List, [], _∷_}
-use mathlib.Core.Logic.{_⊎_, inl, inr, ⊎-elim}
+use mathlib.Core.Logic.{_⊎_, ⊎-elim}
 use Prim.Native.Nat.{ℕ, zero, suc, _+_, _≤_, _<_}
 use native.Mathlib.Numerals.{add-one}
 use native.Mathlib.Omega.{arith}
@@ -12,7 +12,7 @@ use lib.Dec.{leb, eqb}
 use lib.ListN.{length, getD, take, drop, drop-of-length-le}
 use lib.Seq.{drop-cons, length-take-le}
 use Rattle.decimal.specs.declared.Number.the-variants.{Malformed as NoNumber, OutOfRange as Above, Value}
-use Rattle.decimal.specs.Decimal.{shaped, valueOf}
+use Rattle.decimal.specs.Decimal.{textOf, sameText, shaped, valueOf}
 use Rattle.decimal.specs.InnerReads.{readOf}
 use Rattle.landlord.specs.declared.Step.the-variants.{Read, Write, Flush}
 use Rattle.landlord.specs.declared.Act.the-variants.{Evict, Fetch}
@@ -20,10 +20,10 @@ use Rattle.landlord.specs.declared.Refusal.the-variants.{Malformed, OutOfRange}
 use Rattle.landlord.specs.Calls.{inRange, stepOf}
 use Rattle.landlord.specs.Catalog.{capacityInRange, itemInRange}
 use Rattle.season_lines.specs.declared.Field.{Field}
-use Rattle.season_lines.specs.declared.Field.the-variants.{Number, Letter, Dash, Other}
-use Rattle.season_lines.specs.declared.Line.{Line}
+use Rattle.season_lines.specs.declared.Field.the-variants.{Number, Letter, Dash, Word, Empty}
+use Rattle.season_lines.specs.declared.Names.the-variants.{Form, Unknown}
 use Rattle.season_lines.specs.declared.Line.the-variants.{Sizes, Item as ItemLine, Step, Act as Placed, Refused}
-use Rattle.season_lines.specs.Lines.{markOf, fieldOf, fieldAt, isNumber, isDash, isLetter, valueIn, shapeThenRange, sizesLine, itemFrom, itemLine, isEither, stepShape, stepLine, isActKind, actOf, actLine, lineIn}
+use Rattle.season_lines.specs.Lines.{split, markOf, fieldOf, fieldAt, isNumber, isDash, isLetter, valueIn, noneEmpty, headings, namesIn, formAmong, formOf, sizesLine, itemFrom, itemLine, isEither, stepShape, stepLine, isActKind, actOf, actLine, valuesIn, lineIn}
 use Rattle.season_lines.specs.Inner.{before, beyond, heldField}
 use Rattle.landlord.proofs.Ranges.{item-facts}
 
@@ -41,20 +41,13 @@ one-of-2 : (p q : Bool) → (p ≡ false) ⊎ (q ≡ false) → (p && q) ≡ fal
 one-of-2 true q e = ⊎-elim (λ f. absurd (false≢true (sym f))) (λ f. f) e
 one-of-2 false q e = refl
 
-pub one-of-3 : (p q r : Bool) → (p ≡ false) ⊎ (q ≡ false) ⊎ (r ≡ false) → (p && q && r) ≡ false
+one-of-3 : (p q r : Bool) → (p ≡ false) ⊎ (q ≡ false) ⊎ (r ≡ false) → (p && q && r) ≡ false
 one-of-3 true q r e = ⊎-elim (λ f. absurd (false≢true (sym f))) (λ f. one-of-2 q r f) e
 one-of-3 false q r e = refl
 
-pub one-of-4 : (p q r s : Bool) → (p ≡ false) ⊎ (q ≡ false) ⊎ (r ≡ false) ⊎ (s ≡ false) → (p && q && r && s) ≡ false
+one-of-4 : (p q r s : Bool) → (p ≡ false) ⊎ (q ≡ false) ⊎ (r ≡ false) ⊎ (s ≡ false) → (p && q && r && s) ≡ false
 one-of-4 true q r s e = ⊎-elim (λ f. absurd (false≢true (sym f))) (λ f. one-of-3 q r s f) e
 one-of-4 false q r s e = refl
-
-pub one-of-5 :
-    (p q r s t : Bool) →
-    (p ≡ false) ⊎ (q ≡ false) ⊎ (r ≡ false) ⊎ (s ≡ false) ⊎ (t ≡ false) →
-    (p && q && r && s && t) ≡ false
-one-of-5 true q r s t e = ⊎-elim (λ f. absurd (false≢true (sym f))) (λ f. one-of-4 q r s t f) e
-one-of-5 false q r s t e = refl
 
 pub both-yes : (p q : Bool) → p ≡ true → q ≡ true → (p && q) ≡ true
 both-yes p q e h = rw (e, h)
@@ -102,41 +95,41 @@ mark-dash b e = rw (eq-eqb b 45 e)
 pub mark-letter : (b : ℕ) → (b ≡ 45 → ⊥) → 65 ≤ b → b ≤ 90 → Letter b ≡ markOf b
 mark-letter b n l h = rw (ne-eqb b 45 n, le-leb 65 b l, le-leb b 90 h)
 
-pub mark-high : (b : ℕ) → (b ≡ 45 → ⊥) → 90 < b → Other ≡ markOf b
+pub mark-high : (b : ℕ) → (b ≡ 45 → ⊥) → 90 < b → Word ≡ markOf b
 mark-high b n h = rw (ne-eqb b 45 n, lt-leb b 90 h, and-false (leb 65 b))
 
-pub mark-low : (b : ℕ) → (b ≡ 45 → ⊥) → b < 65 → Other ≡ markOf b
+pub mark-low : (b : ℕ) → (b ≡ 45 → ⊥) → b < 65 → Word ≡ markOf b
 mark-low b n h = rw (ne-eqb b 45 n, lt-leb 65 b h)
 
 pub field-number : (s : List ℕ) (v : ℕ) → Value v ≡ readOf s beyond → Number v ≡ heldField (fieldOf s)
 unfolding readOf fieldOf
-field-number s v e = go (shaped s) e
+field-number s v e = go (shaped s) _ e
   where
     within : (q : Bool) → Value v ≡ cond q (Value (valueOf s)) Above → Number v ≡ Number (cond q (valueOf s) beyond)
     within true e = cc
     within false e = cc
 
     go :
-        (p : Bool) →
+        (p : Bool) (f : Field) →
         Value v ≡ cond p (cond (leb (valueOf s) beyond) (Value (valueOf s)) Above) NoNumber →
-        Number v ≡ heldField (cond p (Number (valueOf s)) (cond (eqb (length s) 1) (markOf (getD s 0 0)) Other))
-    go true e = within (leb (valueOf s) beyond) e
-    go false e = cc
+        Number v ≡ heldField (cond p (Number (valueOf s)) f)
+    go true f e = within (leb (valueOf s) beyond) e
+    go false f e = cc
 
 pub field-beyond : (s : List ℕ) → Above ≡ readOf s beyond → Number beyond ≡ heldField (fieldOf s)
 unfolding readOf fieldOf
-field-beyond s e = go (shaped s) e
+field-beyond s e = go (shaped s) _ e
   where
     above : (q : Bool) → Above ≡ cond q (Value (valueOf s)) Above → Number beyond ≡ Number (cond q (valueOf s) beyond)
     above true e = cc
     above false e = refl
 
     go :
-        (p : Bool) →
+        (p : Bool) (f : Field) →
         Above ≡ cond p (cond (leb (valueOf s) beyond) (Value (valueOf s)) Above) NoNumber →
-        Number beyond ≡ heldField (cond p (Number (valueOf s)) (cond (eqb (length s) 1) (markOf (getD s 0 0)) Other))
-    go true e = above (leb (valueOf s) beyond) e
-    go false e = cc
+        Number beyond ≡ heldField (cond p (Number (valueOf s)) f)
+    go true f e = above (leb (valueOf s) beyond) e
+    go false f e = cc
 
 not-shaped : (s : List ℕ) → NoNumber ≡ readOf s beyond → shaped s ≡ false
 unfolding readOf
@@ -151,7 +144,7 @@ not-shaped s e = go (shaped s) (leb (valueOf s) beyond) e
 mark-held : (b : ℕ) → markOf b ≡ heldField (markOf b)
 mark-held b = go (eqb b 45) (leb 65 b && leb b 90)
   where
-    go : (p q : Bool) → cond p Dash (cond q (Letter b) Other) ≡ heldField (cond p Dash (cond q (Letter b) Other))
+    go : (p q : Bool) → cond p Dash (cond q (Letter b) Word) ≡ heldField (cond p Dash (cond q (Letter b) Word))
     go true q = refl
     go false true = refl
     go false false = refl
@@ -160,9 +153,14 @@ pub field-mark : (s : List ℕ) → NoNumber ≡ readOf s beyond → length s �
 unfolding fieldOf
 field-mark s e h = rw (not-shaped s e, eq-eqb (length s) 1 h) (mark-held (getD s 0 0))
 
-pub field-other : (s : List ℕ) → NoNumber ≡ readOf s beyond → (length s ≡ 1 → ⊥) → Other ≡ heldField (fieldOf s)
+pub field-empty : (s : List ℕ) → NoNumber ≡ readOf s beyond → length s ≡ 0 → Empty ≡ heldField (fieldOf s)
 unfolding fieldOf
-field-other s e h = rw (not-shaped s e, ne-eqb (length s) 1 h)
+field-empty s e h = rw (not-shaped s e, h)
+
+pub field-word :
+    (s : List ℕ) → NoNumber ≡ readOf s beyond → (length s ≡ 1 → ⊥) → (length s ≡ 0 → ⊥) → Word ≡ heldField (fieldOf s)
+unfolding fieldOf
+field-word s e h k = rw (not-shaped s e, ne-eqb (length s) 1 h, ne-eqb (length s) 0 k)
 
 -- ## Kinds
 
@@ -218,38 +216,21 @@ item-bounds b l w e =
     let f = item-facts (itemFrom b l w) e in
     (f .some, f .small, f .load, f .write)
 
-pub equal-or-not : (a b : ℕ) → (a ≡ b → ⊥) ⊎ (a ≡ b)
-equal-or-not a b = go (eqb a b) refl
-  where
-    go : (t : Bool) → eqb a b ≡ t → (a ≡ b → ⊥) ⊎ (a ≡ b)
-    go true e = inr (eqb-true a b e)
-    go false e = inl (eqb-false a b e)
+-- the shape of each table's line, from its fields; a letter's code stands beside it
+abbrev pub sizesShape : Field → Field → Bool
+sizesShape k h = isNumber k && isNumber h
 
--- a field of an array that has it
-abbrev pub slot : List Field → ℕ → Field
-slot fields j = getD fields j (Number 0)
+abbrev pub itemShape : Field → Field → Field → Field → Bool
+itemShape i b l w = isNumber i && isNumber b && isNumber l && isNumber w
 
-slot-is : (fields : List Field) (count j : ℕ) → j < count → count ≤ length fields → fieldAt (take count fields) j ≡ slot fields j
-slot-is [] count j h k = absurd (omega arith)
-slot-is (f ∷ fs) zero j h k = absurd (omega arith)
-slot-is (f ∷ fs) (suc count) zero h k = refl
-slot-is (f ∷ fs) (suc count) (suc j) h k = slot-is fs count j (omega arith) (omega arith)
-
--- the shape of each table's line, from how many fields it has and from those; a letter's code stands beside it
-abbrev pub sizesShape : ℕ → Field → Field → Bool
-sizesShape count k h = eqb count 2 && isNumber k && isNumber h
-
-abbrev pub itemShape : ℕ → Field → Field → Field → Field → Bool
-itemShape count i b l w = eqb count 4 && isNumber i && isNumber b && isNumber l && isNumber w
-
-abbrev pub stepsShape : ℕ → Field → ℕ → Field → Field → Bool
-stepsShape count kind letter item minutes = eqb count 3 && isLetter kind && stepShape letter item minutes
+abbrev pub stepsShape : Field → ℕ → Field → Field → Bool
+stepsShape kind letter item minutes = isLetter kind && stepShape letter item minutes
 
 abbrev pub actShape : ℕ → Field → Bool
 actShape kind item = cond (isActKind kind) (isNumber item) (isEither item)
 
-abbrev pub actsShape : ℕ → Field → Field → ℕ → Field → Bool
-actsShape count place kind letter item = eqb count 3 && isNumber place && isLetter kind && actShape letter item
+abbrev pub actsShape : Field → Field → ℕ → Field → Bool
+actsShape place kind letter item = isNumber place && isLetter kind && actShape letter item
 
 -- and its ranges, from its values
 abbrev pub sizesRange : ℕ → ℕ → Bool
@@ -261,188 +242,200 @@ itemsRange i b l w = leb i 255 && itemInRange (itemFrom b l w)
 abbrev pub actsRange : ℕ → ℕ → ℕ → Bool
 actsRange place kind item = leb place 999999 && isActKind kind && leb item 255
 
--- what each line says, from those
-abbrev pub sizesBy : ℕ → Field → Field → ℕ → Line
-sizesBy count k h n = shapeThenRange (sizesShape count k h) (sizesRange (valueIn k) (valueIn h)) (Sizes (valueIn k) (valueIn h)) n
-
-abbrev pub itemBy : ℕ → Field → Field → Field → Field → ℕ → Line
-itemBy count i b l w n =
-    shapeThenRange (itemShape count i b l w) (itemsRange (valueIn i) (valueIn b) (valueIn l) (valueIn w))
-    (ItemLine (valueIn i) (valueIn b) (valueIn l) (valueIn w)) n
-
-abbrev pub stepBy : ℕ → Field → Field → Field → ℕ → Line
-stepBy count kind item minutes n =
-    shapeThenRange (stepsShape count kind (valueIn kind) item minutes) (inRange (valueIn kind) (valueIn item) (valueIn minutes))
-    (Step (stepOf (valueIn kind) (valueIn item) (valueIn minutes))) n
-
-abbrev pub actBy : ℕ → Field → Field → Field → ℕ → Line
-actBy count place kind item n =
-    shapeThenRange (actsShape count place kind (valueIn kind) item) (actsRange (valueIn place) (valueIn kind) (valueIn item))
-    (Placed (valueIn place) (actOf (valueIn kind) (valueIn item))) n
-
--- the line that the first `count` fields of an array make
-module _ (fields : List Field) (count n : ℕ) (few : count ≤ length fields) where
-  sizes-by : sizesLine (take count fields) n ≡ sizesBy count (slot fields 0) (slot fields 1) n
+-- A line that lacks its table's shape; and one that has it, by its values, out of range and in range.
+module _ (k h : Field) (n : ℕ) where
+  pub sizes-malformed : (isNumber k ≡ false) ⊎ (isNumber h ≡ false) → Refused (Malformed n) ≡ sizesLine k h n
   unfolding sizesLine
-  sizes-by = ⊎-elim other right (equal-or-not count 2)
-    where
-      other : (count ≡ 2 → ⊥) → sizesLine (take count fields) n ≡ sizesBy count (slot fields 0) (slot fields 1) n
-      other e = rw (length-take-le count fields few, ne-eqb count 2 e)
+  sizes-malformed e = rw (one-of-2 (isNumber k) (isNumber h) e)
 
-      right : count ≡ 2 → sizesLine (take count fields) n ≡ sizesBy count (slot fields 0) (slot fields 1) n
-      right e =
-          rw
-          (length-take-le count fields few, slot-is fields count 0 (omega arith) few, slot-is fields count 1 (omega arith) few)
+  module _ (a b : ℕ) (ea : a ≡ valueIn k) (eb : b ≡ valueIn h) (s : sizesShape k h ≡ true) where
+    pub sizes-far : (capacityInRange a ≡ false) ⊎ (capacityInRange b ≡ false) → Refused (OutOfRange n) ≡ sizesLine k h n
+    unfolding sizesLine
+    sizes-far r = rw (s, ← ea, ← eb, one-of-2 (capacityInRange a) (capacityInRange b) r)
 
-  item-by : itemLine (take count fields) n ≡ itemBy count (slot fields 0) (slot fields 1) (slot fields 2) (slot fields 3) n
-  unfolding itemLine
-  item-by = ⊎-elim other right (equal-or-not count 4)
-    where
-      other :
-          (count ≡ 4 → ⊥) →
-          itemLine (take count fields) n ≡ itemBy count (slot fields 0) (slot fields 1) (slot fields 2) (slot fields 3) n
-      other e = rw (length-take-le count fields few, ne-eqb count 4 e)
+    pub sizes-good : sizesRange a b ≡ true → Sizes a b ≡ sizesLine k h n
+    unfolding sizesLine
+    sizes-good r = rw (s, ← ea, ← eb, r)
 
-      right :
-          count ≡ 4 → itemLine (take count fields) n ≡ itemBy count (slot fields 0) (slot fields 1) (slot fields 2) (slot fields 3) n
-      right e =
-          rw (
-            length-take-le count fields few,
-            slot-is fields count 0 (omega arith) few,
-            slot-is fields count 1 (omega arith) few,
-            slot-is fields count 2 (omega arith) few,
-            slot-is fields count 3 (omega arith) few,
-          )
-
-  step-by : stepLine (take count fields) n ≡ stepBy count (slot fields 0) (slot fields 1) (slot fields 2) n
-  unfolding stepLine
-  step-by = ⊎-elim other right (equal-or-not count 3)
-    where
-      other : (count ≡ 3 → ⊥) → stepLine (take count fields) n ≡ stepBy count (slot fields 0) (slot fields 1) (slot fields 2) n
-      other e = rw (length-take-le count fields few, ne-eqb count 3 e)
-
-      right : count ≡ 3 → stepLine (take count fields) n ≡ stepBy count (slot fields 0) (slot fields 1) (slot fields 2) n
-      right e =
-          rw (
-            length-take-le count fields few,
-            slot-is fields count 0 (omega arith) few,
-            slot-is fields count 1 (omega arith) few,
-            slot-is fields count 2 (omega arith) few,
-          )
-
-  act-by : actLine (take count fields) n ≡ actBy count (slot fields 0) (slot fields 1) (slot fields 2) n
-  unfolding actLine
-  act-by = ⊎-elim other right (equal-or-not count 3)
-    where
-      other : (count ≡ 3 → ⊥) → actLine (take count fields) n ≡ actBy count (slot fields 0) (slot fields 1) (slot fields 2) n
-      other e = rw (length-take-le count fields few, ne-eqb count 3 e)
-
-      right : count ≡ 3 → actLine (take count fields) n ≡ actBy count (slot fields 0) (slot fields 1) (slot fields 2) n
-      right e =
-          rw (
-            length-take-le count fields few,
-            slot-is fields count 0 (omega arith) few,
-            slot-is fields count 1 (omega arith) few,
-            slot-is fields count 2 (omega arith) few,
-          )
-
-  -- a line that lacks its table's shape
-  pub sizes-malformed :
-      (eqb count 2 ≡ false) ⊎ (isNumber (slot fields 0) ≡ false) ⊎ (isNumber (slot fields 1) ≡ false) →
-      Refused (Malformed n) ≡ sizesLine (take count fields) n
-  sizes-malformed e = rw (sizes-by, one-of-3 (eqb count 2) (isNumber (slot fields 0)) (isNumber (slot fields 1)) e)
-
+module _ (i b l w : Field) (n : ℕ) where
   pub item-malformed :
-      (eqb count 4 ≡ false)
-      ⊎ (isNumber (slot fields 0) ≡ false)
-      ⊎ (isNumber (slot fields 1) ≡ false)
-      ⊎ (isNumber (slot fields 2) ≡ false)
-      ⊎ (isNumber (slot fields 3) ≡ false) →
-      Refused (Malformed n) ≡ itemLine (take count fields) n
-  item-malformed e =
-      rw (
-        item-by,
-        one-of-5 (eqb count 4) (isNumber (slot fields 0)) (isNumber (slot fields 1)) (isNumber (slot fields 2)) (isNumber (slot fields 3)) e,
-      )
+      (isNumber i ≡ false) ⊎ (isNumber b ≡ false) ⊎ (isNumber l ≡ false) ⊎ (isNumber w ≡ false) →
+      Refused (Malformed n) ≡ itemLine i b l w n
+  unfolding itemLine
+  item-malformed e = rw (one-of-4 (isNumber i) (isNumber b) (isNumber l) (isNumber w) e)
 
+  module _
+      (vi vb vl vw : ℕ)
+      (ei : vi ≡ valueIn i)
+      (eb : vb ≡ valueIn b)
+      (el : vl ≡ valueIn l)
+      (ew : vw ≡ valueIn w)
+      (s : itemShape i b l w ≡ true)
+    where
+      pub item-far :
+          (leb vi 255 ≡ false) ⊎ (itemInRange (itemFrom vb vl vw) ≡ false) → Refused (OutOfRange n) ≡ itemLine i b l w n
+      unfolding itemLine
+      item-far r = rw (s, ← ei, ← eb, ← el, ← ew, one-of-2 (leb vi 255) (itemInRange (itemFrom vb vl vw)) r)
+
+      pub item-good : itemsRange vi vb vl vw ≡ true → ItemLine vi vb vl vw ≡ itemLine i b l w n
+      unfolding itemLine
+      item-good r = rw (s, ← ei, ← eb, ← el, ← ew, r)
+
+module _ (kind item minutes : Field) (n letter : ℕ) (ek : letter ≡ valueIn kind) where
   pub step-malformed :
-      (letter : ℕ) →
-      letter ≡ valueIn (slot fields 0) →
-      (eqb count 3 ≡ false) ⊎ (isLetter (slot fields 0) ≡ false) ⊎ (stepShape letter (slot fields 1) (slot fields 2) ≡ false) →
-      Refused (Malformed n) ≡ stepLine (take count fields) n
-  step-malformed letter h e =
-      rw
-      (step-by, ← h, one-of-3 (eqb count 3) (isLetter (slot fields 0)) (stepShape letter (slot fields 1) (slot fields 2)) e)
+      (isLetter kind ≡ false) ⊎ (stepShape letter item minutes ≡ false) → Refused (Malformed n) ≡ stepLine kind item minutes n
+  unfolding stepLine
+  step-malformed e = rw (← ek, one-of-2 (isLetter kind) (stepShape letter item minutes) e)
 
+  module _ (i m : ℕ) (ei : i ≡ valueIn item) (em : m ≡ valueIn minutes) (s : stepsShape kind letter item minutes ≡ true) where
+    pub step-far : inRange letter i m ≡ false → Refused (OutOfRange n) ≡ stepLine kind item minutes n
+    unfolding stepLine
+    step-far r = rw (← ek, ← ei, ← em, s, r)
+
+    pub step-good : inRange letter i m ≡ true → Step (stepOf letter i m) ≡ stepLine kind item minutes n
+    unfolding stepLine
+    step-good r = rw (← ek, ← ei, ← em, s, r)
+
+module _ (place kind item : Field) (n letter : ℕ) (ek : letter ≡ valueIn kind) where
   pub act-malformed :
-      (letter : ℕ) →
-      letter ≡ valueIn (slot fields 1) →
-      (eqb count 3 ≡ false)
-      ⊎ (isNumber (slot fields 0) ≡ false)
-      ⊎ (isLetter (slot fields 1) ≡ false)
-      ⊎ (actShape letter (slot fields 2) ≡ false) →
-      Refused (Malformed n) ≡ actLine (take count fields) n
-  act-malformed letter h e =
-      rw (
-        act-by,
-        ← h,
-        one-of-4 (eqb count 3) (isNumber (slot fields 0)) (isLetter (slot fields 1)) (actShape letter (slot fields 2)) e,
-      )
+      (isNumber place ≡ false) ⊎ (isLetter kind ≡ false) ⊎ (actShape letter item ≡ false) →
+      Refused (Malformed n) ≡ actLine place kind item n
+  unfolding actLine
+  act-malformed e = rw (← ek, one-of-3 (isNumber place) (isLetter kind) (actShape letter item) e)
 
-  -- a line that has it, by its values
-  module _ (a b : ℕ) (ea : a ≡ valueIn (slot fields 0)) (eb : b ≡ valueIn (slot fields 1)) where
-    module _ (s : sizesShape count (slot fields 0) (slot fields 1) ≡ true) where
-      pub sizes-far :
-          (capacityInRange a ≡ false) ⊎ (capacityInRange b ≡ false) → Refused (OutOfRange n) ≡ sizesLine (take count fields) n
-      sizes-far r = rw (sizes-by, s, ← ea, ← eb, one-of-2 (capacityInRange a) (capacityInRange b) r)
+  module _ (p i : ℕ) (ep : p ≡ valueIn place) (ei : i ≡ valueIn item) (s : actsShape place kind letter item ≡ true) where
+    pub act-far :
+        (leb p 999999 ≡ false) ⊎ (isActKind letter ≡ false) ⊎ (leb i 255 ≡ false) →
+        Refused (OutOfRange n) ≡ actLine place kind item n
+    unfolding actLine
+    act-far r = rw (← ek, ← ep, ← ei, s, one-of-3 (leb p 999999) (isActKind letter) (leb i 255) r)
 
-      pub sizes-good : sizesRange a b ≡ true → Sizes a b ≡ sizesLine (take count fields) n
-      sizes-good r = rw (sizes-by, s, ← ea, ← eb, r)
+    pub act-good : actsRange p letter i ≡ true → Placed p (actOf letter i) ≡ actLine place kind item n
+    unfolding actLine
+    act-good r = rw (← ek, ← ep, ← ei, s, r)
 
-    module _ (d : ℕ) (ed : d ≡ valueIn (slot fields 2)) where
-      module _ (s : stepsShape count (slot fields 0) a (slot fields 1) (slot fields 2) ≡ true) where
-        pub step-far : inRange a b d ≡ false → Refused (OutOfRange n) ≡ stepLine (take count fields) n
-        step-far r = rw (step-by, ← ea, ← eb, ← ed, s, r)
+-- ## Headings
 
-        pub step-good : inRange a b d ≡ true → Step (stepOf a b d) ≡ stepLine (take count fields) n
-        step-good r = rw (step-by, ← ea, ← eb, ← ed, s, r)
+-- the names of a table that has one heading
+only-names : (table form : ℕ) (names : List ℕ) → headings table ≡ names ∷ [] → namesIn table form ≡ length (split 32 names)
+unfolding namesIn
+only-names table form names e = rw (e, only form)
+  where
+    only : (form : ℕ) → getD (names ∷ []) form names ≡ names
+    only zero = refl
+    only (suc form) = refl
 
-      module _ (s : actsShape count (slot fields 0) (slot fields 1) b (slot fields 2) ≡ true) where
-        pub act-far :
-            (leb a 999999 ≡ false) ⊎ (isActKind b ≡ false) ⊎ (leb d 255 ≡ false) →
-            Refused (OutOfRange n) ≡ actLine (take count fields) n
-        act-far r = rw (act-by, ← ea, ← eb, ← ed, s, one-of-3 (leb a 999999) (isActKind b) (leb d 255) r)
+-- how many they are in each table
+module _ (table form : ℕ) where
+  pub names-0 : table ≡ 0 → namesIn table form ≡ 2
+  unfolding headings split
+  names-0 e = only-names table form (textOf "locker rival") (rw e)
 
-        pub act-good : actsRange a b d ≡ true → Placed a (actOf b d) ≡ actLine (take count fields) n
-        act-good r = rw (act-by, ← ea, ← eb, ← ed, s, r)
+  pub names-1 : table ≡ 1 → namesIn table form ≡ 4
+  unfolding headings split
+  names-1 e = only-names table form (textOf "sail blocks load write") (rw e)
 
-      module _
-          (w : ℕ)
-          (ew : w ≡ valueIn (slot fields 3))
-          (s : itemShape count (slot fields 0) (slot fields 1) (slot fields 2) (slot fields 3) ≡ true)
-        where
-          pub item-far :
-              (leb a 255 ≡ false) ⊎ (itemInRange (itemFrom b d w) ≡ false) → Refused (OutOfRange n) ≡ itemLine (take count fields) n
-          item-far r = rw (item-by, s, ← ea, ← eb, ← ed, ← ew, one-of-2 (leb a 255) (itemInRange (itemFrom b d w)) r)
+  pub names-2 : table ≡ 2 → namesIn table form ≡ 3
+  unfolding headings split
+  names-2 e = only-names table form (textOf "step sail minutes") (rw e)
 
-          pub item-good : itemsRange a b d w ≡ true → ItemLine a b d w ≡ itemLine (take count fields) n
-          item-good r = rw (item-by, s, ← ea, ← eb, ← ed, ← ew, r)
+  pub names-3 : (table ≡ 0 → ⊥) → (table ≡ 1 → ⊥) → (table ≡ 2 → ⊥) → namesIn table form ≡ 3
+  unfolding headings split
+  names-3 a b c =
+      only-names table form (textOf "at act sail") (rw (ne-eqb table 0 a, ne-eqb table 1 b, ne-eqb table 2 c))
 
--- ## Tables
+-- steps and acts have three
+pub names-later : (table form : ℕ) → (table ≡ 0 → ⊥) → (table ≡ 1 → ⊥) → namesIn table form ≡ 3
+names-later table form a b = go (eqb table 2) refl
+  where
+    go : (t : Bool) → eqb table 2 ≡ t → namesIn table form ≡ 3
+    go true e = names-2 table form (eqb-true table 2 e)
+    go false e = names-3 table form a b (eqb-false table 2 e)
 
-module _ (table : ℕ) (fs : List Field) (n : ℕ) where
-  pub line-0 : table ≡ 0 → sizesLine fs n ≡ lineIn table fs n
+-- a line compared with each table's heading
+module _ (table : ℕ) (line : List ℕ) (right : Bool) where
+  pub form-0 : table ≡ 0 → right ≡ sameText line (textOf "locker rival") → cond right (Form 0) Unknown ≡ formOf table line
+  unfolding headings formAmong formOf
+  form-0 e h = rw (e, h)
+
+  pub form-1 : table ≡ 1 → right ≡ sameText line (textOf "sail blocks load write") → cond right (Form 0) Unknown ≡ formOf table line
+  unfolding headings formAmong formOf
+  form-1 e h = rw (e, h)
+
+  pub form-2 : table ≡ 2 → right ≡ sameText line (textOf "step sail minutes") → cond right (Form 0) Unknown ≡ formOf table line
+  unfolding headings formAmong formOf
+  form-2 e h = rw (e, h)
+
+  pub form-3 :
+      (table ≡ 0 → ⊥) →
+      (table ≡ 1 → ⊥) →
+      (table ≡ 2 → ⊥) →
+      right ≡ sameText line (textOf "at act sail") →
+      cond right (Form 0) Unknown ≡ formOf table line
+  unfolding headings formAmong formOf
+  form-3 a b c h = rw (ne-eqb table 0 a, ne-eqb table 1 b, ne-eqb table 2 c, h)
+
+-- ## The line that the first `count` fields of an array make
+
+-- a field of an array that has it
+abbrev pub slot : List Field → ℕ → Field
+slot fields j = getD fields j (Number 0)
+
+slot-is : (fields : List Field) (count j : ℕ) → j < count → count ≤ length fields → fieldAt (take count fields) j ≡ slot fields j
+slot-is [] count j h k = absurd (omega arith)
+slot-is (f ∷ fs) zero j h k = absurd (omega arith)
+slot-is (f ∷ fs) (suc count) zero h k = refl
+slot-is (f ∷ fs) (suc count) (suc j) h k = slot-is fs count j (omega arith) (omega arith)
+
+module _ (table form : ℕ) (fields : List Field) (count n : ℕ) (few : count ≤ length fields) where
+  -- more of them than names, or fewer
+  pub line-count : (count ≡ namesIn table form → ⊥) → Refused (Malformed n) ≡ lineIn table form (take count fields) n
   unfolding lineIn
-  line-0 e = rw (eq-eqb table 0 e)
+  line-count h = rw (length-take-le count fields few, ne-eqb count (namesIn table form) h)
 
-  pub line-1 : (table ≡ 0 → ⊥) → table ≡ 1 → itemLine fs n ≡ lineIn table fs n
-  unfolding lineIn
-  line-1 a e = rw (ne-eqb table 0 a, eq-eqb table 1 e)
+  -- as many as names, and none of them empty: the line of each table
+  module _ (some : noneEmpty (take count fields) ≡ true) (full : count ≡ namesIn table form) where
+    as-due : (eqb (length (take count fields)) (namesIn table form) && noneEmpty (take count fields)) ≡ true
+    as-due = rw (length-take-le count fields few, eq-eqb count (namesIn table form) full, some)
 
-  pub line-2 : (table ≡ 0 → ⊥) → (table ≡ 1 → ⊥) → table ≡ 2 → stepLine fs n ≡ lineIn table fs n
-  unfolding lineIn
-  line-2 a b e = rw (ne-eqb table 0 a, ne-eqb table 1 b, eq-eqb table 2 e)
+    at : (j : ℕ) → j < namesIn table form → fieldAt (take count fields) j ≡ slot fields j
+    at j h = slot-is fields count j (omega arith) few
 
-  pub line-3 : (table ≡ 0 → ⊥) → (table ≡ 1 → ⊥) → (table ≡ 2 → ⊥) → actLine fs n ≡ lineIn table fs n
-  unfolding lineIn
-  line-3 a b c = rw (ne-eqb table 0 a, ne-eqb table 1 b, ne-eqb table 2 c)
+    pub line-0 : table ≡ 0 → sizesLine (slot fields 0) (slot fields 1) n ≡ lineIn table form (take count fields) n
+    unfolding lineIn valuesIn
+    line-0 e =
+        let k = names-0 table form e in
+        rw (as-due, eq-eqb table 0 e, at 0 (omega arith), at 1 (omega arith))
+
+    pub line-1 :
+        table ≡ 1 →
+        itemLine (slot fields 0) (slot fields 1) (slot fields 2) (slot fields 3) n ≡ lineIn table form (take count fields) n
+    unfolding lineIn valuesIn
+    line-1 e =
+        let k = names-1 table form e in
+        rw (as-due, e, at 0 (omega arith), at 1 (omega arith), at 2 (omega arith), at 3 (omega arith))
+
+    pub line-2 :
+        table ≡ 2 → stepLine (slot fields 0) (slot fields 1) (slot fields 2) n ≡ lineIn table form (take count fields) n
+    unfolding lineIn valuesIn
+    line-2 e =
+        let k = names-2 table form e in
+        rw (as-due, e, at 0 (omega arith), at 1 (omega arith), at 2 (omega arith))
+
+    pub line-3 :
+        (table ≡ 0 → ⊥) →
+        (table ≡ 1 → ⊥) →
+        (table ≡ 2 → ⊥) →
+        actLine (slot fields 0) (slot fields 1) (slot fields 2) n ≡ lineIn table form (take count fields) n
+    unfolding lineIn valuesIn
+    line-3 a b c =
+        let k = names-3 table form a b c in
+        rw (
+          as-due,
+          ne-eqb table 0 a,
+          ne-eqb table 1 b,
+          ne-eqb table 2 c,
+          at 0 (omega arith),
+          at 1 (omega arith),
+          at 2 (omega arith),
+        )

@@ -1,20 +1,13 @@
 -- What the inner functions of the reader look for, and a field as the program holds it. Assumes nothing.
-use mathlib.Core.{Bool.{cond, Bool, true, false}, List.{List, [], _∷_}}
-use Prim.Native.Nat.{ℕ}
-use lib.Dec.{leb, eqb}
-use Rattle.season_lines.specs.declared.Field.{Field, the-variants.{Number, Letter, Dash, Other}}
+use mathlib.Core.{Path._≡_, Bool.{cond, true}, List.{List, [], _∷_}}
+use Prim.Native.Nat.{ℕ, _≤_}
+use lib.{ListN.take, Dec.{leb, eqb}}
+use Rattle.season_lines.specs.{declared.Field.{Field, the-variants.{Number, Letter, Dash, Word, Empty}}, Lines.noneEmpty}
 
 -- the bytes before the first b, or all of them
 unfoldable pub before : ℕ → List ℕ → List ℕ
 before b [] = []
 before b (x ∷ s) = cond (eqb x b) [] (x ∷ before b s)
-
--- neither a number nor a letter nor `-`: no line has such a field
-abbrev pub isOther : Field → Bool
-isOther (Number v) = false
-isOther (Letter b) = false
-isOther Dash = false
-isOther Other = true
 
 -- the largest number that the program holds; every range of the tables ends far below it
 abbrev pub beyond : ℕ
@@ -30,4 +23,10 @@ abbrev pub heldField : Field → Field
 heldField (Number v) = Number (clipped v)
 heldField (Letter b) = Letter b
 heldField Dash = Dash
-heldField Other = Other
+heldField Word = Word
+heldField Empty = Empty
+
+-- fields that a line may have: the first `count` of an array, none of them empty
+pub record Judgeable (fields : List Field) (count : ℕ) : Type 0 where
+  pub few : count ≤ 4
+  pub some : noneEmpty (take count fields) ≡ true

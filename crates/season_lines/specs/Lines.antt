@@ -1,10 +1,11 @@
--- A text split into lines, a line into fields, and a value line of each table judged by its fields alone. Nothing here knows a catalogue,
--- a capacity or a place among the tables. Paper 01, 'The text input' and 'When the library says no'. Assumes nothing.
-use mathlib.Core.{Bool.{Bool, true, false, cond, _&&_, _||_}, List.{List, [], _∷_}}
-use Prim.Native.Nat.{ℕ}
+-- A text split into lines, a line into fields, the headings of the tables, and a value line under each heading judged by its fields
+-- alone. Nothing here knows a catalogue, a capacity or a place among the tables. Paper 01, 'The text input' and 'When the library
+-- says no'. Assumes nothing.
+use mathlib.Core.{Bool.{Bool, true, false, cond, not, _&&_, _||_}, List.{List, [], _∷_}}
+use Prim.Native.Nat.{ℕ, suc}
 use lib.{ListN.{length, getD}, Dec.{leb, eqb}}
-use Rattle.decimal.specs.Decimal.{shaped, valueOf}
-use Rattle.season_lines.specs.declared.{Field.{Field, the-variants.{Number, Letter, Dash, Other}}, Line.{Line, the-variants.{Sizes, Item as ItemLine, Step, Act as Placed, Refused}}}
+use Rattle.decimal.specs.Decimal.{textOf, sameText, shaped, valueOf}
+use Rattle.season_lines.specs.declared.{Field.{Field, the-variants.{Number, Letter, Dash, Word, Empty}}, Names.{Names, the-variants.{Form, Unknown}}, Line.{Line, the-variants.{Sizes, Item as ItemLine, Step, Act as Placed, Refused}}}
 use Rattle.landlord.specs.declared.{Act.{Act, the-variants.{Evict, Fetch}}, Refusal.the-variants.{Malformed, OutOfRange}}
 use Rattle.landlord.specs.{Catalog.{Item, itemInRange, capacityInRange}, Calls.{inRange, stepOf}}
 
@@ -20,11 +21,13 @@ split b (x ∷ s) = cond (eqb x b) ([] ∷ split b s) (onto x (split b s))
 
 -- "A kind is one capital letter"; `-` is 45
 abbrev pub markOf : ℕ → Field
-markOf b = cond (eqb b 45) Dash (cond (leb 65 b && leb b 90) (Letter b) Other)
+markOf b = cond (eqb b 45) Dash (cond (leb 65 b && leb b 90) (Letter b) Word)
 
--- what a field is: a number of any size, a capital letter, `-`, or something else
+-- what a field is: a number of any size, a capital letter, `-`, another word of one byte or more, or empty
 unfoldable pub fieldOf : List ℕ → Field
-fieldOf s = cond (shaped s) (Number (valueOf s)) (cond (eqb (length s) 1) (markOf (getD s 0 0)) Other)
+fieldOf s =
+    cond (shaped s) (Number (valueOf s))
+    (cond (eqb (length s) 1) (markOf (getD s 0 0)) (cond (eqb (length s) 0) Empty Word))
 
 unfoldable pub allFields : List (List ℕ) → List Field
 allFields [] = []
@@ -36,33 +39,66 @@ fieldsOf l = allFields (split 32 l)
 
 -- field j of a line; past the last one there is nothing
 abbrev pub fieldAt : List Field → ℕ → Field
-fieldAt fs j = getD fs j Other
+fieldAt fs j = getD fs j Empty
 
 abbrev pub isNumber : Field → Bool
-isNumber f = elim f [ Number v ↦ true | Letter b ↦ false | Dash ↦ false | Other ↦ false ]
+isNumber f = elim f [ Number v ↦ true | Letter b ↦ false | Dash ↦ false | Word ↦ false | Empty ↦ false ]
 
 abbrev pub isLetter : Field → Bool
-isLetter f = elim f [ Number v ↦ false | Letter b ↦ true | Dash ↦ false | Other ↦ false ]
+isLetter f = elim f [ Number v ↦ false | Letter b ↦ true | Dash ↦ false | Word ↦ false | Empty ↦ false ]
 
 abbrev pub isDash : Field → Bool
-isDash f = elim f [ Number v ↦ false | Letter b ↦ false | Dash ↦ true | Other ↦ false ]
+isDash f = elim f [ Number v ↦ false | Letter b ↦ false | Dash ↦ true | Word ↦ false | Empty ↦ false ]
 
 -- the number that a field is, or the code of its letter; `-` has none, and it is not looked at
 abbrev pub valueIn : Field → ℕ
-valueIn f = elim f [ Number v ↦ v | Letter b ↦ b | Dash ↦ 0 | Other ↦ 0 ]
+valueIn f = elim f [ Number v ↦ v | Letter b ↦ b | Dash ↦ 0 | Word ↦ 0 | Empty ↦ 0 ]
 
--- ---- a value line of each table, judged by its fields alone: its shape (1), then its ranges (3)
+abbrev pub isEmpty : Field → Bool
+isEmpty f = elim f [ Number v ↦ false | Letter b ↦ false | Dash ↦ false | Word ↦ false | Empty ↦ true ]
+
+-- "split by single spaces": no field is empty
+unfoldable pub noneEmpty : List Field → Bool
+noneEmpty [] = true
+noneEmpty (f ∷ fs) = not (isEmpty f) && noneEmpty fs
+
+-- ## The headings: "A table is a line of names"
+
+-- the lines of names that a table may have, the tables counted from 0
+unfoldable pub headings : ℕ → List (List ℕ)
+headings table =
+    cond (eqb table 0) (textOf "locker rival" ∷ [])
+    (cond (eqb table 1) (textOf "sail blocks load write" ∷ [])
+    (cond (eqb table 2) (textOf "step sail minutes" ∷ [])
+    (textOf "at act sail" ∷ [])))
+
+-- heading `form` of a table, its headings counted from 0; the first one if there is no such heading
+abbrev pub headingOf : ℕ → ℕ → List ℕ
+headingOf table form = getD (headings table) form (getD (headings table) 0 [])
+
+-- how many names it has
+unfoldable pub namesIn : ℕ → ℕ → ℕ
+namesIn table form = length (split 32 (headingOf table form))
+
+-- which of some headings a line is, counted from f
+unfoldable pub formAmong : ℕ → List (List ℕ) → List ℕ → Names
+formAmong f [] l = Unknown
+formAmong f (names ∷ rest) l = cond (sameText l names) (Form f) (formAmong (suc f) rest l)
+
+-- which heading of a table a line is
+unfoldable pub formOf : ℕ → List ℕ → Names
+formOf table l = formAmong 0 (headings table) l
+
+-- ## A value line under each heading, judged by its fields alone: its shape (1), then its ranges (3)
 
 -- "in the order .. shape, 3": a line that has its table's shape and is in range says what stands in it
 abbrev pub shapeThenRange : Bool → Bool → Line → ℕ → Line
 shapeThenRange shape range l n = cond shape (cond range l (Refused (OutOfRange n))) (Refused (Malformed n))
 
 -- `locker rival`: "k and h, each 1 to 4,096"
-unfoldable pub sizesLine : List Field → ℕ → Line
-sizesLine fs n =
-    let k = fieldAt fs 0 in
-    let h = fieldAt fs 1 in
-    shapeThenRange (eqb (length fs) 2 && isNumber k && isNumber h)
+unfoldable pub sizesLine : Field → Field → ℕ → Line
+sizesLine k h n =
+    shapeThenRange (isNumber k && isNumber h)
     (capacityInRange (valueIn k) && capacityInRange (valueIn h))
     (Sizes (valueIn k) (valueIn h)) n
 
@@ -70,13 +106,9 @@ abbrev pub itemFrom : ℕ → ℕ → ℕ → Item
 itemFrom blocks load write = record { blocks = blocks; load = load; write = write }
 
 -- `sail blocks load write`: the sail's number 0 to 255, and an item in range
-unfoldable pub itemLine : List Field → ℕ → Line
-itemLine fs n =
-    let i = fieldAt fs 0 in
-    let b = fieldAt fs 1 in
-    let l = fieldAt fs 2 in
-    let w = fieldAt fs 3 in
-    shapeThenRange (eqb (length fs) 4 && isNumber i && isNumber b && isNumber l && isNumber w)
+unfoldable pub itemLine : Field → Field → Field → Field → ℕ → Line
+itemLine i b l w n =
+    shapeThenRange (isNumber i && isNumber b && isNumber l && isNumber w)
     (leb (valueIn i) 255 && itemInRange (itemFrom (valueIn b) (valueIn l) (valueIn w)))
     (ItemLine (valueIn i) (valueIn b) (valueIn l) (valueIn w)) n
 
@@ -93,12 +125,9 @@ stepShape kind item minutes =
     (isEither item && isEither minutes)))
 
 -- `step sail minutes`; the ranges are those of a call
-unfoldable pub stepLine : List Field → ℕ → Line
-stepLine fs n =
-    let kind = fieldAt fs 0 in
-    let item = fieldAt fs 1 in
-    let minutes = fieldAt fs 2 in
-    shapeThenRange (eqb (length fs) 3 && isLetter kind && stepShape (valueIn kind) item minutes)
+unfoldable pub stepLine : Field → Field → Field → ℕ → Line
+stepLine kind item minutes n =
+    shapeThenRange (isLetter kind && stepShape (valueIn kind) item minutes)
     (inRange (valueIn kind) (valueIn item) (valueIn minutes))
     (Step (stepOf (valueIn kind) (valueIn item) (valueIn minutes))) n
 
@@ -110,19 +139,24 @@ abbrev pub actOf : ℕ → ℕ → Act
 actOf kind item = cond (eqb kind 68) (Evict item) (Fetch item)
 
 -- `at act sail`: "`at` from 0 to 999,999"; only behind an unknown kind may the sail be `-`
-unfoldable pub actLine : List Field → ℕ → Line
-actLine fs n =
-    let place = fieldAt fs 0 in
-    let kind = fieldAt fs 1 in
-    let item = fieldAt fs 2 in
-    shapeThenRange (eqb (length fs) 3 && isNumber place && isLetter kind && cond (isActKind (valueIn kind)) (isNumber item) (isEither item))
+unfoldable pub actLine : Field → Field → Field → ℕ → Line
+actLine place kind item n =
+    shapeThenRange (isNumber place && isLetter kind && cond (isActKind (valueIn kind)) (isNumber item) (isEither item))
     (leb (valueIn place) 999999 && isActKind (valueIn kind) && leb (valueIn item) 255)
     (Placed (valueIn place) (actOf (valueIn kind) (valueIn item))) n
 
--- a value line of a table, the tables counted from 0
-unfoldable pub lineIn : ℕ → List Field → ℕ → Line
-lineIn table fs n =
-    cond (eqb table 0) (sizesLine fs n)
-    (cond (eqb table 1) (itemLine fs n)
-    (cond (eqb table 2) (stepLine fs n)
-    (actLine fs n)))
+-- a value line with as many fields as are due, by its table's own rules
+unfoldable pub valuesIn : ℕ → List Field → ℕ → Line
+valuesIn table fs n =
+    let a = fieldAt fs 0 in
+    let b = fieldAt fs 1 in
+    let c = fieldAt fs 2 in
+    cond (eqb table 0) (sizesLine a b n)
+    (cond (eqb table 1) (itemLine a b c (fieldAt fs 3) n)
+    (cond (eqb table 2) (stepLine a b c n)
+    (actLine a b c n)))
+
+-- "lines of values in that order, split by single spaces": as many fields as the heading has names, none of them empty; then its own rules
+unfoldable pub lineIn : ℕ → ℕ → List Field → ℕ → Line
+lineIn table form fs n =
+    cond (eqb (length fs) (namesIn table form) && noneEmpty fs) (valuesIn table fs n) (Refused (Malformed n))

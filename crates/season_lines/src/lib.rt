@@ -1,23 +1,32 @@
-// A line of the text input: its fields, and what a value line of each table says. Nothing here knows a catalogue or a place among
-// the tables.
+// A line of the text input: which heading of its table it is, its fields, and what a value line says under a heading. Nothing here
+// knows a catalogue or a place among the tables.
 ghost use mathlib.Core.Path.{_≡_};
 ghost use mathlib.Core.Bool.{cond};
 ghost use Prim.Native.Nat.{_≤_};
 ghost use lib.ListN.{length, take};
 ghost use Rattle.landlord.specs.Catalog.{itemInRange, capacityInRange};
 ghost use Rattle.landlord.specs.Calls.{stepOf};
-ghost use Rattle.season_lines.specs.Lines.{fieldOf, markOf, isNumber, isDash, isLetter, valueIn, itemFrom, isEither, stepShape, isActKind, actOf, sizesLine, itemLine, stepLine, actLine, lineIn};
-ghost use Rattle.season_lines.specs.Inner.{before, isOther, heldField};
+ghost use Rattle.season_lines.specs.declared.Names.the-variants.{Form, Unknown};
+ghost use Rattle.season_lines.specs.Lines.{fieldOf, markOf, isNumber, isDash, isLetter, isEmpty, valueIn, namesIn, formOf, itemFrom, isEither, stepShape, isActKind, actOf, sizesLine, itemLine, stepLine, actLine, lineIn};
+ghost use Rattle.season_lines.specs.Inner.{before, heldField, Judgeable};
 use landlord::Act;
 use landlord::Refusal;
 use landlord::Step;
 
-// What a field is, as the program holds it: a number above 4,294,967,295 counts as that one, which is outside every range too.
+// What a field is, as the program holds it: a number above 4,294,967,295 counts as that one, which is outside every range too. A word
+// is a field of one byte or more that is nothing else.
 pub enum Field {
     Number(u32),
     Letter(u8),
     Dash,
-    Other,
+    Word,
+    Empty,
+}
+
+// Which heading of its table a line is, the table's headings counted from 0.
+pub enum Names {
+    Form(u32),
+    Unknown,
 }
 
 // What a value line says: a line of one of the four tables, or why it is none.
@@ -66,7 +75,7 @@ fn mark_of(b: u8) -> Field
             return Field::Letter(b);
         }
     }
-    Field::Other
+    Field::Word
 }
 
 pub fn field_of(s: &[u8]) -> Field
@@ -79,7 +88,10 @@ pub fn field_of(s: &[u8]) -> Field
             if s.len() == 1 {
                 return mark_of(s[0]);
             }
-            Field::Other
+            if s.len() == 0 {
+                return Field::Empty;
+            }
+            Field::Word
         }
     }
 }
@@ -91,7 +103,8 @@ fn is_number(f: Field) -> bool
         Field::Number(_) => true,
         Field::Letter(_) => false,
         Field::Dash => false,
-        Field::Other => false,
+        Field::Word => false,
+        Field::Empty => false,
     }
 }
 
@@ -102,7 +115,8 @@ fn is_letter(f: Field) -> bool
         Field::Number(_) => false,
         Field::Letter(_) => true,
         Field::Dash => false,
-        Field::Other => false,
+        Field::Word => false,
+        Field::Empty => false,
     }
 }
 
@@ -113,19 +127,21 @@ fn is_dash(f: Field) -> bool
         Field::Number(_) => false,
         Field::Letter(_) => false,
         Field::Dash => true,
-        Field::Other => false,
+        Field::Word => false,
+        Field::Empty => false,
     }
 }
 
-// Whether a field is none that any line may have.
-pub fn is_other(f: Field) -> bool
-    ensures { λ r. ⌜ r ≡ isOther f ⌝ }
+// Whether a field has no byte, as between two spaces: no line has such a one.
+pub fn is_empty(f: Field) -> bool
+    ensures { λ r. ⌜ r ≡ isEmpty f ⌝ }
 {
     match f {
         Field::Number(_) => false,
         Field::Letter(_) => false,
         Field::Dash => false,
-        Field::Other => true,
+        Field::Word => false,
+        Field::Empty => true,
     }
 }
 
@@ -137,7 +153,8 @@ fn value_in(f: Field) -> u32
         Field::Number(v) => v,
         Field::Letter(b) => b as u32,
         Field::Dash => 0,
-        Field::Other => 0,
+        Field::Word => 0,
+        Field::Empty => 0,
     }
 }
 
@@ -148,13 +165,10 @@ fn is_size(x: u32) -> bool
 }
 
 // A line of `locker rival`.
-fn sizes_line(fields: [Field; 4], count: usize, line: u32) -> Line
-    requires { ⌜ count ≤ 4 ⌝ }
-    ensures { λ r. ⌜ r ≡ sizesLine (take count fields) line ⌝ }
+fn sizes_line(k: Field, h: Field, line: u32) -> Line
+    ensures { λ r. ⌜ r ≡ sizesLine k h line ⌝ }
 {
-    let k = fields[0];
-    let h = fields[1];
-    if count != 2 || !is_number(k) || !is_number(h) {
+    if !is_number(k) || !is_number(h) {
         return Line::Refused(Refusal::Malformed { line: line });
     }
     let a = value_in(k);
@@ -173,20 +187,10 @@ fn is_item(blocks: u32, load: u32, write: u32) -> bool
 }
 
 // A line of `sail blocks load write`.
-fn item_line(fields: [Field; 4], count: usize, line: u32) -> Line
-    requires { ⌜ count ≤ 4 ⌝ }
-    ensures { λ r. ⌜ r ≡ itemLine (take count fields) line ⌝ }
+fn item_line(number: Field, blocks: Field, load: Field, write: Field, line: u32) -> Line
+    ensures { λ r. ⌜ r ≡ itemLine number blocks load write line ⌝ }
 {
-    let number = fields[0];
-    let blocks = fields[1];
-    let load = fields[2];
-    let write = fields[3];
-    if count != 4
-        || !is_number(number)
-        || !is_number(blocks)
-        || !is_number(load)
-        || !is_number(write)
-    {
+    if !is_number(number) || !is_number(blocks) || !is_number(load) || !is_number(write) {
         return Line::Refused(Refusal::Malformed { line: line });
     }
     let i = value_in(number);
@@ -243,15 +247,11 @@ fn step_of(kind: u32, item: u32, minutes: u32) -> Step
 }
 
 // A line of `step sail minutes`.
-fn step_line(fields: [Field; 4], count: usize, line: u32) -> Line
-    requires { ⌜ count ≤ 4 ⌝ }
-    ensures { λ r. ⌜ r ≡ stepLine (take count fields) line ⌝ }
+pub fn step_line(kind: Field, item: Field, minutes: Field, line: u32) -> Line
+    ensures { λ r. ⌜ r ≡ stepLine kind item minutes line ⌝ }
 {
-    let kind = fields[0];
-    let item = fields[1];
-    let minutes = fields[2];
     let letter = value_in(kind);
-    if count != 3 || !is_letter(kind) || !step_shaped(letter, item, minutes) {
+    if !is_letter(kind) || !step_shaped(letter, item, minutes) {
         return Line::Refused(Refusal::Malformed { line: line });
     }
     let i = value_in(item);
@@ -288,15 +288,11 @@ fn act_shaped(kind: u32, item: Field) -> bool
 }
 
 // A line of `at act sail`.
-fn act_line(fields: [Field; 4], count: usize, line: u32) -> Line
-    requires { ⌜ count ≤ 4 ⌝ }
-    ensures { λ r. ⌜ r ≡ actLine (take count fields) line ⌝ }
+fn act_line(place: Field, kind: Field, item: Field, line: u32) -> Line
+    ensures { λ r. ⌜ r ≡ actLine place kind item line ⌝ }
 {
-    let place = fields[0];
-    let kind = fields[1];
-    let item = fields[2];
     let letter = value_in(kind);
-    if count != 3 || !is_number(place) || !is_letter(kind) || !act_shaped(letter, item) {
+    if !is_number(place) || !is_letter(kind) || !act_shaped(letter, item) {
         return Line::Refused(Refusal::Malformed { line: line });
     }
     let before = value_in(place);
@@ -310,19 +306,65 @@ fn act_line(fields: [Field; 4], count: usize, line: u32) -> Line
     }
 }
 
-// A value line of a table, the tables counted from 0: its shape, then its ranges.
-pub fn line_in(table: u32, fields: [Field; 4], count: usize, line: u32) -> Line
-    requires { ⌜ count ≤ 4 ⌝ }
-    ensures { λ r. ⌜ r ≡ lineIn table (take count fields) line ⌝ }
+// The only heading that a table has yet, or none.
+fn the_form(right: bool) -> Names
+    ensures { λ r. ⌜ r ≡ cond right (Form 0) Unknown ⌝ }
+{
+    if right {
+        return Names::Form(0);
+    }
+    Names::Unknown
+}
+
+// Which heading of a table a line is, the tables counted from 0.
+pub fn form_of(table: u32, line: &[u8]) -> Names
+    ensures { λ r. ⌜ r ≡ formOf table (now (line .entry)) ⌝ }
 {
     if table == 0 {
-        return sizes_line(fields, count, line);
+        return the_form(decimal::same(line, b"locker rival"));
     }
     if table == 1 {
-        return item_line(fields, count, line);
+        return the_form(decimal::same(line, b"sail blocks load write"));
     }
     if table == 2 {
-        return step_line(fields, count, line);
+        return the_form(decimal::same(line, b"step sail minutes"));
     }
-    act_line(fields, count, line)
+    the_form(decimal::same(line, b"at act sail"))
+}
+
+// How many names a heading of a table has.
+pub fn names_in(table: u32, form: u32) -> usize
+    ensures { λ r. ⌜ r ≡ namesIn table form ⌝ }
+    ensures { λ r. ⌜ r ≤ 4 ⌝ }
+{
+    if table == 0 {
+        return 2;
+    }
+    if table == 1 {
+        return 4;
+    }
+    3
+}
+
+// A value line under a heading of a table: as many fields as names, then its shape, then its ranges.
+pub fn line_in(table: u32, form: u32, fields: [Field; 4], count: usize, line: u32) -> Line
+    requires { ⌜ Judgeable fields count ⌝ }
+    ensures { λ r. ⌜ r ≡ lineIn table form (take count fields) line ⌝ }
+{
+    if count != names_in(table, form) {
+        return Line::Refused(Refusal::Malformed { line: line });
+    }
+    let a = fields[0];
+    let b = fields[1];
+    let c = fields[2];
+    if table == 0 {
+        return sizes_line(a, b, line);
+    }
+    if table == 1 {
+        return item_line(a, b, c, fields[3], line);
+    }
+    if table == 2 {
+        return step_line(a, b, c, line);
+    }
+    act_line(a, b, c, line)
 }

@@ -17,15 +17,17 @@ use Rattle.landlord.specs.declared.Refusal.the-variants.{Malformed, Heading, Ou
 use Rattle.landlord.specs.Types.{stepItem, actItem}
 use Rattle.landlord.specs.Calls.{itemRefusal}
 use Rattle.season_lines.specs.declared.Field.{Field}
+use Rattle.season_lines.specs.declared.Names.{Names}
+use Rattle.season_lines.specs.declared.Names.the-variants.{Form, Unknown}
 use Rattle.season_lines.specs.declared.Line.{Line}
 use Rattle.season_lines.specs.declared.Line.the-variants.{Sizes, Item as ItemLine, Step as StepLine, Act as ActLine, Refused}
-use Rattle.season_lines.specs.Lines.{split, fieldOf, fieldsOf, itemFrom, lineIn}
+use Rattle.season_lines.specs.Lines.{split, fieldOf, fieldsOf, formOf, itemFrom, lineIn}
 use Rattle.season_lines.specs.Inner.{before}
-use Rattle.season_tables.specs.Tables.{Sofar, on, stop, heading, sameBytes, mayEnd, mustEnd, nowNamed, nextTable, withSizes, withItem, withStep, withAct, inTurn, takes, leads, atEnd, goesOn, readFrom}
+use Rattle.season_tables.specs.Tables.{Sofar, on, stop, mayEnd, mustEnd, nowNamed, namedBy, nextTable, withSizes, withItem, withStep, withAct, inTurn, takes, leads, atEnd, goesOn, readFrom}
 use Rattle.season_tables.specs.Inner.{isBlank, isSized, wantsValues}
 use Rattle.season_scan.specs.Inner.{onward, readUntil}
 use Rattle.season_tables.proofs.Leads.{leads-values}
-use Rattle.season_lines.proofs.Pieces.{before-le, before-take, split-last, split-more, split-some, fields-last, fields-more, line-step, line-act}
+use Rattle.season_lines.proofs.Pieces.{before-le, before-take, split-last, split-more, split-some, fields-last, fields-more, Says, line-says}
 
 -- ## The first line of what is left
 
@@ -78,25 +80,26 @@ until-no-feed n s v h = rw (split-last 10 s h)
 
 -- whether a line's fields are looked at, by what has been read
 abbrev pub wantsHere : Sofar → List ℕ → Bool
-wantsHere v l = wantsValues (v .named) (v .table) (v .k) (length l)
+wantsHere v l = wantsValues (v .named) (v .upto) (v .table) (v .k) (length l)
 
 -- a line that is torn by its fields alone
 pub malformed-line :
     (v : Sofar) (l : List ℕ) (n : ℕ) →
     wantsHere v l ≡ true →
-    lineIn (v .table) (fieldsOf l) n ≡ Refused (Malformed n) →
+    lineIn (v .table) (v .form) (fieldsOf l) n ≡ Refused (Malformed n) →
     leads v l n ≡ stop (Malformed n)
 unfolding takes
 malformed-line v l n h e = leads-values v l n h ∙ rw e
 
 -- ## What a line that leads on adds
 
--- one more, and then of a line of three fields
+-- one more, and then of a line of three fields or more
 abbrev pub Adds : ℕ → ℕ → Bool → ℕ → Type 0
-Adds a b wants fields = (b ≡ a) ⊎ ((b ≡ a + 1) × (wants ≡ true) × (fields ≡ 3))
+Adds a b wants fields = (b ≡ a) ⊎ ((b ≡ a + 1) × (wants ≡ true) × (3 ≤ fields))
 
 pub record Grows (v w : Sofar) (wants : Bool) (fields : ℕ) : Type 0 where
-  pub table : v .table ≤ 3 → w .table ≤ 3
+  pub upto : w .upto ≡ v .upto
+  pub table : 1 ≤ v .upto → v .table ≤ v .upto → w .table ≤ v .upto
   pub items : length (v .catalog) ≤ length (w .catalog)
   pub steps : Adds (length (v .steps)) (length (w .steps)) wants fields
   pub acts : Adds (length (v .acts)) (length (w .acts)) wants fields
@@ -117,26 +120,29 @@ grows-to v x w b f e g = rw e at g
 
 -- a value line
 grown-by :
-    (v w : Sofar) (table : ℕ) (fs : List Field) (n : ℕ) → takes v (lineIn table fs n) n ≡ on w → Grows v w true (length fs)
+    (v w : Sofar) (table form : ℕ) (fs : List Field) (n : ℕ) →
+    takes v (lineIn table form fs n) n ≡ on w →
+    Grows v w true (length fs)
 unfolding takes
-grown-by v w table fs n e = go (lineIn table fs n) refl e
+grown-by v w table form fs n e = go (lineIn table form fs n) (line-says table form fs n) e
   where
-    go : (line : Line) → lineIn table fs n ≡ line → takes v line n ≡ on w → Grows v w true (length fs)
+    go : (line : Line) → Says table (length fs) n line → takes v line n ≡ on w → Grows v w true (length fs)
     go (Sizes k h) l e =
         grows-to v (withSizes v k h) w true (length fs) (if-on (leb h k) (withSizes v k h) w (PlanTooLarge n) e)
-        (record { table = λ t. t; items = omega arith; steps = inl refl; acts = inl refl })
+        (record { upto = refl; table = λ u t. t; items = omega arith; steps = inl refl; acts = inl refl })
     go (ItemLine i k l m) q e =
         grows-to v (withItem v k l m) w true (length fs)
         (if-on (eqb i (length (v .catalog))) (withItem v k l m) w (OutOfSequence n) e)
-        (record { table = λ t. t; items = omega (arith, length-append (v .catalog) (itemFrom k l m ∷ [])); steps = inl refl; acts = inl refl })
+        (record { upto = refl; table = λ u t. t; items = omega (arith, length-append (v .catalog) (itemFrom k l m ∷ [])); steps = inl refl; acts = inl refl })
     go (StepLine s) l e =
         let number = itemRefusal (v .k) (v .catalog) s in
         grows-to v (withStep v s) w true (length fs)
         (if-on (eqb number 0) (withStep v s) w (cond (eqb number 6) (UnknownItem n (stepItem s)) (ItemTooLarge n (stepItem s))) e)
         (record {
-          table = λ t. t;
+          upto = refl;
+          table = λ u t. t;
           items = omega arith;
-          steps = inr (length-append (v .steps) (s ∷ []), refl, line-step table fs n s l .0);
+          steps = inr (length-append (v .steps) (s ∷ []), refl, l .1);
           acts = inl refl;
         })
     go (ActLine place act) l e =
@@ -144,43 +150,45 @@ grown-by v w table fs n e = go (lineIn table fs n) refl e
         (if-both (inTurn v place) (ltb (actItem act) (length (v .catalog))) (withAct v place act) w (UnknownItem n (actItem act))
         (ActOutOfOrder n) e)
         (record {
-          table = λ t. t;
+          upto = refl;
+          table = λ u t. t;
           items = omega arith;
           steps = inl refl;
-          acts = inr (length-append (v .acts) _, refl, line-act table fs n place act l .0);
+          acts = inr (length-append (v .acts) _, refl, l .1);
         })
     go (Refused r) l e = absurd (no-on r w e)
 
 -- the last table has no blank line behind it
-may-end : (b : Bool) (table k : ℕ) → cond b (mayEnd table k) false ≡ true → table < 3
-may-end b table k e = go b (eqb table 0) (isSized k) (ltb table 3) refl refl e
+may-end : (b : Bool) (upto table k : ℕ) → 1 ≤ upto → cond b (mayEnd upto table k) false ≡ true → table < upto
+may-end b upto table k low e = go b (eqb table 0) (isSized k) (ltb table upto) refl refl e
   where
-    go : (b z s t : Bool) → eqb table 0 ≡ z → ltb table 3 ≡ t → cond b (cond z s t) false ≡ true → table < 3
+    go : (b z s t : Bool) → eqb table 0 ≡ z → ltb table upto ≡ t → cond b (cond z s t) false ≡ true → table < upto
     go true true s t ez et e = let x = eqb-true table 0 ez in omega arith
-    go true false s t ez et e = ltb-true table 3 (et ∙ e)
+    go true false s t ez et e = ltb-true table upto (et ∙ e)
     go false z s t ez et e = absurd (false≢true e)
 
 pub grown : (v w : Sofar) (l : List ℕ) (n : ℕ) → leads v l n ≡ on w → Grows v w (wantsHere v l) (length (fieldsOf l))
 unfolding wantsValues leads
 grown v w l n e =
-    go (v .named) (cond (isBlank l) (mayEnd (v .table) (v .k)) false) (mustEnd (v .table) (v .k)) (sameBytes l (heading (v .table)))
-    (may-end (isBlank l) (v .table) (v .k)) e
+    go (v .named) (cond (isBlank l) (mayEnd (v .upto) (v .table) (v .k)) false) (mustEnd (v .table) (v .k)) (formOf (v .table) l)
+    (may-end (isBlank l) (v .upto) (v .table) (v .k)) e
   where
     go :
-        (a p m d : Bool) →
-        (p ≡ true → v .table < 3) →
-        cond a (cond p (on (nextTable v)) (cond m (stop (Malformed n)) (takes v (lineIn (v .table) (fieldsOf l) n) n)))
-        (cond d (on (nowNamed v)) (stop (Heading n)))
+        (a p m : Bool) (names : Names) →
+        (1 ≤ v .upto → p ≡ true → v .table < v .upto) →
+        cond a (cond p (on (nextTable v)) (cond m (stop (Malformed n)) (takes v (lineIn (v .table) (v .form) (fieldsOf l) n) n)))
+        (namedBy v names n)
         ≡ on w →
         Grows v w (cond a (cond p false (not m)) false) (length (fieldsOf l))
-    go true true m d below e =
+    go true true m names below e =
         grows-to v (nextTable v) w false (length (fieldsOf l)) (cc)
-        (record { table = λ t. below refl; items = omega arith; steps = inl refl; acts = inl refl })
-    go true false true d below e = absurd (no-on (Malformed n) w e)
-    go true false false d below e = grown-by v w (v .table) (fieldsOf l) n e
-    go false p m true below e =
-        grows-to v (nowNamed v) w false (length (fieldsOf l)) (cc) (record { table = λ t. t; items = omega arith; steps = inl refl; acts = inl refl })
-    go false p m false below e = absurd (no-on (Heading n) w e)
+        (record { upto = refl; table = λ u t. below u refl; items = omega arith; steps = inl refl; acts = inl refl })
+    go true false true names below e = absurd (no-on (Malformed n) w e)
+    go true false false names below e = grown-by v w (v .table) (v .form) (fieldsOf l) n e
+    go false p m (Form f) below e =
+        grows-to v (nowNamed v f) w false (length (fieldsOf l)) (cc)
+        (record { upto = refl; table = λ u t. t; items = omega arith; steps = inl refl; acts = inl refl })
+    go false p m Unknown below e = absurd (no-on (Heading n) w e)
 
 -- ## The first field of what is left of a line
 

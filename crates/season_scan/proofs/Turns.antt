@@ -14,17 +14,17 @@ use lib.Seq.{take-suc-set, length-take-le, getD-at, drop-drop}
 use Rattle.landlord.specs.declared.Refusal.{Refusal}
 use Rattle.landlord.specs.declared.Refusal.the-variants.{Malformed, Heading}
 use Rattle.season_lines.specs.declared.Field.{Field}
-use Rattle.season_lines.specs.declared.Field.the-variants.{Other}
+use Rattle.season_lines.specs.declared.Field.the-variants.{Empty}
 use Rattle.season_lines.specs.declared.Line.the-variants.{Refused as Torn}
-use Rattle.season_lines.specs.Lines.{split, fieldOf, fieldsOf, fieldAt, lineIn}
-use Rattle.season_lines.specs.Inner.{before, isOther, heldField}
+use Rattle.season_lines.specs.Lines.{split, fieldOf, fieldsOf, fieldAt, isEmpty, noneEmpty, namesIn, lineIn}
+use Rattle.season_lines.specs.Inner.{before, heldField}
 use Rattle.season_tables.specs.declared.Seen.{Seen}
 use Rattle.season_tables.specs.declared.Scanned.{Scanned}
 use Rattle.season_tables.specs.declared.Verdict.the-variants.{Taken, Refused}
-use Rattle.season_tables.specs.Tables.{Sofar, Led, on, stop, atStart, leads, atEnd, goesOn, readFrom, readingOf}
+use Rattle.season_tables.specs.Tables.{Sofar, Led, on, stop, atStart, leads, atEnd, goesOn, readFrom, readingTo}
 use Rattle.season_tables.specs.Inner.{Holds, nothingRead, Leads, LeadsFrom, LeadsBy, Untouched, Keeps, Roomy, Leadable, wantsValues}
 use Rattle.season_scan.specs.Inner.{Few, onward, readUntil, readIn, Leaves}
-use Rattle.season_lines.proofs.Pieces.{before-le, before-take, other-empty, many-malformed, other-malformed}
+use Rattle.season_lines.proofs.Pieces.{before-le, before-take, no-bytes, none-empty-more, many-malformed, empty-malformed}
 use Rattle.season_lines.proofs.Held.{held-line}
 use Rattle.season_tables.proofs.Keeps.{not-refused, untouched-later}
 use Rattle.season_tables.proofs.Held.{begins as nothing-held}
@@ -37,19 +37,21 @@ AsLong catalog₀ calls₀ acts₀ catalog calls acts =
 
 -- At byte `at`, where line n begins: the struct and the slices hold what has been read, from which the rest of the text leads where
 -- the whole text does, and past that the slices are as they were. A step or an act took at least six bytes.
-pub record Lined (s catalog₀ calls₀ acts₀ catalog calls acts : List ℕ) (q : Seen) (at n : ℕ) : Type 0 where
+pub record Lined (upto : ℕ) (s catalog₀ calls₀ acts₀ catalog calls acts : List ℕ) (q : Seen) (at n : ℕ) : Type 0 where
   pub within : at ≤ length s
   pub counted : n ≤ at + 1
   pub forSteps : 6 * q .steps ≤ at
   pub forActs : 6 * q .acts ≤ at
-  pub table : q .table ≤ 3
+  pub low : 1 ≤ q .upto
+  pub high : q .upto ≤ 3
+  pub table : q .table ≤ q .upto
   pub roomy : Roomy catalog calls acts
   pub long : AsLong catalog₀ calls₀ acts₀ catalog calls acts
   pub past : Untouched q catalog₀ calls₀ acts₀ catalog calls acts
   pub read : Sofar
   pub holds : Holds q catalog calls acts read
-  pub left : readFrom n (split 10 (drop at s)) read ≡ readingOf s
-  pub until : readUntil n (split 10 (drop at s)) read ≡ readIn s
+  pub left : readFrom n (split 10 (drop at s)) read ≡ readingTo upto s
+  pub until : readUntil n (split 10 (drop at s)) read ≡ readIn upto s
 
 -- the line from `at` to `end`
 abbrev pub lineWithin : List ℕ → ℕ → ℕ → List ℕ
@@ -57,17 +59,20 @@ lineWithin s at end = take (end - at) (drop at s)
 
 -- whether its fields are looked at
 abbrev pub due : Seen → ℕ → ℕ → Bool
-due q at end = wantsValues (q .named) (q .table) (q .k) (end - at)
+due q at end = wantsValues (q .named) (q .upto) (q .table) (q .k) (end - at)
 
 -- the fields from byte i on, as they are held
 abbrev pub heldFrom : List ℕ → ℕ → ℕ → Bool → List Field
 heldFrom s i end more = map heldField (fieldsFrom s i end more)
 
--- At byte i of that line, where a field begins if there are more: the fields before it are in the array, and took at least two
--- bytes each. If no line of values is due, none is looked at.
-pub record Fielded (s : List ℕ) (q : Seen) (at end : ℕ) (fields : List Field) (count i : ℕ) (more : Bool) : Type 0 where
+-- At byte i of that line, where a field begins if there are more: the fields before it are in the array, no more than the heading has
+-- names, none of them empty, and took at least two bytes each. If no line of values is due, none is looked at.
+pub record Fielded (s : List ℕ) (q : Seen) (at end names : ℕ) (fields : List Field) (count i : ℕ) (more : Bool) : Type 0 where
   pub slots : length fields ≡ 4
-  pub few : count ≤ 4
+  pub heading : names ≡ namesIn (q .table) (q .form)
+  pub most : names ≤ 4
+  pub few : count ≤ names
+  pub some : noneEmpty (take count fields) ≡ true
   pub from : at + 2 * count ≤ i
   pub to : i ≤ end + 1
   pub going : more ≡ true → (i ≤ end) × (due q at end ≡ true)
@@ -75,25 +80,34 @@ pub record Fielded (s : List ℕ) (q : Seen) (at end : ℕ) (fields : List Field
       due q at end ≡ true → take count fields ++ heldFrom s i end more ≡ map heldField (fieldsOf (lineWithin s at end))
 
 -- what an answer to the whole text has to be
-abbrev pub ScanAnswers : List ℕ → List ℕ → List ℕ → List ℕ → Scanned → List ℕ → List ℕ → List ℕ → Type 0
-ScanAnswers s catalog₀ calls₀ acts₀ r catalog calls acts =
-    Leads (readingOf s) r catalog calls acts × (Few (readingOf s) r × Leaves s catalog₀ calls₀ acts₀ r catalog calls acts)
+abbrev pub ScanAnswers : ℕ → List ℕ → List ℕ → List ℕ → List ℕ → Scanned → List ℕ → List ℕ → List ℕ → Type 0
+ScanAnswers upto s catalog₀ calls₀ acts₀ r catalog calls acts =
+    Leads (readingTo upto s) r catalog calls acts
+    × (Few (readingTo upto s) r × Leaves upto s catalog₀ calls₀ acts₀ r catalog calls acts)
 
 -- ## The first line
 
-pub begins : (s catalog calls acts : List ℕ) (q : Seen) → Roomy catalog calls acts → q ≡ nothingRead → Lined s catalog calls acts catalog calls acts q 0 1
-begins s catalog calls acts q r b =
-    let h = subst (λ (z : Seen). Holds z catalog calls acts atStart) (sym b) (nothing-held catalog calls acts) in
+pub begins :
+    (upto : ℕ) (s catalog calls acts : List ℕ) (q : Seen) →
+    1 ≤ upto →
+    upto ≤ 3 →
+    Roomy catalog calls acts →
+    q ≡ nothingRead upto →
+    Lined upto s catalog calls acts catalog calls acts q 0 1
+begins upto s catalog calls acts q low high r b =
+    let h = subst (λ (z : Seen). Holds z catalog calls acts (atStart upto)) (sym b) (nothing-held upto catalog calls acts) in
     record {
       within = omega arith;
       counted = omega arith;
       forSteps = omega (arith, h .stepCount);
       forActs = omega (arith, h .actCount);
+      low = omega (arith, h .upto);
+      high = omega (arith, h .upto);
       table = omega (arith, h .table);
       roomy = r;
       long = (refl, refl, refl);
       past = record { pastItems = refl; pastSteps = refl; pastActs = refl };
-      read = atStart;
+      read = atStart upto;
       holds = h;
       left = refl;
       until = refl;
@@ -102,12 +116,12 @@ begins s catalog calls acts q r b =
 -- ## The ways out
 
 stops :
-    (s catalog₀ calls₀ acts₀ catalog calls acts : List ℕ) (r : Scanned) (x : Refusal) →
-    readingOf s ≡ stop x →
+    (upto : ℕ) (s catalog₀ calls₀ acts₀ catalog calls acts : List ℕ) (r : Scanned) (x : Refusal) →
+    readingTo upto s ≡ stop x →
     r .verdict ≡ Refused x →
-    Leaves s catalog₀ calls₀ acts₀ r catalog calls acts →
-    ScanAnswers s catalog₀ calls₀ acts₀ r catalog calls acts
-stops s catalog₀ calls₀ acts₀ catalog calls acts r x e h y = (rw e h, (rw e tt, y))
+    Leaves upto s catalog₀ calls₀ acts₀ r catalog calls acts →
+    ScanAnswers upto s catalog₀ calls₀ acts₀ r catalog calls acts
+stops upto s catalog₀ calls₀ acts₀ catalog calls acts r x e h y = (rw e h, (rw e tt, y))
 
 -- the text has no more than 65,536 bytes, six to a step
 few-ended :
@@ -119,15 +133,15 @@ few-ended :
 few-ended true v x r catalog calls acts a b h = (omega (arith, h .1 .stepCount), omega (arith, h .1 .actCount))
 few-ended false v x r catalog calls acts a b h = tt
 
-module _ (s catalog₀ calls₀ acts₀ catalog calls acts : List ℕ) (q : Seen) (at n : ℕ)
-    (h : Lined s catalog₀ calls₀ acts₀ catalog calls acts q at n)
+module _ (upto : ℕ) (s catalog₀ calls₀ acts₀ catalog calls acts : List ℕ) (q : Seen) (at n : ℕ)
+    (h : Lined upto s catalog₀ calls₀ acts₀ catalog calls acts q at n)
   where
     -- where the reading ends here, the struct being handed back
-    leaves : (r : Scanned) → r .seen ≡ q → readUntil n (split 10 (drop at s)) (h .read) ≡ h .read → Leaves s catalog₀ calls₀ acts₀ r catalog calls acts
+    leaves : (r : Scanned) → r .seen ≡ q → readUntil n (split 10 (drop at s)) (h .read) ≡ h .read → Leaves upto s catalog₀ calls₀ acts₀ r catalog calls acts
     leaves r e u =
         record {
           holds =
-              subst (λ (z : Seen). Holds z catalog calls acts (readIn s)) (sym e)
+              subst (λ (z : Seen). Holds z catalog calls acts (readIn upto s)) (sym e)
               (subst (Holds q catalog calls acts) (sym u ∙ h .until) (h .holds));
           past = subst (λ (z : Seen). Untouched z catalog₀ calls₀ acts₀ catalog calls acts) (sym e) (h .past);
         }
@@ -138,13 +152,13 @@ module _ (s catalog₀ calls₀ acts₀ catalog calls acts : List ℕ) (q : Seen
         length s ≤ at →
         r .seen ≡ q →
         LeadsBy q (λ v. atEnd v n) r →
-        ScanAnswers s catalog₀ calls₀ acts₀ r catalog calls acts
+        ScanAnswers upto s catalog₀ calls₀ acts₀ r catalog calls acts
     ends r short e same f =
         let v = h .read in
-        let told : readingOf s ≡ atEnd v n = sym (h .left) ∙ nothing-left n at s v e in
+        let told : readingTo upto s ≡ atEnd v n = sym (h .left) ∙ nothing-left n at s v e in
         let led = f catalog calls acts v (h .holds) in
         let few =
-        few-ended (v .named && eqb (v .table) 3) v (Heading n) r catalog calls acts (omega (arith, h .holds .stepCount))
+        few-ended (v .named && eqb (v .table) (v .upto)) v (Heading n) r catalog calls acts (omega (arith, h .holds .stepCount))
         (omega (arith, h .holds .actCount)) led in
         (rw told led, (rw told few, leaves r same (until-end n at s v e)))
 
@@ -154,30 +168,35 @@ module _ (s catalog₀ calls₀ acts₀ catalog calls acts : List ℕ) (q : Seen
         length s ≤ at + length (before 10 (drop at s)) →
         r .verdict ≡ Refused (Malformed n) →
         r .seen ≡ q →
-        ScanAnswers s catalog₀ calls₀ acts₀ r catalog calls acts
+        ScanAnswers upto s catalog₀ calls₀ acts₀ r catalog calls acts
     no-line-feed r a e f same =
         let size = length-drop at s in
-        let told : readingOf s ≡ stop (Malformed n) = sym (h .left) ∙ no-feed n (drop at s) (h .read) (omega arith) (omega arith) in
-        stops s catalog₀ calls₀ acts₀ catalog calls acts r (Malformed n) told f
+        let told : readingTo upto s ≡ stop (Malformed n) = sym (h .left) ∙ no-feed n (drop at s) (h .read) (omega arith) (omega arith) in
+        stops upto s catalog₀ calls₀ acts₀ catalog calls acts r (Malformed n) told f
         (leaves r same (until-no-feed n (drop at s) (h .read) (omega arith)))
 
 -- ## The fields of a line
 
 -- so many of the array's four
-filled : (fields : List Field) (count : ℕ) → length fields ≡ 4 → count ≤ 4 → length (take count fields) ≡ count
-filled fields count e h = length-take-le count fields (omega arith)
+filled : (fields : List Field) (count names : ℕ) → length fields ≡ 4 → count ≤ names → names ≤ 4 → length (take count fields) ≡ count
+filled fields count names e h m = length-take-le count fields (omega arith)
 
-module _ (s : List ℕ) (q : Seen) (at end : ℕ) where
+module _ (s : List ℕ) (q : Seen) (at end names : ℕ) where
   pub field-none :
       (fields : List Field) (more : Bool) →
       length fields ≡ 4 →
+      names ≡ namesIn (q .table) (q .form) →
+      names ≤ 4 →
       at ≤ end →
       more ≡ due q at end →
-      Fielded s q at end fields 0 at more
-  field-none fields more k h e =
+      Fielded s q at end names fields 0 at more
+  field-none fields more k hn hm h e =
       record {
         slots = k;
+        heading = hn;
+        most = hm;
         few = omega arith;
+        some = unfold noneEmpty in refl;
         from = omega arith;
         to = omega arith;
         going = λ t. (h, sym e ∙ t);
@@ -186,7 +205,7 @@ module _ (s : List ℕ) (q : Seen) (at end : ℕ) where
 
   module _ (fields : List Field) (count i m : ℕ) (field : Field)
       (within : end ≤ length s)
-      (f : Fielded s q at end fields count i true)
+      (f : Fielded s q at end names fields count i true)
       (em : m ≡ length (before 32 (take (end - i) (drop i s))))
       (ef : field ≡ heldField (fieldOf (take m (drop i s))))
     where
@@ -198,19 +217,19 @@ module _ (s : List ℕ) (q : Seen) (at end : ℕ) where
           sym (f .same (g .1)) ∙ rw (field-first s i end m (g .0) within em, ef)
 
       -- a field that is told has a byte
-      some-byte : isOther field ≡ false → 0 < m
+      some-byte : isEmpty field ≡ false → 0 < m
       some-byte o = go m ef
         where
           go : (m : ℕ) → field ≡ heldField (fieldOf (take m (drop i s))) → 0 < m
-          go zero e = absurd (false≢true (sym o ∙ ap isOther (e ∙ ap heldField other-empty)))
+          go zero e = absurd (false≢true (sym o ∙ ap isEmpty (e ∙ ap heldField no-bytes)))
           go (suc m) e = omega arith
 
       pub field-more :
           (more : Bool) →
           more ≡ ltb (i + m) end →
-          count < 4 →
-          isOther field ≡ false →
-          Fielded s q at end (set fields count field) (count + 1) (i + m + 1) more
+          count < names →
+          isEmpty field ≡ false →
+          Fielded s q at end names (set fields count field) (count + 1) (i + m + 1) more
       field-more more e h o =
           let g = f .going refl in
           let some = some-byte o in
@@ -220,46 +239,61 @@ module _ (s : List ℕ) (q : Seen) (at end : ℕ) where
           let slots = f .slots in
           record {
             slots = length-set fields count field ∙ slots;
+            heading = f .heading;
+            most = f .most;
             few = omega arith;
+            some =
+                rw (add-one count, take-suc-set fields count field (omega (arith, f .most)))
+                (none-empty-more (take count fields) field (f .some) o);
             from = omega (arith, f .from);
             to = omega arith;
             going = λ t. (let u = ltb-true (i + m) end (sym e ∙ t) in omega arith, g .1);
             same =
                 λ t.
-                rw (e, add-one count, take-suc-set fields count field (omega arith), append-assoc (take count fields) (field ∷ []))
+                rw (e, add-one count, take-suc-set fields count field (omega (arith, f .most)), append-assoc (take count fields) (field ∷ []))
                 (sym fields-here);
           }
 
       pub field-malformed :
-          (table n : ℕ) → (isOther field ≡ true) ⊎ (4 ≤ count) → lineIn table (fieldsOf (lineWithin s at end)) n ≡ Torn (Malformed n)
-      field-malformed table n = ⊎-elim other many
+          (n : ℕ) →
+          (isEmpty field ≡ true) ⊎ (names ≤ count) →
+          lineIn (q .table) (q .form) (fieldsOf (lineWithin s at end)) n ≡ Torn (Malformed n)
+      field-malformed n = ⊎-elim empty many
         where
           rest : List Field
           rest = field ∷ heldFrom s (i + m + 1) end (ltb (i + m) end)
 
           -- the line is judged by its fields as they are held
-          judged : lineIn table (take count fields ++ rest) n ≡ Torn (Malformed n) → lineIn table (fieldsOf (lineWithin s at end)) n ≡ Torn (Malformed n)
-          judged e = sym (held-line table (fieldsOf (lineWithin s at end)) n) ∙ rw fields-here e
+          judged :
+              lineIn (q .table) (q .form) (take count fields ++ rest) n ≡ Torn (Malformed n) →
+              lineIn (q .table) (q .form) (fieldsOf (lineWithin s at end)) n ≡ Torn (Malformed n)
+          judged e = sym (held-line (q .table) (q .form) (fieldsOf (lineWithin s at end)) n) ∙ rw fields-here e
+
+          slots : length (take count fields) ≡ count
+          slots = filled fields count names (f .slots) (f .few) (f .most)
 
           size : length (take count fields ++ rest) ≡ count + length rest
-          size = length-append (take count fields) rest ∙ rw (filled fields count (f .slots) (f .few))
+          size = length-append (take count fields) rest ∙ rw slots
 
           here : fieldAt (take count fields ++ rest) count ≡ field
-          here = getD-at (take count fields) field _ Other count (filled fields count (f .slots) (f .few))
+          here = getD-at (take count fields) field _ Empty count slots
 
-          other : isOther field ≡ true → lineIn table (fieldsOf (lineWithin s at end)) n ≡ Torn (Malformed n)
-          other o = judged (other-malformed table (take count fields ++ rest) count n (omega (arith, size)) (rw here o))
+          empty : isEmpty field ≡ true → lineIn (q .table) (q .form) (fieldsOf (lineWithin s at end)) n ≡ Torn (Malformed n)
+          empty o =
+              judged
+              (empty-malformed (q .table) (q .form) (take count fields ++ rest) n count (omega (arith, size)) (rw here o))
 
-          many : 4 ≤ count → lineIn table (fieldsOf (lineWithin s at end)) n ≡ Torn (Malformed n)
-          many h = judged (many-malformed table (take count fields ++ rest) n (omega (arith, size)))
+          many : names ≤ count → lineIn (q .table) (q .form) (fieldsOf (lineWithin s at end)) n ≡ Torn (Malformed n)
+          many h =
+              judged (many-malformed (q .table) (q .form) (take count fields ++ rest) n (omega (arith, size, f .heading)))
 
 -- ## The next line
 
 no-fewer : (a b : ℕ) {c d : ℕ} {wants : Bool} {fields : ℕ} → a ≡ c → b ≡ d → Adds c d wants fields → a ≤ b
 no-fewer a b e f = ⊎-elim (λ w. omega arith) (λ w. omega (arith, w .0))
 
-module _ (s catalog₀ calls₀ acts₀ catalog calls acts : List ℕ) (q : Seen) (at n : ℕ)
-    (h : Lined s catalog₀ calls₀ acts₀ catalog calls acts q at n)
+module _ (upto : ℕ) (s catalog₀ calls₀ acts₀ catalog calls acts : List ℕ) (q : Seen) (at n : ℕ)
+    (h : Lined upto s catalog₀ calls₀ acts₀ catalog calls acts q at n)
     (end : ℕ) (ee : end ≡ at + length (before 10 (drop at s))) (within : end < length s)
   where
     first-is : before 10 (drop at s) ≡ lineWithin s at end
@@ -269,12 +303,12 @@ module _ (s catalog₀ calls₀ acts₀ catalog calls acts : List ℕ) (q : Seen
     size-is = length-part s at end (omega arith)
 
     wants-is : wantsHere (h .read) (lineWithin s at end) ≡ due q at end
-    wants-is = rw (size-is, h .holds .named, h .holds .table, h .holds .k)
+    wants-is = rw (size-is, h .holds .named, h .holds .upto, h .holds .table, h .holds .k)
 
     behind-is : at + (length (before 10 (drop at s)) + 1) ≡ end + 1
     behind-is = omega arith
 
-    next-is : readingOf s ≡ goesOn (leads (h .read) (lineWithin s at end) n) (readFrom (n + 1) (split 10 (drop (end + 1) s)))
+    next-is : readingTo upto s ≡ goesOn (leads (h .read) (lineWithin s at end) n) (readFrom (n + 1) (split 10 (drop (end + 1) s)))
     next-is =
         let size = length-drop at s in
         sym (h .left) ∙ line-first n (drop at s) (h .read) (omega arith)
@@ -294,32 +328,33 @@ module _ (s catalog₀ calls₀ acts₀ catalog calls acts : List ℕ) (q : Seen
         leads (h .read) (lineWithin s at end) n ≡ stop x →
         r .verdict ≡ Refused x →
         r .seen ≡ q →
-        ScanAnswers s catalog₀ calls₀ acts₀ r catalog calls acts
+        ScanAnswers upto s catalog₀ calls₀ acts₀ r catalog calls acts
     stops-here r x told f same =
-        stops s catalog₀ calls₀ acts₀ catalog calls acts r x (next-is ∙ rw told) f
-        (leaves s catalog₀ calls₀ acts₀ catalog calls acts q at n h r same (until-is ∙ rw told))
+        stops upto s catalog₀ calls₀ acts₀ catalog calls acts r x (next-is ∙ rw told) f
+        (leaves upto s catalog₀ calls₀ acts₀ catalog calls acts q at n h r same (until-is ∙ rw told))
 
-    -- a field that no line has
+    -- a field that no line has here
     pub malformed-here :
         (r : Scanned) →
         due q at end ≡ true →
-        ((table : ℕ) → lineIn table (fieldsOf (lineWithin s at end)) n ≡ Torn (Malformed n)) →
+        lineIn (q .table) (q .form) (fieldsOf (lineWithin s at end)) n ≡ Torn (Malformed n) →
         r .verdict ≡ Refused (Malformed n) →
         r .seen ≡ q →
-        ScanAnswers s catalog₀ calls₀ acts₀ r catalog calls acts
+        ScanAnswers upto s catalog₀ calls₀ acts₀ r catalog calls acts
     malformed-here r wants bad =
-        stops-here r (Malformed n) (malformed-line (h .read) (lineWithin s at end) n (wants-is ∙ wants) (bad (h .read .table)))
+        stops-here r (Malformed n)
+        (malformed-line (h .read) (lineWithin s at end) n (wants-is ∙ wants) (rw (h .holds .table, h .holds .form) at bad))
 
-    module _ (fields : List Field) (count i : ℕ) (f : Fielded s q at end fields count i false) where
+    module _ (names : ℕ) (fields : List Field) (count i : ℕ) (f : Fielded s q at end names fields count i false) where
       all-fields : due q at end ≡ true → take count fields ≡ map heldField (fieldsOf (lineWithin s at end))
       all-fields t = sym (append-nil (take count fields)) ∙ f .same t
 
-      -- a line of three fields has six bytes with its line feed
-      six-bytes : wantsHere (h .read) (lineWithin s at end) ≡ true → length (fieldsOf (lineWithin s at end)) ≡ 3 → at + 6 ≤ end + 1
+      -- a line of three fields or more has six bytes with its line feed
+      six-bytes : wantsHere (h .read) (lineWithin s at end) ≡ true → 3 ≤ length (fieldsOf (lineWithin s at end)) → at + 6 ≤ end + 1
       six-bytes t e =
-          let three : length (take count fields) ≡ 3 =
-          ap length (all-fields (sym wants-is ∙ t)) ∙ length-map (fieldsOf (lineWithin s at end)) heldField ∙ e in
-          omega (arith, filled fields count (f .slots) (f .few), f .from, f .to)
+          let all : length (take count fields) ≡ length (fieldsOf (lineWithin s at end)) =
+          ap length (all-fields (sym wants-is ∙ t)) ∙ length-map (fieldsOf (lineWithin s at end)) heldField in
+          omega (arith, filled fields count names (f .slots) (f .few) (f .most), f .from, f .to)
 
       more-bytes :
           (a b : ℕ) →
@@ -332,8 +367,8 @@ module _ (s catalog₀ calls₀ acts₀ catalog calls acts : List ℕ) (q : Seen
       can-lead short =
           record {
             room = record { forStep = omega (arith, h .forSteps); forAct = omega (arith, h .forActs); roomy = h .roomy };
-            few = f .few;
-            table = h .table;
+            judgeable = record { few = omega (arith, f .few, f .most); some = f .some };
+            table = omega (arith, h .table, h .high);
             looked = λ t. all-fields (rw size-is at t);
             read = h .read;
             holds = h .holds;
@@ -343,33 +378,33 @@ module _ (s catalog₀ calls₀ acts₀ catalog calls acts : List ℕ) (q : Seen
           (led : LeadsFrom q catalog calls acts (λ v. leads v (lineWithin s at end) n) r catalogThen callsThen actsThen)
           (kept : Keeps q catalog calls acts r catalogThen callsThen actsThen)
         where
-          pub line-refused : (x : Refusal) → r .verdict ≡ Refused x → ScanAnswers s catalog₀ calls₀ acts₀ r catalogThen callsThen actsThen
+          pub line-refused : (x : Refusal) → r .verdict ≡ Refused x → ScanAnswers upto s catalog₀ calls₀ acts₀ r catalogThen callsThen actsThen
           line-refused x e =
               let u = kept .refused x e in
-              subst (λ (z : List ℕ). ScanAnswers s catalog₀ calls₀ acts₀ r z callsThen actsThen) (sym (u .sameItems))
-              (subst (λ (z : List ℕ). ScanAnswers s catalog₀ calls₀ acts₀ r catalog z actsThen) (sym (u .sameSteps))
-              (subst (ScanAnswers s catalog₀ calls₀ acts₀ r catalog calls) (sym (u .sameActs))
+              subst (λ (z : List ℕ). ScanAnswers upto s catalog₀ calls₀ acts₀ r z callsThen actsThen) (sym (u .sameItems))
+              (subst (λ (z : List ℕ). ScanAnswers upto s catalog₀ calls₀ acts₀ r catalog z actsThen) (sym (u .sameSteps))
+              (subst (ScanAnswers upto s catalog₀ calls₀ acts₀ r catalog calls) (sym (u .sameActs))
               (go (leads (h .read) (lineWithin s at end) n) refl (led (h .read) (h .holds)))))
             where
               go :
                   (y : Led) →
                   leads (h .read) (lineWithin s at end) n ≡ y →
                   Leads y r catalogThen callsThen actsThen →
-                  ScanAnswers s catalog₀ calls₀ acts₀ r catalog calls acts
+                  ScanAnswers upto s catalog₀ calls₀ acts₀ r catalog calls acts
               go (on w) u k = absurd (not-refused (r .verdict) x (k .0) e)
               go (stop y) u k = stops-here r y u k (kept .refused x e .sameSeen)
 
           pub line-taken :
               AsLong catalog calls acts catalogThen callsThen actsThen →
               r .verdict ≡ Taken →
-              Lined s catalog₀ calls₀ acts₀ catalogThen callsThen actsThen (r .seen) (end + 1) (n + 1)
+              Lined upto s catalog₀ calls₀ acts₀ catalogThen callsThen actsThen (r .seen) (end + 1) (n + 1)
           line-taken long e = go (leads (h .read) (lineWithin s at end) n) refl (led (h .read) (h .holds))
             where
               go :
                   (y : Led) →
                   leads (h .read) (lineWithin s at end) n ≡ y →
                   Leads y r catalogThen callsThen actsThen →
-                  Lined s catalog₀ calls₀ acts₀ catalogThen callsThen actsThen (r .seen) (end + 1) (n + 1)
+                  Lined upto s catalog₀ calls₀ acts₀ catalogThen callsThen actsThen (r .seen) (end + 1) (n + 1)
               go (on w) u k =
                   let g = grown (h .read) w (lineWithin s at end) n u in
                   let old = h .holds in
@@ -386,7 +421,11 @@ module _ (s catalog₀ calls₀ acts₀ catalog calls acts : List ℕ) (q : Seen
                         rw (new .actCount)
                         (more-bytes (length (h .read .acts)) (length (w .acts)) (omega (arith, old .actCount, h .forActs))
                         (g .acts));
-                    table = rw (new .table) (g .table (omega (arith, old .table, h .table)));
+                    low = omega (arith, new .upto, g .upto, old .upto, h .low);
+                    high = omega (arith, new .upto, g .upto, old .upto, h .high);
+                    table =
+                        let t = g .table (omega (arith, old .upto, h .low)) (omega (arith, old .table, old .upto, h .table)) in
+                        omega (arith, new .table, new .upto, g .upto);
                     roomy =
                         record {
                           forItems = omega (arith, roomy .forItems, long .0);

@@ -21,11 +21,11 @@ readUntil n [] v = v
 readUntil n (l ∷ []) v = v
 readUntil n (l ∷ m ∷ rest) v = onward v (leads v l n) (readUntil (suc n) (m ∷ rest))
 
-abbrev pub readIn : List ℕ → Sofar
-readIn s = readUntil 1 (split 10 s) atStart
+abbrev pub readIn : ℕ → List ℕ → Sofar
+readIn upto s = readUntil 1 (split 10 s) (atStart upto)
 
--- What the scan of s leaves, be it taken or refused: the struct and the slices hold what has been read, and past that the slices are
--- as they were.
-pub record Leaves (s catalog calls acts : List ℕ) (r : Scanned) (catalog-after calls-after acts-after : List ℕ) : Type 0 where
-  pub holds : Holds (r .seen) catalog-after calls-after acts-after (readIn s)
+-- What the scan of s up to a table leaves, be it taken or refused: the struct and the slices hold what has been read, and past that
+-- the slices are as they were.
+pub record Leaves (upto : ℕ) (s catalog calls acts : List ℕ) (r : Scanned) (catalog-after calls-after acts-after : List ℕ) : Type 0 where
+  pub holds : Holds (r .seen) catalog-after calls-after acts-after (readIn upto s)
   pub past : Untouched (r .seen) catalog calls acts catalog-after calls-after acts-after

@@ -1,5 +1,5 @@
-// The text input's four tables: the search for the first faulty line.
-ghost use Rattle.season_tables.specs.Tables.{readingOf};
+// The text input's tables: the search for the first faulty line.
+ghost use Rattle.season_tables.specs.Tables.{readingTo};
 ghost use Rattle.season_tables.specs.Inner.{Leads, Scannable};
 ghost use Rattle.season_scan.specs.Inner.{Few, Leaves};
 use landlord::Refusal;
@@ -7,15 +7,15 @@ use season_lines::Field;
 use season_tables::Scanned;
 use season_tables::Verdict;
 
-// Reads the tables up to the first faulty line. The items are noted in `catalog`, five bytes each, the steps in `calls`, four numbers
-// each, and the acts in `acts`, three.
-pub fn scan(s: &[u8], catalog: &mut [u8], calls: &mut [u32], acts: &mut [u32]) -> Scanned
-    requires { ⌜ Scannable (now s) (now catalog) (now calls) (now acts) ⌝ }
-    ensures { λ r. ⌜ Leads (readingOf (now (s .entry))) r (now (catalog .exit)) (now (calls .exit)) (now (acts .exit)) ⌝ }
-    ensures { λ r. ⌜ Few (readingOf (now (s .entry))) r ⌝ }
-    ensures { λ r. ⌜ Leaves (now (s .entry)) (now (catalog .entry)) (now (calls .entry)) (now (acts .entry)) r (now (catalog .exit)) (now (calls .exit)) (now (acts .exit)) ⌝ }
+// Reads the tables up to the one numbered `upto`, the last, or up to the first faulty line. The items are noted in `catalog`, five
+// bytes each, the steps in `calls`, four numbers each, and the acts in `acts`, three.
+pub fn scan(s: &[u8], upto: u32, catalog: &mut [u8], calls: &mut [u32], acts: &mut [u32]) -> Scanned
+    requires { ⌜ Scannable upto (now s) (now catalog) (now calls) (now acts) ⌝ }
+    ensures { λ r. ⌜ Leads (readingTo upto (now (s .entry))) r (now (catalog .exit)) (now (calls .exit)) (now (acts .exit)) ⌝ }
+    ensures { λ r. ⌜ Few (readingTo upto (now (s .entry))) r ⌝ }
+    ensures { λ r. ⌜ Leaves upto (now (s .entry)) (now (catalog .entry)) (now (calls .entry)) (now (acts .entry)) r (now (catalog .exit)) (now (calls .exit)) (now (acts .exit)) ⌝ }
 {
-    let mut seen = season_tables::at_start();
+    let mut seen = season_tables::at_start(upto);
     let mut at = 0;
     let mut line: u32 = 1;
     'lines: loop {
@@ -26,15 +26,22 @@ pub fn scan(s: &[u8], catalog: &mut [u8], calls: &mut [u32], acts: &mut [u32]) -
         if s.len() <= end {
             break season_tables::stopped(seen, Refusal::Malformed { line: line });
         }
-        let mut fields = [Field::Other; 4];
+        let names = season_lines::names_in(seen.table, seen.form);
+        let mut fields = [Field::Empty; 4];
         let mut count: usize = 0;
         let mut i = at;
-        let mut more = season_tables::wants_values(seen.named, seen.table, seen.k, end - at);
+        let mut more = season_tables::wants_values(
+            seen.named,
+            seen.upto,
+            seen.table,
+            seen.k,
+            end - at,
+        );
         while more {
             let j = i + season_lines::find(&s[i..end], b' ');
             let field = season_lines::field_of(&s[i..j]);
-            // No line has such a field, and none has a fifth.
-            if season_lines::is_other(field) || 4 <= count {
+            // No line has an empty field, and none has more fields than its heading has names.
+            if season_lines::is_empty(field) || names <= count {
                 break 'lines season_tables::stopped(seen, Refusal::Malformed { line: line });
             }
             fields[count] = field;

@@ -23,11 +23,13 @@ use Rattle.catalog_bytes.specs.Inner.{catalogOfFirst, itemBytes}
 use Rattle.catalog_bytes.proofs.Laws.{none-first, one-more}
 use Rattle.season_lines.specs.declared.Line.{Line}
 use Rattle.season_lines.specs.declared.Line.the-variants.{Sizes, Item as ItemLine, Step as StepLine, Act as ActLine, Refused as RefusedLine}
+use Rattle.season_lines.specs.declared.Names.{Names}
+use Rattle.season_lines.specs.declared.Names.the-variants.{Form, Unknown}
 use Rattle.season_lines.specs.Lines.{itemFrom}
 use Rattle.season_tables.specs.declared.Seen.{Seen}
 use Rattle.season_tables.specs.declared.Scanned.{Scanned}
 use Rattle.season_tables.specs.declared.Verdict.the-variants.{Taken, Refused}
-use Rattle.season_tables.specs.Tables.{Placed, Sofar, on, stop, atStart, nowNamed, nextTable, takes, atEnd}
+use Rattle.season_tables.specs.Tables.{Placed, Sofar, on, stop, atStart, nowNamed, namedBy, nextTable, takes, atEnd}
 use Rattle.season_tables.specs.Inner.{lastPlace, Holds, nothingRead, endVerdict, Leads, LeadsFrom, LeadsBy, NotesItem, NotesStep, NotesAct, KeepsPast, callNumbers, actNumbers, putAt, ItemPlaced}
 use Rattle.season_tables.proofs.Notes.{put-sets, noted-more, noted-past, calls-more, acts-more}
 use Rattle.season_tables.proofs.Items.{step-told}
@@ -42,12 +44,14 @@ pub count-is : (q : Seen) (catalog calls acts : List ℕ) (v : Sofar) → Holds 
 count-is q catalog calls acts v h = sym (h .itemCount)
 
 -- nothing is read, whatever the slices hold
-pub begins : (catalog calls acts : List ℕ) → Holds nothingRead catalog calls acts atStart
+pub begins : (upto : ℕ) (catalog calls acts : List ℕ) → Holds (nothingRead upto) catalog calls acts (atStart upto)
 unfolding fold callNumbers actNumbers
-begins catalog calls acts =
+begins upto catalog calls acts =
     record {
       table = refl;
+      upto = refl;
       named = refl;
+      form = refl;
       k = refl;
       h = refl;
       few = omega arith;
@@ -61,8 +65,8 @@ begins catalog calls acts =
     }
 
 -- the line of names
-abbrev named : Seen → Seen
-named q =
+abbrev named : Seen → ℕ → Seen
+named q f =
     record {
       table = q .table;
       named = true;
@@ -72,16 +76,21 @@ named q =
       steps = q .steps;
       acts = q .acts;
       last = q .last;
+      upto = q .upto;
+      form = f;
     }
 
-module _ (q : Seen) (right : Bool) (at : ℕ) (r : Scanned) where
-  pub names-right : right ≡ true → r .verdict ≡ Taken → r .seen ≡ named q → LeadsBy q (λ v. cond right (on (nowNamed v)) (stop (Heading at))) r
-  names-right e t s catalog calls acts v h =
+module _ (q : Seen) (names : Names) (at : ℕ) (r : Scanned) where
+  pub names-right :
+      (f : ℕ) → names ≡ Form f → r .verdict ≡ Taken → r .seen ≡ named q f → LeadsBy q (λ v. namedBy v names at) r
+  names-right f e t s catalog calls acts v h =
       rw e
-      (goes r (named q) catalog calls acts (nowNamed v) t s
+      (goes r (named q f) catalog calls acts (nowNamed v f) t s
       (record {
         table = h .table;
+        upto = h .upto;
         named = refl;
+        form = refl;
         k = h .k;
         h = h .h;
         few = h .few;
@@ -94,7 +103,7 @@ module _ (q : Seen) (right : Bool) (at : ℕ) (r : Scanned) where
         actsNoted = h .actsNoted;
       }))
 
-  pub names-wrong : right ≡ false → r .verdict ≡ Refused (Heading at) → LeadsBy q (λ v. cond right (on (nowNamed v)) (stop (Heading at))) r
+  pub names-wrong : names ≡ Unknown → r .verdict ≡ Refused (Heading at) → LeadsBy q (λ v. namedBy v names at) r
   names-wrong e t catalog calls acts v h = rw e t
 
 -- the blank line
@@ -109,6 +118,8 @@ turned q =
       steps = q .steps;
       acts = q .acts;
       last = q .last;
+      upto = q .upto;
+      form = 0;
     }
 
 module _ (q : Seen) (bytes at : ℕ) (r : Scanned) where
@@ -118,7 +129,9 @@ module _ (q : Seen) (bytes at : ℕ) (r : Scanned) where
       (goes r (turned q) catalog calls acts (nextTable v) t s
       (record {
         table = add-one (q .table) ∙ ap suc (h .table);
+        upto = h .upto;
         named = refl;
+        form = refl;
         k = h .k;
         h = h .h;
         few = h .few;
@@ -146,6 +159,8 @@ sized q k h =
       steps = q .steps;
       acts = q .acts;
       last = q .last;
+      upto = q .upto;
+      form = q .form;
     }
 
 module _ (q : Seen) (size plan at : ℕ) (r : Scanned) where
@@ -156,7 +171,9 @@ module _ (q : Seen) (size plan at : ℕ) (r : Scanned) where
       (goes r (sized q size plan) catalog calls acts _ t s
       (record {
         table = h .table;
+        upto = h .upto;
         named = h .named;
+        form = h .form;
         k = refl;
         h = refl;
         few = h .few;
@@ -185,6 +202,8 @@ listed q i =
       steps = q .steps;
       acts = q .acts;
       last = q .last;
+      upto = q .upto;
+      form = q .form;
     }
 
 one-longer : {A : Type 0} (n : ℕ) (xs : List A) (x : A) → n ≡ length xs → n + 1 ≡ length (xs ++ (x ∷ []))
@@ -206,7 +225,9 @@ module _ (q : Seen) (catalog : List ℕ) (i b l w at : ℕ) (r : Scanned) where
       (goes r (listed q i) after calls acts _ t s
       (record {
         table = h .table;
+        upto = h .upto;
         named = h .named;
+        form = h .form;
         k = h .k;
         h = h .h;
         few = omega arith;
@@ -255,6 +276,8 @@ stepped q =
       steps = q .steps + 1;
       acts = q .acts;
       last = q .last;
+      upto = q .upto;
+      form = q .form;
     }
 
 -- what the table says to a step, by what the struct and the bytes hold
@@ -292,7 +315,9 @@ module _ (q : Seen) (catalog calls : List ℕ) (s : Step) (at number : ℕ) (r :
       (goes r (stepped q) catalog after acts _ t g
       (record {
         table = h .table;
+        upto = h .upto;
         named = h .named;
+        form = h .form;
         k = h .k;
         h = h .h;
         few = h .few;
@@ -334,6 +359,8 @@ acted q place =
       steps = q .steps;
       acts = q .acts + 1;
       last = place;
+      upto = q .upto;
+      form = q .form;
     }
 
 abbrev placed : ℕ → Act → Placed
@@ -383,7 +410,9 @@ module _ (q : Seen) (acts : List ℕ) (place : ℕ) (act : Act) (at : ℕ) (r : 
       (goes r (acted q place) catalog calls after _ t s
       (record {
         table = h .table;
+        upto = h .upto;
         named = h .named;
+        form = h .form;
         k = h .k;
         h = h .h;
         few = h .few;
@@ -416,10 +445,10 @@ module _ (q : Seen) (acts : List ℕ) (place : ℕ) (act : Act) (at : ℕ) (r : 
 -- the input's end
 pub end-leads :
     (q : Seen) (at : ℕ) (r : Scanned) → r .verdict ≡ endVerdict q at → r .seen ≡ q → LeadsBy q (λ v. atEnd v at) r
-end-leads q at r t s catalog calls acts v h = go (v .named && eqb (v .table) 3) (t ∙ same)
+end-leads q at r t s catalog calls acts v h = go (v .named && eqb (v .table) (v .upto)) (t ∙ same)
   where
-    same : endVerdict q at ≡ cond (v .named && eqb (v .table) 3) Taken (Refused (Heading at))
-    same = rw (h .named, h .table)
+    same : endVerdict q at ≡ cond (v .named && eqb (v .table) (v .upto)) Taken (Refused (Heading at))
+    same = rw (h .named, h .table, h .upto)
 
     go : (b : Bool) → r .verdict ≡ cond b Taken (Refused (Heading at)) → Leads (cond b (on v) (stop (Heading at))) r catalog calls acts
     go true e = goes r q catalog calls acts v e s h

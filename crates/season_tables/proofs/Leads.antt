@@ -6,16 +6,17 @@ use mathlib.Core.List.{List}
 use Prim.Native.Nat.{ℕ}
 use lib.ListN.{length}
 use lib.Dec.{eqb, leb, ltb}
-use Rattle.landlord.specs.declared.Refusal.the-variants.{Malformed, Heading}
+use Rattle.landlord.specs.declared.Refusal.the-variants.{Malformed}
 use Rattle.season_lines.specs.declared.Field.{Field}
 use Rattle.season_lines.specs.declared.Line.{Line}
 use Rattle.season_lines.specs.declared.Line.the-variants.{Sizes, Item as ItemLine, Step as StepLine, Act as ActLine, Refused as RefusedLine}
-use Rattle.season_lines.specs.Lines.{fieldsOf, lineIn}
-use Rattle.season_lines.proofs.Pieces.{line-item}
+use Rattle.season_lines.specs.declared.Names.{Names}
+use Rattle.season_lines.specs.Lines.{fieldsOf, formOf, lineIn}
+use Rattle.season_lines.proofs.Pieces.{Says, line-says}
 use Rattle.season_lines.proofs.Held.{held-line}
 use Rattle.season_tables.specs.declared.Seen.{Seen}
 use Rattle.season_tables.specs.declared.Scanned.{Scanned}
-use Rattle.season_tables.specs.Tables.{Sofar, Led, on, stop, nowNamed, nextTable, heading, sameBytes, mayEnd, mustEnd, takes, leads}
+use Rattle.season_tables.specs.Tables.{Sofar, Led, on, stop, nextTable, mayEnd, mustEnd, namedBy, takes, leads}
 use Rattle.season_tables.specs.Inner.{Holds, Leads, LeadsFrom, LeadsBy, Looked, ItemPlaced, wantsValues}
 
 unnamed : {A : Type 0} (t : Bool) (x y : A) → t ≡ false → cond t x y ≡ y
@@ -42,75 +43,87 @@ blank true false may true x y z w f g e = refl
 blank true false may false x y z w f g e = absurd (false≢true (sym e))
 blank false b may m x y z w f g e = absurd (false≢true g)
 
-must-may : (table k : ℕ) → mustEnd table k ≡ true → mayEnd table k ≡ true
-must-may table k = go (eqb table 0)
+must-may : (upto table k : ℕ) → mustEnd table k ≡ true → mayEnd upto table k ≡ true
+must-may upto table k = go (eqb table 0)
   where
-    go : (t : Bool) → cond t (leb 1 k) false ≡ true → cond t (leb 1 k) (ltb table 3) ≡ true
+    go : (t : Bool) → cond t (leb 1 k) false ≡ true → cond t (leb 1 k) (ltb table upto) ≡ true
     go true e = e
     go false e = absurd (false≢true e)
 
 -- where each leads
 module _ (v : Sofar) (l : List ℕ) (n : ℕ) where
-  pub leads-names : v .named ≡ false → leads v l n ≡ cond (sameBytes l (heading (v .table))) (on (nowNamed v)) (stop (Heading n))
+  pub leads-names : v .named ≡ false → leads v l n ≡ namedBy v (formOf (v .table) l) n
   unfolding leads
   leads-names e = unnamed (v .named) _ _ e
 
-  pub leads-values : wantsValues (v .named) (v .table) (v .k) (length l) ≡ true → leads v l n ≡ takes v (lineIn (v .table) (fieldsOf l) n) n
+  pub leads-values :
+      wantsValues (v .named) (v .upto) (v .table) (v .k) (length l) ≡ true →
+      leads v l n ≡ takes v (lineIn (v .table) (v .form) (fieldsOf l) n) n
   unfolding leads wantsValues
-  leads-values e = valued (v .named) (cond (eqb (length l) 0) (mayEnd (v .table) (v .k)) false) (mustEnd (v .table) (v .k)) _ _ _ _ e
+  leads-values e =
+      valued (v .named) (cond (eqb (length l) 0) (mayEnd (v .upto) (v .table) (v .k)) false) (mustEnd (v .table) (v .k)) _ _ _ _ e
 
   pub leads-blank :
       v .named ≡ true →
-      wantsValues (v .named) (v .table) (v .k) (length l) ≡ false →
+      wantsValues (v .named) (v .upto) (v .table) (v .k) (length l) ≡ false →
       leads v l n ≡ cond (eqb (length l) 0) (on (nextTable v)) (stop (Malformed n))
   unfolding leads wantsValues
   leads-blank e f =
-      blank (v .named) (eqb (length l) 0) (mayEnd (v .table) (v .k)) (mustEnd (v .table) (v .k)) _ _ _ _ (must-may (v .table) (v .k)) e f
+      blank (v .named) (eqb (length l) 0) (mayEnd (v .upto) (v .table) (v .k)) (mustEnd (v .table) (v .k)) _ _ _ _
+      (must-may (v .upto) (v .table) (v .k)) e f
 
 -- an item's line has a number that has a place
-pub line-numbered : (table : ℕ) (fs : List Field) (n : ℕ) (line : Line) → line ≡ lineIn table fs n → ItemPlaced line
-line-numbered table fs n (Sizes k h) e = tt
-line-numbered table fs n (ItemLine i b l w) e = line-item table fs n i b l w (sym e) .0
-line-numbered table fs n (StepLine s) e = tt
-line-numbered table fs n (ActLine place act) e = tt
-line-numbered table fs n (RefusedLine r) e = tt
+pub line-numbered : (table form : ℕ) (fs : List Field) (n : ℕ) (line : Line) → line ≡ lineIn table form fs n → ItemPlaced line
+line-numbered table form fs n line e = go line (subst (Says table (length fs) n) (sym e) (line-says table form fs n))
+  where
+    go : (line : Line) → Says table (length fs) n line → ItemPlaced line
+    go (Sizes k h) s = tt
+    go (ItemLine i b l w) s = s .1
+    go (StepLine step) s = tt
+    go (ActLine place act) s = tt
+    go (RefusedLine r) s = tt
 
 -- and so for the struct
 module _ (q : Seen) (catalog calls acts l : List ℕ) (n : ℕ) (r : Scanned) where
   pub lead-names :
-      (right : Bool) →
+      (names : Names) →
       q .named ≡ false →
-      right ≡ sameBytes l (heading (q .table)) →
-      LeadsBy q (λ v. cond right (on (nowNamed v)) (stop (Heading n))) r →
+      names ≡ formOf (q .table) l →
+      LeadsBy q (λ v. namedBy v names n) r →
       LeadsFrom q catalog calls acts (λ v. leads v l n) r catalog calls acts
-  lead-names right e f led v h =
-      let same : right ≡ sameBytes l (heading (v .table)) = f ∙ ap (λ (t : ℕ). sameBytes l (heading t)) (h .table) in
+  lead-names names e f led v h =
+      let same : names ≡ formOf (v .table) l = f ∙ ap (λ (t : ℕ). formOf t l) (h .table) in
       subst (λ (x : Led). Leads x r catalog calls acts)
-      (ap (λ (t : Bool). cond t (on (nowNamed v)) (stop (Heading n))) same ∙ sym (leads-names v l n (sym (h .named) ∙ e)))
+      (ap (λ (x : Names). namedBy v x n) same ∙ sym (leads-names v l n (sym (h .named) ∙ e)))
       (led catalog calls acts v h)
 
-  same-wants : (v : Sofar) → Holds q catalog calls acts v → q .named ≡ true → wantsValues (v .named) (v .table) (v .k) (length l) ≡ wantsValues true (q .table) (q .k) (length l)
-  same-wants v h e = λ i. wantsValues ((sym (h .named) ∙ e) i) (sym (h .table) i) (sym (h .k) i) (length l)
+  same-wants :
+      (v : Sofar) →
+      Holds q catalog calls acts v →
+      q .named ≡ true →
+      wantsValues (v .named) (v .upto) (v .table) (v .k) (length l) ≡ wantsValues true (q .upto) (q .table) (q .k) (length l)
+  same-wants v h e = λ i. wantsValues ((sym (h .named) ∙ e) i) (sym (h .upto) i) (sym (h .table) i) (sym (h .k) i) (length l)
 
   pub lead-values :
       (fs : List Field) (line : Line) (catalog-after calls-after acts-after : List ℕ) →
       q .named ≡ true →
-      wantsValues true (q .table) (q .k) (length l) ≡ true →
+      wantsValues true (q .upto) (q .table) (q .k) (length l) ≡ true →
       Looked q l fs →
-      line ≡ lineIn (q .table) fs n →
+      line ≡ lineIn (q .table) (q .form) fs n →
       LeadsFrom q catalog calls acts (λ v. takes v line n) r catalog-after calls-after acts-after →
       LeadsFrom q catalog calls acts (λ v. leads v l n) r catalog-after calls-after acts-after
   lead-values fs line catalog-after calls-after acts-after e f looked g led v h =
-      let due : wantsValues (q .named) (q .table) (q .k) (length l) ≡ true = ap (λ (b : Bool). wantsValues b (q .table) (q .k) (length l)) e ∙ f in
-      let same : line ≡ lineIn (v .table) (fieldsOf l) n =
-      g ∙ (λ i. lineIn (h .table i) (looked due i) n) ∙ held-line (v .table) (fieldsOf l) n in
+      let due : wantsValues (q .named) (q .upto) (q .table) (q .k) (length l) ≡ true =
+      ap (λ (b : Bool). wantsValues b (q .upto) (q .table) (q .k) (length l)) e ∙ f in
+      let same : line ≡ lineIn (v .table) (v .form) (fieldsOf l) n =
+      g ∙ (λ i. lineIn (h .table i) (h .form i) (looked due i) n) ∙ held-line (v .table) (v .form) (fieldsOf l) n in
       subst (λ (x : Led). Leads x r catalog-after calls-after acts-after)
       (ap (λ (x : Line). takes v x n) same ∙ sym (leads-values v l n (same-wants v h e ∙ f)))
       (led v h)
 
   pub lead-blank :
       q .named ≡ true →
-      wantsValues true (q .table) (q .k) (length l) ≡ false →
+      wantsValues true (q .upto) (q .table) (q .k) (length l) ≡ false →
       LeadsBy q (λ v. cond (eqb (length l) 0) (on (nextTable v)) (stop (Malformed n))) r →
       LeadsFrom q catalog calls acts (λ v. leads v l n) r catalog calls acts
   lead-blank e f led v h =

@@ -1,4 +1,3 @@
-pub mod Bytes
 pub mod Notes
 pub mod Items
 pub mod Keeps

@@ -9,21 +9,20 @@ use Prim.Native.Nat.{ℕ, zero, suc, _+_, _*_, _-_, _≤_, _<_}
 use native.Mathlib.Omega.{arith}
 use lib.ListN.{length, length-append}
 use lib.Dec.{leb, ltb, eqb}
-use borrow.Author.Tests.{eqb-true}
 use Rattle.landlord.specs.declared.Refusal.{Refusal}
 use Rattle.landlord.specs.declared.Refusal.the-variants.{UnknownItem, ItemTooLarge}
 use Rattle.landlord.specs.Types.{stepItem, actItem, refusalLine}
 use Rattle.landlord.specs.Calls.{itemRefusal}
 use Rattle.landlord.proofs.Folds.{either}
-use Rattle.season_lines.specs.declared.Field.{Field}
+use Rattle.season_lines.specs.declared.Names.{Names}
+use Rattle.season_lines.specs.declared.Names.the-variants.{Form, Unknown}
 use Rattle.season_lines.specs.declared.Line.{Line}
 use Rattle.season_lines.specs.declared.Line.the-variants.{Sizes, Item as ItemLine, Step as StepLine, Act as ActLine, Refused}
-use Rattle.season_lines.specs.Lines.{split, fieldsOf, itemFrom, lineIn}
-use Rattle.season_lines.proofs.Laws.{and-parts}
-use Rattle.season_lines.proofs.Pieces.{line-refused}
-use Rattle.season_tables.specs.Tables.{Placed, Sofar, Led, on, stop, atStart, inTurn, takes, mayEnd, mustEnd, heading, sameBytes, leads, atEnd, goesOn, readFrom, readingOf}
+use Rattle.season_lines.specs.Lines.{split, fieldsOf, formOf, itemFrom}
+use Rattle.season_lines.proofs.Pieces.{Says, line-says}
+use Rattle.season_tables.specs.Tables.{Placed, Sofar, Led, on, stop, atStart, inTurn, takes, mayEnd, mustEnd, namedBy, leads, atEnd, goesOn, readFrom, readingTo, readingOf}
 use Rattle.season_tables.specs.Inner.{isBlank, isSized}
-use Rattle.season_tables.proofs.Sound.{split-few}
+use Rattle.season_tables.proofs.Sound.{split-few, accepted-ends}
 
 -- one line, if the test says so
 abbrev oneIf : Bool → ℕ
@@ -45,10 +44,10 @@ above-sizes zero k j = either (λ b. b ≤ oneIf (isSized k) + 1) (isSized j) 1 
 above-sizes (suc t) k j = omega arith
 
 -- a blank line that may stand here
-above-next : (blank : Bool) (t k : ℕ) → cond blank (mayEnd t k) false ≡ true → linesAbove (suc t) k ≤ linesAbove t k + 2
-above-next false t k e = absurd (false≢true e)
-above-next true zero k e = let z : isSized k ≡ true = e in rw z (omega arith)
-above-next true (suc t) k e = omega arith
+above-next : (blank : Bool) (upto t k : ℕ) → cond blank (mayEnd upto t k) false ≡ true → linesAbove (suc t) k ≤ linesAbove t k + 2
+above-next false upto t k e = absurd (false≢true e)
+above-next true upto zero k e = let z : isSized k ≡ true = e in rw z (omega arith)
+above-next true upto (suc t) k e = omega arith
 
 -- ## One line
 
@@ -57,70 +56,51 @@ abbrev ByLine : ℕ → Led → Type 0
 ByLine n (on w) = linesRead w ≤ n
 ByLine n (stop r) = refusalLine r ≡ n
 
--- a value line that is refused by its fields names its own line
-abbrev OnLine : ℕ → Line → Type 0
-OnLine n (Sizes k h) = Unit {0}
-OnLine n (ItemLine i b l w) = Unit {0}
-OnLine n (StepLine s) = Unit {0}
-OnLine n (ActLine place act) = Unit {0}
-OnLine n (Refused r) = refusalLine r ≡ n
-
-line-on : (table : ℕ) (fs : List Field) (n : ℕ) → OnLine n (lineIn table fs n)
-line-on table fs n = go (lineIn table fs n) refl
-  where
-    go : (x : Line) → lineIn table fs n ≡ x → OnLine n x
-    go (Sizes k h) e = tt
-    go (ItemLine i b l w) e = tt
-    go (StepLine s) e = tt
-    go (ActLine place act) e = tt
-    go (Refused r) e = ⊎-elim (λ m. ap refusalLine m) (λ m. ap refusalLine m) (line-refused table fs n r e)
-
 -- any value line, and any line
-takes-by : (n : ℕ) (v : Sofar) (x : Line) → linesRead v < n → OnLine n x → ByLine n (takes v x n)
+takes-by : (table fields n : ℕ) (v : Sofar) (x : Line) → linesRead v < n → Says table fields n x → ByLine n (takes v x n)
 unfolding takes
-takes-by n v (Sizes k h) l o =
+takes-by table fields n v (Sizes k h) l o =
     either (ByLine n) (leb h k) _ _ (λ e. omega (arith, above-sizes (v .table) (v .k) k)) (λ e. refl)
-takes-by n v (ItemLine i b c w) l o =
+takes-by table fields n v (ItemLine i b c w) l o =
     either (ByLine n) (eqb i (length (v .catalog))) _ _
     (λ e. omega (arith, length-append (v .catalog) (itemFrom b c w ∷ []))) (λ e. refl)
-takes-by n v (StepLine s) l o =
+takes-by table fields n v (StepLine s) l o =
     let number = itemRefusal (v .k) (v .catalog) s in
     either (ByLine n) (eqb number 0) _ _
     (λ e. omega (arith, length-append (v .steps) (s ∷ [])))
     (λ e. either (λ r. refusalLine r ≡ n) (eqb number 6) (UnknownItem n (stepItem s)) (ItemTooLarge n (stepItem s)) (λ f. refl) (λ f. refl))
-takes-by n v (ActLine place act) l o =
+takes-by table fields n v (ActLine place act) l o =
     let a : Placed = record { place = place; act = act } in
     either (ByLine n) (inTurn v place) _ _
     (λ e. either (ByLine n) (ltb (actItem act) (length (v .catalog))) _ _
     (λ k. omega (arith, length-append (v .acts) (a ∷ []))) (λ k. refl))
     (λ e. refl)
-takes-by n v (Refused r) l o = o
+takes-by table fields n v (Refused r) l o = ⊎-elim (λ m. ap refusalLine m) (λ m. ap refusalLine m) o
 
 leads-by : (n : ℕ) (v : Sofar) (l : List ℕ) → linesRead v < n → ByLine n (leads v l n)
 unfolding leads
 leads-by n v l few =
     either (ByLine n) (v .named) _ _
-    (λ e. either (ByLine n) (cond (isBlank l) (mayEnd (v .table) (v .k)) false) _ _
-    (λ b. omega (arith, above-next (isBlank l) (v .table) (v .k) b, ap oneIf e))
+    (λ e. either (ByLine n) (cond (isBlank l) (mayEnd (v .upto) (v .table) (v .k)) false) _ _
+    (λ b. omega (arith, above-next (isBlank l) (v .upto) (v .table) (v .k) b, ap oneIf e))
     (λ b. either (ByLine n) (mustEnd (v .table) (v .k)) _ _ (λ m. refl)
-    (λ m. takes-by n v (lineIn (v .table) (fieldsOf l) n) few (line-on (v .table) (fieldsOf l) n))))
-    (λ e. either (ByLine n) (sameBytes l (heading (v .table))) _ _ (λ b. omega arith) (λ b. refl))
+    (λ m. takes-by (v .table) (length (fieldsOf l)) n v _ few (line-says (v .table) (v .form) (fieldsOf l) n))))
+    (λ e. names (formOf (v .table) l))
+  where
+    names : (x : Names) → ByLine n (namedBy v x n)
+    names (Form f) = omega arith
+    names Unknown = refl
 
 -- ## The whole text
 
--- the answer to a text of at most b lines, each with its line feed: all is read, with eight lines beside those of the items, steps and
--- acts; or the line named is one of these, or what stands behind them
+-- the answer to a text of at most b lines, each with its line feed: all is read, in no more lines; or the line named is one of these,
+-- or what stands behind them
 abbrev Within : ℕ → Led → Type 0
-Within b (on w) = 8 + length (w .catalog) + length (w .steps) + length (w .acts) ≤ b
+Within b (on w) = linesRead w ≤ b
 Within b (stop r) = refusalLine r ≤ b + 1
 
 end-within : (b n : ℕ) (v : Sofar) → linesRead v < n → n ≤ b + 1 → Within b (atEnd v n)
-end-within b n v few l =
-    either (Within b) (v .named && eqb (v .table) 3) _ _
-    (λ e.
-    let both = and-parts (v .named) (eqb (v .table) 3) e in
-    omega (arith, ap (λ t. linesAbove t (v .k)) (eqb-true (v .table) 3 (both .1)), ap oneIf (both .0)))
-    (λ e. l)
+end-within b n v few l = either (Within b) (v .named && eqb (v .table) (v .upto)) _ _ (λ e. omega arith) (λ e. l)
 
 then-within :
     (b n : ℕ) (x : Led) (next : Sofar → Led) →
@@ -139,13 +119,16 @@ read-within b n (x ∷ y ∷ rest) v few l =
     then-within b n (leads v x n) (readFrom (suc n) (y ∷ rest)) (leads-by n v x few) (omega arith)
     (λ w p. read-within b (suc n) (y ∷ rest) w (omega (arith, p)) (omega arith))
 
-text-within : (s : List ℕ) → Within (length s) (readingOf s)
-text-within s = read-within (length s) 1 (split 10 s) atStart (omega arith) (omega (arith, split-few 10 s))
+text-within : (upto : ℕ) (s : List ℕ) → Within (length s) (readingTo upto s)
+text-within upto s = read-within (length s) 1 (split 10 s) (atStart upto) (omega arith) (omega (arith, split-few 10 s))
 
 -- a refused text's line is at most one more than its bytes
 pub stop-line : (s : List ℕ) (r : Refusal) → readingOf s ≡ stop r → refusalLine r ≤ length s + 1
-stop-line s r e = subst (Within (length s)) e (text-within s)
+stop-line s r e = subst (Within (length s)) e (text-within 3 s)
 
 -- an accepted text has the lines of its items, steps and acts, and eight more: four lines of names, the sizes, three blank lines
 pub accepted-lines : (s : List ℕ) (v : Sofar) → readingOf s ≡ on v → 8 + length (v .catalog) + length (v .steps) + length (v .acts) ≤ length s
-accepted-lines s v e = subst (Within (length s)) e (text-within s)
+accepted-lines s v e =
+    let all = subst (Within (length s)) e (text-within 3 s) in
+    let ends = accepted-ends s v e in
+    omega (arith, all, ap oneIf (ends .0), ap (λ t. linesAbove t (v .k)) (ends .1))

@@ -1,6 +1,6 @@
 -- What an accepted text keeps (specs/InnerSound.antt), where its reading ends, and that it has no more steps and acts than bytes. What is
 -- claimed after i lines (After) holds before the first line, and each line that leads on keeps it. Assumes nothing.
-use mathlib.Core.Path.{_≡_, refl, subst}
+use mathlib.Core.Path.{_≡_, refl, subst, _∙_}
 use mathlib.Core.Bool.{Bool, true, false, cond, _&&_, false≢true}
 use mathlib.Core.List.{List, [], _∷_, _++_}
 use Prim.Native.Nat.{ℕ, suc, _+_, _-_, _≤_, _<_}
@@ -16,18 +16,19 @@ use Rattle.landlord.specs.declared.Act.{Act}
 use Rattle.landlord.specs.declared.Act.the-variants.{Fetch}
 use Rattle.landlord.specs.Types.{stepKind, stepItem, stepMinutes, actItem}
 use Rattle.landlord.specs.Fold.{fold}
-use Rattle.landlord.specs.Catalog.{Catalog, noItem, itemInRange}
+use Rattle.landlord.specs.Catalog.{Catalog, noItem}
 use Rattle.landlord.specs.Calls.{callOf, stepOf, inRange, itemRefusal, refusalAt}
 use Rattle.landlord.specs.Inner.{ItemFacts, CatalogFacts}
 use Rattle.landlord.proofs.Folds.{either, fold-append}
 use Rattle.landlord.proofs.Ranges.{item-facts, catalog-ok, capacity-ok}
-use Rattle.season_lines.specs.declared.Field.{Field}
+use Rattle.season_lines.specs.declared.Names.{Names}
+use Rattle.season_lines.specs.declared.Names.the-variants.{Form, Unknown}
 use Rattle.season_lines.specs.declared.Line.{Line}
 use Rattle.season_lines.specs.declared.Line.the-variants.{Sizes, Item as ItemLine, Step as StepLine, Act as ActLine, Refused}
-use Rattle.season_lines.specs.Lines.{onto, split, fieldsOf, itemFrom, lineIn}
+use Rattle.season_lines.specs.Lines.{onto, split, fieldsOf, formOf, itemFrom}
 use Rattle.season_lines.proofs.Laws.{and-parts}
-use Rattle.season_lines.proofs.Pieces.{line-sizes, line-item, line-step, table-sizes, table-item, table-step, table-act}
-use Rattle.season_tables.specs.Tables.{Placed, Sofar, Led, on, stop, atStart, nowNamed, nextTable, withSizes, withItem, withStep, withAct, inTurn, takes, mayEnd, mustEnd, heading, sameBytes, leads, atEnd, goesOn, readFrom, readingOf}
+use Rattle.season_lines.proofs.Pieces.{Says, line-says}
+use Rattle.season_tables.specs.Tables.{Placed, Sofar, Led, on, stop, atStart, nowNamed, nextTable, withSizes, withItem, withStep, withAct, inTurn, takes, mayEnd, mustEnd, namedBy, leads, atEnd, goesOn, readFrom, readingTo, readingOf}
 use Rattle.season_tables.specs.Inner.{isBlank, lastPlace}
 use Rattle.season_tables.specs.InnerSound.{placedAt, Sound}
 
@@ -35,24 +36,6 @@ use Rattle.season_tables.specs.InnerSound.{placedAt, Sound}
 abbrev Leading : (Sofar → Type 0) → Led → Type 0
 Leading P (on w) = P w
 Leading P (stop r) = Unit {0}
-
--- what a value line of a table says of its own numbers
-abbrev Says : ℕ → Line → Type 0
-Says table (Sizes k h) = (table ≡ 0) × (1 ≤ k) × (k ≤ 4096) × (1 ≤ h)
-Says table (ItemLine i b l w) = (table ≡ 1) × (i ≤ 255) × (itemInRange (itemFrom b l w) ≡ true)
-Says table (StepLine s) = (table ≡ 2) × (inRange (stepKind s) (stepItem s) (stepMinutes s) ≡ true)
-Says table (ActLine place act) = 3 ≤ table
-Says table (Refused r) = Unit {0}
-
-line-says : (table : ℕ) (fs : List Field) (n : ℕ) → Says table (lineIn table fs n)
-line-says table fs n = go (lineIn table fs n) refl
-  where
-    go : (x : Line) → lineIn table fs n ≡ x → Says table x
-    go (Sizes k h) e = let f = line-sizes table fs n k h e in (table-sizes table fs n k h e .0, f .0, f .1, f .2)
-    go (ItemLine i b l w) e = let f = line-item table fs n i b l w e in (table-item table fs n i b l w e .0, f .0, f .1)
-    go (StepLine s) e = (table-step table fs n s e .0, line-step table fs n s e .1)
-    go (ActLine place act) e = table-act table fs n place act e .0
-    go (Refused r) e = tt
 
 -- a step of a text: in range, and its item known and not too large
 record StepFits (k : ℕ) (cat : Catalog) (s : Step) : Type 0 where
@@ -73,7 +56,8 @@ record SizesFit (k h : ℕ) : Type 0 where
 
 -- what holds after any lines
 record Partial (v : Sofar) : Type 0 where
-  tables : v .table ≤ 3
+  low : 1 ≤ v .upto
+  tables : v .table ≤ v .upto
   sized : 1 ≤ v .table → 1 ≤ v .k
   noSteps : v .table ≤ 1 → length (v .steps) ≡ 0
   noActs : v .table ≤ 2 → length (v .acts) ≡ 0
@@ -83,8 +67,9 @@ record Partial (v : Sofar) : Type 0 where
   acts : (j : ℕ) → j < length (v .acts) → ActFits v (placedAt (v .acts) j)
   inOrder : (i j : ℕ) → i ≤ j → j < length (v .acts) → placedAt (v .acts) i .place ≤ placedAt (v .acts) j .place
 
--- and after i lines, each of which adds a step, or an act, or neither
-record After (i : ℕ) (v : Sofar) : Type 0 where
+-- and after i lines, each of which adds a step, or an act, or neither; u is the last table
+record After (u i : ℕ) (v : Sofar) : Type 0 where
+  upto : v .upto ≡ u
   few : length (v .steps) + length (v .acts) ≤ i
   so : Partial v
 
@@ -106,12 +91,14 @@ each-more P d xs x h p j l = go (ℕ-discrete j (length xs))
         let b : j < length xs = omega (arith, length-append xs (x ∷ [])) in
         rw (List·getD-append xs (x ∷ []) d j b) (h j b)
 
-start-after : After 0 atStart
-start-after =
+start-after : (u : ℕ) → 1 ≤ u → After u 0 (atStart u)
+start-after u low =
     record {
+      upto = refl;
       few = omega arith;
       so =
           record {
+            low = low;
             tables = omega arith;
             sized = λ l. absurd (omega arith);
             noSteps = λ l. refl;
@@ -137,13 +124,15 @@ act-fits v w a c s p f = record { known = omega (arith, f .known); within = omeg
 -- ## Each line that leads on keeps it
 
 -- the line of names
-named-after : (i : ℕ) (v : Sofar) → After i v → After (suc i) (nowNamed v)
-named-after i v p =
+named-after : (u i : ℕ) (v : Sofar) (f : ℕ) → After u i v → After u (suc i) (nowNamed v f)
+named-after u i v f p =
     let q = p .so in
     record {
+      upto = p .upto;
       few = omega (arith, p .few);
       so =
           record {
+            low = q .low;
             tables = q .tables;
             sized = q .sized;
             noSteps = q .noSteps;
@@ -151,28 +140,30 @@ named-after i v p =
             sizes = q .sizes;
             catalog = q .catalog;
             steps = q .steps;
-            acts = λ j l. act-fits v (nowNamed v) _ (omega arith) (omega arith) (omega arith) (q .acts j l);
+            acts = λ j l. act-fits v (nowNamed v f) _ (omega arith) (omega arith) (omega arith) (q .acts j l);
             inOrder = q .inOrder;
           };
     }
 
--- a blank line ends table 0 only behind the sizes, and never table 3
-may-end : (table k : ℕ) → mayEnd table k ≡ true → (table < 3) × (table ≡ 0 → 1 ≤ k)
-may-end table k e = go (eqb table 0) refl e
+-- a blank line ends table 0 only behind the sizes, and never the last table
+may-end : (upto table k : ℕ) → 1 ≤ upto → mayEnd upto table k ≡ true → (table < upto) × (table ≡ 0 → 1 ≤ k)
+may-end upto table k low e = go (eqb table 0) refl e
   where
-    go : (t : Bool) → eqb table 0 ≡ t → cond t (leb 1 k) (ltb table 3) ≡ true → (table < 3) × (table ≡ 0 → 1 ≤ k)
+    go : (t : Bool) → eqb table 0 ≡ t → cond t (leb 1 k) (ltb table upto) ≡ true → (table < upto) × (table ≡ 0 → 1 ≤ k)
     go true z e = (omega (arith, eqb-true table 0 z), λ q. leb-true 1 k e)
-    go false z e = (ltb-true table 3 e, λ q. absurd (eqb-false table 0 z q))
+    go false z e = (ltb-true table upto e, λ q. absurd (eqb-false table 0 z q))
 
 -- the blank line
-next-after : (i : ℕ) (v : Sofar) → After i v → mayEnd (v .table) (v .k) ≡ true → After (suc i) (nextTable v)
-next-after i v p e =
+next-after : (u i : ℕ) (v : Sofar) → After u i v → mayEnd (v .upto) (v .table) (v .k) ≡ true → After u (suc i) (nextTable v)
+next-after u i v p e =
     let q = p .so in
-    let m = may-end (v .table) (v .k) e in
+    let m = may-end (v .upto) (v .table) (v .k) (q .low) e in
     record {
+      upto = p .upto;
       few = omega (arith, p .few);
       so =
           record {
+            low = q .low;
             tables = m .0;
             sized = λ l. sized (ℕ-discrete (v .table) 0);
             noSteps = λ l. q .noSteps (omega arith);
@@ -186,19 +177,26 @@ next-after i v p e =
     }
   where
     sized : Dec (v .table ≡ 0) → 1 ≤ v .k
-    sized (yes z) = may-end (v .table) (v .k) e .1 z
+    sized (yes z) = may-end (v .upto) (v .table) (v .k) (p .so .low) e .1 z
     sized (no z) = p .so .sized (omega arith)
 
 -- a value line of each table: what stands in the later tables is not read yet
-sizes-after : (i : ℕ) (v : Sofar) (k h : ℕ) → After i v → Says (v .table) (Sizes k h) → h ≤ k → After (suc i) (withSizes v k h)
-sizes-after i v k h p s l =
+sizes-after :
+    (u i fields n : ℕ) (v : Sofar) (k h : ℕ) →
+    After u i v →
+    Says (v .table) fields n (Sizes k h) →
+    h ≤ k →
+    After u (suc i) (withSizes v k h)
+sizes-after u i fields n v k h p s l =
     let q = p .so in
     let noSteps : length (v .steps) ≡ 0 = q .noSteps (omega arith) in
     let noActs : length (v .acts) ≡ 0 = q .noActs (omega arith) in
     record {
+      upto = p .upto;
       few = omega (arith, p .few);
       so =
           record {
+            low = q .low;
             tables = q .tables;
             sized = λ l. s .1;
             noSteps = q .noSteps;
@@ -212,19 +210,21 @@ sizes-after i v k h p s l =
     }
 
 item-after :
-    (i : ℕ) (v : Sofar) (number b l w : ℕ) →
-    After i v →
-    Says (v .table) (ItemLine number b l w) →
+    (u i fields n : ℕ) (v : Sofar) (number b l w : ℕ) →
+    After u i v →
+    Says (v .table) fields n (ItemLine number b l w) →
     number ≡ length (v .catalog) →
-    After (suc i) (withItem v b l w)
-item-after i v number b l w p s e =
+    After u (suc i) (withItem v b l w)
+item-after u i fields n v number b l w p s e =
     let q = p .so in
     let noSteps : length (v .steps) ≡ 0 = q .noSteps (omega arith) in
     let noActs : length (v .acts) ≡ 0 = q .noActs (omega arith) in
     record {
+      upto = p .upto;
       few = omega (arith, p .few);
       so =
           record {
+            low = q .low;
             tables = q .tables;
             sized = q .sized;
             noSteps = q .noSteps;
@@ -242,25 +242,27 @@ item-after i v number b l w p s e =
     }
 
 step-after :
-    (i : ℕ) (v : Sofar) (s : Step) →
-    After i v →
-    Says (v .table) (StepLine s) →
+    (u i fields n : ℕ) (v : Sofar) (s : Step) →
+    After u i v →
+    Says (v .table) fields n (StepLine s) →
     itemRefusal (v .k) (v .catalog) s ≡ 0 →
-    After (suc i) (withStep v s)
-step-after i v s p r e =
+    After u (suc i) (withStep v s)
+step-after u i fields n v s p r e =
     let q = p .so in
     let noActs : length (v .acts) ≡ 0 = q .noActs (omega arith) in
     record {
+      upto = p .upto;
       few = omega (arith, p .few, length-append (v .steps) (s ∷ []));
       so =
           record {
+            low = q .low;
             tables = q .tables;
             sized = q .sized;
             noSteps = λ l. absurd (omega arith);
             noActs = q .noActs;
             sizes = q .sizes;
             catalog = q .catalog;
-            steps = each-more (StepFits (v .k) (v .catalog)) Flush (v .steps) s (q .steps) (record { ranged = r .1; taken = e });
+            steps = each-more (StepFits (v .k) (v .catalog)) Flush (v .steps) s (q .steps) (record { ranged = r .2; taken = e });
             acts = λ j l. none _ j noActs l;
             inOrder = λ i j m l. none _ j noActs l;
           };
@@ -272,18 +274,20 @@ unfolding fold
 last-more acts a = fold-append (λ (p : ℕ) (a : Placed). a .place) 0 acts (a ∷ [])
 
 act-after :
-    (i : ℕ) (v : Sofar) (place : ℕ) (act : Act) →
-    After i v →
+    (u i : ℕ) (v : Sofar) (place : ℕ) (act : Act) →
+    After u i v →
     3 ≤ v .table →
     inTurn v place ≡ true →
     actItem act < length (v .catalog) →
-    After (suc i) (withAct v place act)
-act-after i v place act p t e k =
+    After u (suc i) (withAct v place act)
+act-after u i v place act p t e k =
     let q = p .so in
     record {
+      upto = p .upto;
       few = omega (arith, p .few, length-append (v .acts) (a ∷ []));
       so =
           record {
+            low = q .low;
             tables = q .tables;
             sized = q .sized;
             noSteps = q .noSteps;
@@ -325,55 +329,67 @@ act-after i v place act p t e k =
         rw (List·getD-append (v .acts) (a ∷ []) _ i c, List·getD-append (v .acts) (a ∷ []) _ j b) (p .so .inOrder i j m b)
 
 -- any value line, and any line
-takes-after : (i n : ℕ) (v : Sofar) (x : Line) → After i v → Says (v .table) x → Leading (After (suc i)) (takes v x n)
+takes-after :
+    (u i fields n : ℕ) (v : Sofar) (x : Line) → After u i v → Says (v .table) fields n x → Leading (After u (suc i)) (takes v x n)
 unfolding takes
-takes-after i n v (Sizes k h) p s =
-    either (Leading (After (suc i))) (leb h k) _ _ (λ e. sizes-after i v k h p s (leb-true h k e)) (λ e. tt)
-takes-after i n v (ItemLine number b l w) p s =
-    either (Leading (After (suc i))) (eqb number (length (v .catalog))) _ _
-    (λ e. item-after i v number b l w p s (eqb-true number (length (v .catalog)) e)) (λ e. tt)
-takes-after i n v (StepLine s) p r =
-    either (Leading (After (suc i))) (eqb (itemRefusal (v .k) (v .catalog) s) 0) _ _
-    (λ e. step-after i v s p r (eqb-true (itemRefusal (v .k) (v .catalog) s) 0 e)) (λ e. tt)
-takes-after i n v (ActLine place act) p t =
-    either (Leading (After (suc i))) (inTurn v place) _ _
-    (λ e. either (Leading (After (suc i))) (ltb (actItem act) (length (v .catalog))) _ _
-    (λ k. act-after i v place act p t e (ltb-true (actItem act) (length (v .catalog)) k)) (λ k. tt))
+takes-after u i fields n v (Sizes k h) p s =
+    either (Leading (After u (suc i))) (leb h k) _ _ (λ e. sizes-after u i fields n v k h p s (leb-true h k e)) (λ e. tt)
+takes-after u i fields n v (ItemLine number b l w) p s =
+    either (Leading (After u (suc i))) (eqb number (length (v .catalog))) _ _
+    (λ e. item-after u i fields n v number b l w p s (eqb-true number (length (v .catalog)) e)) (λ e. tt)
+takes-after u i fields n v (StepLine s) p r =
+    either (Leading (After u (suc i))) (eqb (itemRefusal (v .k) (v .catalog) s) 0) _ _
+    (λ e. step-after u i fields n v s p r (eqb-true (itemRefusal (v .k) (v .catalog) s) 0 e)) (λ e. tt)
+takes-after u i fields n v (ActLine place act) p t =
+    either (Leading (After u (suc i))) (inTurn v place) _ _
+    (λ e. either (Leading (After u (suc i))) (ltb (actItem act) (length (v .catalog))) _ _
+    (λ k. act-after u i v place act p (t .0) e (ltb-true (actItem act) (length (v .catalog)) k)) (λ k. tt))
     (λ e. tt)
-takes-after i n v (Refused r) p s = tt
+takes-after u i fields n v (Refused r) p s = tt
 
 blank : (a b : Bool) → cond a b false ≡ true → b ≡ true
 blank true b e = e
 blank false b e = absurd (false≢true e)
 
-leads-after : (i n : ℕ) (v : Sofar) (l : List ℕ) → After i v → Leading (After (suc i)) (leads v l n)
+leads-after : (u i n : ℕ) (v : Sofar) (l : List ℕ) → After u i v → Leading (After u (suc i)) (leads v l n)
 unfolding leads
-leads-after i n v l p =
+leads-after u i n v l p =
     either Q (v .named) _ _
-    (λ e. either Q (cond (isBlank l) (mayEnd (v .table) (v .k)) false) _ _
-    (λ b. next-after i v p (blank (isBlank l) (mayEnd (v .table) (v .k)) b))
+    (λ e. either Q (cond (isBlank l) (mayEnd (v .upto) (v .table) (v .k)) false) _ _
+    (λ b. next-after u i v p (blank (isBlank l) (mayEnd (v .upto) (v .table) (v .k)) b))
     (λ b. either Q (mustEnd (v .table) (v .k)) _ _ (λ m. tt)
-    (λ m. takes-after i n v (lineIn (v .table) (fieldsOf l) n) p (line-says (v .table) (fieldsOf l) n))))
-    (λ e. either Q (sameBytes l (heading (v .table))) _ _ (λ b. named-after i v p) (λ b. tt))
+    (λ m. takes-after u i (length (fieldsOf l)) n v _ p (line-says (v .table) (v .form) (fieldsOf l) n))))
+    (λ e. names (formOf (v .table) l))
   where
     Q : Led → Type 0
-    Q = Leading (After (suc i))
+    Q = Leading (After u (suc i))
+
+    names : (x : Names) → Q (namedBy v x n)
+    names (Form f) = named-after u i v f p
+    names Unknown = tt
 
 -- ## The whole text
 
--- where a reading ends, after b lines at most
-record Ended (b : ℕ) (v : Sofar) : Type 0 where
+-- where a reading ends, after b lines at most: in the last table, u
+record Ended (u b : ℕ) (v : Sofar) : Type 0 where
   few : length (v .steps) + length (v .acts) ≤ b
   so : Partial v
   named : v .named ≡ true
-  table : v .table ≡ 3
+  table : v .table ≡ u
 
-end-after : (i b n : ℕ) (v : Sofar) → i ≤ b → After i v → Leading (Ended b) (atEnd v n)
-end-after i b n v l p =
-    either (Leading (Ended b)) (v .named && eqb (v .table) 3) _ _ (λ e. done (and-parts (v .named) (eqb (v .table) 3) e)) (λ e. tt)
+end-after : (u i b n : ℕ) (v : Sofar) → i ≤ b → After u i v → Leading (Ended u b) (atEnd v n)
+end-after u i b n v l p =
+    either (Leading (Ended u b)) (v .named && eqb (v .table) (v .upto)) _ _
+    (λ e. done (and-parts (v .named) (eqb (v .table) (v .upto)) e)) (λ e. tt)
   where
-    done : (v .named ≡ true) × (eqb (v .table) 3 ≡ true) → Ended b v
-    done e = record { few = omega (arith, p .few); so = p .so; named = e .0; table = eqb-true (v .table) 3 (e .1) }
+    done : (v .named ≡ true) × (eqb (v .table) (v .upto) ≡ true) → Ended u b v
+    done e =
+        record {
+          few = omega (arith, p .few);
+          so = p .so;
+          named = e .0;
+          table = eqb-true (v .table) (v .upto) (e .1) ∙ p .upto;
+        }
 
 goes-on :
     (P Q : Sofar → Type 0) (x : Led) (next : Sofar → Led) →
@@ -383,13 +399,18 @@ goes-on :
 goes-on P Q (on v) next p f = f v p
 goes-on P Q (stop r) next p f = tt
 
-read-after : (i b n : ℕ) (ls : List (List ℕ)) (v : Sofar) → i + (length ls - 1) ≤ b → After i v → Leading (Ended b) (readFrom n ls v)
+read-after :
+    (u i b n : ℕ) (ls : List (List ℕ)) (v : Sofar) →
+    i + (length ls - 1) ≤ b →
+    After u i v →
+    Leading (Ended u b) (readFrom n ls v)
 unfolding readFrom
-read-after i b n [] v l p = end-after i b n v (omega arith) p
-read-after i b n (x ∷ []) v l p = either (Leading (Ended b)) (isBlank x) _ _ (λ e. end-after i b n v (omega arith) p) (λ e. tt)
-read-after i b n (x ∷ y ∷ rest) v l p =
-    goes-on (After (suc i)) (Ended b) (leads v x n) (readFrom (suc n) (y ∷ rest)) (leads-after i n v x p)
-    (λ w q. read-after (suc i) b (suc n) (y ∷ rest) w (omega arith) q)
+read-after u i b n [] v l p = end-after u i b n v (omega arith) p
+read-after u i b n (x ∷ []) v l p =
+    either (Leading (Ended u b)) (isBlank x) _ _ (λ e. end-after u i b n v (omega arith) p) (λ e. tt)
+read-after u i b n (x ∷ y ∷ rest) v l p =
+    goes-on (After u (suc i)) (Ended u b) (leads v x n) (readFrom (suc n) (y ∷ rest)) (leads-after u i n v x p)
+    (λ w q. read-after u (suc i) b (suc n) (y ∷ rest) w (omega arith) q)
 
 -- a text has at most one piece more than bytes
 pub split-few : (b : ℕ) (s : List ℕ) → length (split b s) ≤ suc (length s)
@@ -403,18 +424,18 @@ split-few b (x ∷ s) =
     ahead [] l = omega arith
     ahead (p ∷ ps) l = omega arith
 
-accepted : (s : List ℕ) (v : Sofar) → readingOf s ≡ on v → Ended (length s) v
-accepted s v e =
-    subst (Leading (Ended (length s))) e
-    (read-after 0 (length s) 1 (split 10 s) atStart (omega (arith, split-few 10 s)) start-after)
+accepted : (u : ℕ) (s : List ℕ) (v : Sofar) → 1 ≤ u → readingTo u s ≡ on v → Ended u (length s) v
+accepted u s v low e =
+    subst (Leading (Ended u (length s))) e
+    (read-after u 0 (length s) 1 (split 10 s) (atStart u) (omega (arith, split-few 10 s)) (start-after u low))
 
 -- an accepted text ends behind the names of its last table
 pub accepted-ends : (s : List ℕ) (v : Sofar) → readingOf s ≡ on v → (v .named ≡ true) × (v .table ≡ 3)
-accepted-ends s v e = let a = accepted s v e in (a .named, a .table)
+accepted-ends s v e = let a = accepted 3 s v (omega arith) e in (a .named, a .table)
 
 -- it has no more steps and acts than bytes
 pub accepted-few : (s : List ℕ) (v : Sofar) → readingOf s ≡ on v → length (v .steps) + length (v .acts) ≤ length s
-accepted-few s v e = accepted s v e .few
+accepted-few s v e = accepted 3 s v (omega arith) e .few
 
 -- the table lets a step through that is in range, of a known item not too large, and not behind too many others
 let-through : (k : ℕ) (cat : Catalog) (j : ℕ) (s : Step) → j < 1000000 → StepFits k cat s → refusalAt k cat j false (callOf s) ≡ 0
@@ -426,7 +447,7 @@ let-through k cat j Flush l f = rw (lt-leb 1000000 j l)
 -- and what it says is sound
 pub accepted-sound : (s : List ℕ) (v : Sofar) → length s ≤ 65536 → readingOf s ≡ on v → Sound v
 accepted-sound s v l e =
-    let a = accepted s v e in
+    let a = accepted 3 s v (omega arith) e in
     let p = a .so in
     let k : 1 ≤ v .k = p .sized (omega arith) in
     record {

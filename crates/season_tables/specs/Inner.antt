@@ -8,7 +8,7 @@ use Rattle.season_tables.specs.Tables.{Placed, Sofar, Led, on, stop, may
 use Prim.Native.Nat.{ℕ, _+_, _*_, _≤_}
 use Rattle.catalog_bytes.specs.Inner.{catalogOfFirst}
 use Rattle.season_lines.specs.declared.{Field.Field, Line.{Line, the-variants.{Sizes, Item as ItemLine, Step as StepLine, Act as ActLine, Refused as RefusedLine}}}
-use Rattle.season_lines.specs.{Lines.fieldsOf, Inner.heldField}
+use Rattle.season_lines.specs.{Lines.fieldsOf, Inner.{heldField, Judgeable}}
 
 -- a blank line
 abbrev pub isBlank : List ℕ → Bool
@@ -39,7 +39,9 @@ putAt l i xs = take i l ++ (xs ++ drop (i + length xs) l)
 -- the struct and the slices hold what has been read
 pub record Holds (q : Seen) (catalog calls acts : List ℕ) (v : Sofar) : Type 0 where
   pub table : q .table ≡ v .table
+  pub upto : q .upto ≡ v .upto
   pub named : q .named ≡ v .named
+  pub form : q .form ≡ v .form
   pub k : q .k ≡ v .k
   pub h : q .h ≡ v .h
   pub few : q .n ≤ 256
@@ -51,13 +53,13 @@ pub record Holds (q : Seen) (catalog calls acts : List ℕ) (v : Sofar) : Type 0
   pub stepsNoted : take (4 * q .steps) calls ≡ callNumbers (v .steps)
   pub actsNoted : take (3 * q .acts) acts ≡ actNumbers (v .acts)
 
--- the struct before the first line
-abbrev pub nothingRead : Seen
-nothingRead = record { table = 0; named = false; k = 0; h = 0; n = 0; steps = 0; acts = 0; last = 0 }
+-- the struct before the first line of a text whose last table is the one numbered `upto`
+abbrev pub nothingRead : ℕ → Seen
+nothingRead upto = record { table = 0; named = false; k = 0; h = 0; n = 0; steps = 0; acts = 0; last = 0; upto = upto; form = 0 }
 
 -- the verdict at the input's end, on line n
 abbrev pub endVerdict : Seen → ℕ → Verdict
-endVerdict q n = cond (q .named && eqb (q .table) 3) Taken (Refused (Heading n))
+endVerdict q n = cond (q .named && eqb (q .table) (q .upto)) Taken (Refused (Heading n))
 
 -- the answer to a line, or to all of them: taken, with what has been read then; or the refusal
 abbrev pub Leads : Led → Scanned → List ℕ → List ℕ → List ℕ → Type 0
@@ -65,13 +67,13 @@ Leads (on v) r catalog calls acts = (r .verdict ≡ Taken) × Holds (r .seen) ca
 Leads (stop x) r catalog calls acts = r .verdict ≡ Refused x
 
 -- whether the fields of a line of so many bytes are looked at: a value line is due, and this is not the blank line
-unfoldable pub wantsValues : Bool → ℕ → ℕ → ℕ → Bool
-wantsValues isNamed table k bytes =
-    cond isNamed (cond (cond (eqb bytes 0) (mayEnd table k) false) false (not (mustEnd table k))) false
+unfoldable pub wantsValues : Bool → ℕ → ℕ → ℕ → ℕ → Bool
+wantsValues isNamed upto table k bytes =
+    cond isNamed (cond (cond (eqb bytes 0) (mayEnd upto table k) false) false (not (mustEnd table k))) false
 
 -- if a line is one with values, these are its fields, as the program holds them
 abbrev pub Looked : Seen → List ℕ → List Field → Type 0
-Looked q l fs = wantsValues (q .named) (q .table) (q .k) (length l) ≡ true → fs ≡ map heldField (fieldsOf l)
+Looked q l fs = wantsValues (q .named) (q .upto) (q .table) (q .k) (length l) ≡ true → fs ≡ map heldField (fieldsOf l)
 
 -- The answer leads where `led` says from what has been read, items, steps and acts being noted in these slices before and after.
 abbrev pub LeadsFrom : Seen → List ℕ → List ℕ → List ℕ → (Sofar → Led) → Scanned → List ℕ → List ℕ → List ℕ → Type 0
@@ -151,13 +153,15 @@ pub record Takeable (q : Seen) (line : Line) (catalog calls acts : List ℕ) : T
 -- what a line asks: the struct and the slices hold what has been read, and its fields were looked at
 pub record Leadable (q : Seen) (l : List ℕ) (fields : List Field) (count : ℕ) (catalog calls acts : List ℕ) : Type 0 where
   pub room : Room q catalog calls acts
-  pub few : count ≤ 4
+  pub judgeable : Judgeable fields count
   pub table : q .table ≤ 3
   pub looked : Looked q l (take count fields)
   pub read : Sofar
   pub holds : Holds q catalog calls acts read
 
--- what scanning asks: a text that is not too long
-pub record Scannable (s catalog calls acts : List ℕ) : Type 0 where
+-- what scanning asks: a last table that is not the first, and a text that is not too long
+pub record Scannable (upto : ℕ) (s catalog calls acts : List ℕ) : Type 0 where
+  pub low : 1 ≤ upto
+  pub high : upto ≤ 3
   pub short : length s ≤ 65536
   pub roomy : Roomy catalog calls acts

@@ -1,72 +1,65 @@
--- The four tables of the text input, read line by line: the first faulty line decides. Paper 01, 'The text input' and 'When the
--- library says no'. Assumes nothing.
+-- The tables of the text input, read line by line: the first faulty line decides. Paper 01, 'The text input' and 'When the library
+-- says no'. Assumes nothing.
 use mathlib.Core.{Bool.{Bool, true, false, cond, _&&_}, List.{List, [], _∷_, _++_}}
 use Prim.Native.Nat.{ℕ, suc}
 use lib.{ListN.length, Dec.{leb, ltb, eqb}}
 use Rattle.landlord.specs.declared.{Step.Step, Act.Act, Refusal.{Refusal, the-variants.{Malformed, Heading, OutOfSequence, PlanTooLarge, UnknownItem, ItemTooLarge, ActOutOfOrder}}}
 use Rattle.landlord.specs.{Types.{stepItem, actItem}, Fold.fold, Catalog.Catalog, Calls.itemRefusal}
-use Rattle.decimal.specs.Decimal.{textOf}
-use Rattle.season_lines.specs.declared.Line.{Line, the-variants.{Sizes, Item as ItemLine, Step as StepLine, Act as ActLine, Refused}}
-use Rattle.season_lines.specs.Lines.{split, fieldsOf, itemFrom, lineIn}
+use Rattle.season_lines.specs.declared.{Names.{Names, the-variants.{Form, Unknown}}, Line.{Line, the-variants.{Sizes, Item as ItemLine, Step as StepLine, Act as ActLine, Refused}}}
+use Rattle.season_lines.specs.Lines.{split, fieldsOf, formOf, itemFrom, lineIn}
 
 -- an act of the text: the 0-based step before which it stands, and what it does
 pub record Placed : Type 0 where
   pub place : ℕ
   pub act : Act
 
--- What has been read: in which table, the tables counted from 0, and whether behind its line of names; and what the value lines
--- said. Before the line of sizes k is 0.
+-- What has been read: in which table, the tables counted from 0, and which of them is the last; whether behind the table's line of
+-- names, and which of its headings that was, 0 before it; and what the value lines said. Before the line of sizes k is 0.
 pub record Sofar : Type 0 where
   pub table : ℕ
+  pub upto : ℕ
   pub named : Bool
+  pub form : ℕ
   pub k : ℕ
   pub h : ℕ
   pub catalog : Catalog
   pub steps : List Step
   pub acts : List Placed
 
--- before the first line
-abbrev pub atStart : Sofar
-atStart = record { table = 0; named = false; k = 0; h = 0; catalog = []; steps = []; acts = [] }
-
--- the names of each table
-unfoldable pub heading : ℕ → List ℕ
-heading table =
-    cond (eqb table 0) (textOf "locker rival")
-    (cond (eqb table 1) (textOf "sail blocks load write")
-    (cond (eqb table 2) (textOf "step sail minutes")
-    (textOf "at act sail")))
+-- before the first line of a text whose last table is the one numbered `upto`
+abbrev pub atStart : ℕ → Sofar
+atStart upto = record { table = 0; upto = upto; named = false; form = 0; k = 0; h = 0; catalog = []; steps = []; acts = [] }
 
 -- a line leads on, with what has been read then, or stops the reading
 pub data Led : Type 0 where
   on : Sofar → Led
   stop : Refusal → Led
 
--- the line of names is read
-abbrev pub nowNamed : Sofar → Sofar
-nowNamed v =
-    record { table = v .table; named = true; k = v .k; h = v .h; catalog = v .catalog; steps = v .steps; acts = v .acts }
+-- the line of names is read: heading f of its table
+abbrev pub nowNamed : Sofar → ℕ → Sofar
+nowNamed v f =
+    record { table = v .table; upto = v .upto; named = true; form = f; k = v .k; h = v .h; catalog = v .catalog; steps = v .steps; acts = v .acts }
 
 -- the blank line is read: the next table's names are due
 abbrev pub nextTable : Sofar → Sofar
 nextTable v =
-    record { table = suc (v .table); named = false; k = v .k; h = v .h; catalog = v .catalog; steps = v .steps; acts = v .acts }
+    record { table = suc (v .table); upto = v .upto; named = false; form = 0; k = v .k; h = v .h; catalog = v .catalog; steps = v .steps; acts = v .acts }
 
 abbrev pub withSizes : Sofar → ℕ → ℕ → Sofar
 withSizes v k h =
-    record { table = v .table; named = v .named; k = k; h = h; catalog = v .catalog; steps = v .steps; acts = v .acts }
+    record { table = v .table; upto = v .upto; named = v .named; form = v .form; k = k; h = h; catalog = v .catalog; steps = v .steps; acts = v .acts }
 
 abbrev pub withItem : Sofar → ℕ → ℕ → ℕ → Sofar
 withItem v b l w =
-    record { table = v .table; named = v .named; k = v .k; h = v .h; catalog = v .catalog ++ (itemFrom b l w ∷ []); steps = v .steps; acts = v .acts }
+    record { table = v .table; upto = v .upto; named = v .named; form = v .form; k = v .k; h = v .h; catalog = v .catalog ++ (itemFrom b l w ∷ []); steps = v .steps; acts = v .acts }
 
 abbrev pub withStep : Sofar → Step → Sofar
 withStep v s =
-    record { table = v .table; named = v .named; k = v .k; h = v .h; catalog = v .catalog; steps = v .steps ++ (s ∷ []); acts = v .acts }
+    record { table = v .table; upto = v .upto; named = v .named; form = v .form; k = v .k; h = v .h; catalog = v .catalog; steps = v .steps ++ (s ∷ []); acts = v .acts }
 
 abbrev pub withAct : Sofar → ℕ → Act → Sofar
 withAct v place act =
-    record { table = v .table; named = v .named; k = v .k; h = v .h; catalog = v .catalog; steps = v .steps; acts = v .acts ++ (record { place = place; act = act } ∷ []) }
+    record { table = v .table; upto = v .upto; named = v .named; form = v .form; k = v .k; h = v .h; catalog = v .catalog; steps = v .steps; acts = v .acts ++ (record { place = place; act = act } ∷ []) }
 
 -- "10 out of turn: `at` falls, or is not below the number of steps"; before the first act it falls from 0
 abbrev pub inTurn : Sofar → ℕ → Bool
@@ -87,32 +80,31 @@ takes v (ActLine place act) n =
     (stop (ActOutOfOrder n))
 takes v (Refused r) n = stop r
 
--- whether a blank line may stand here: behind the one line of `locker rival`, and in the two tables after it
-abbrev pub mayEnd : ℕ → ℕ → Bool
-mayEnd table k = cond (eqb table 0) (leb 1 k) (ltb table 3)
+-- whether a blank line may stand here: behind the one line of `locker rival`, and in each table after it but the last
+abbrev pub mayEnd : ℕ → ℕ → ℕ → Bool
+mayEnd upto table k = cond (eqb table 0) (leb 1 k) (ltb table upto)
 
 -- whether nothing else may: "A blank line due but not there is torn"
 abbrev pub mustEnd : ℕ → ℕ → Bool
 mustEnd table k = cond (eqb table 0) (leb 1 k) false
 
-unfoldable pub sameBytes : List ℕ → List ℕ → Bool
-sameBytes [] [] = true
-sameBytes [] (y ∷ t) = false
-sameBytes (x ∷ s) [] = false
-sameBytes (x ∷ s) (y ∷ t) = eqb x y && sameBytes s t
+-- the line of names, on line n: a heading of its table, or 2
+abbrev pub namedBy : Sofar → Names → ℕ → Led
+namedBy v (Form f) n = on (nowNamed v f)
+namedBy v Unknown n = stop (Heading n)
 
 -- a line l, ended by its line feed, on line n
 unfoldable pub leads : Sofar → List ℕ → ℕ → Led
 leads v l n =
     cond (v .named)
-    (cond (cond (eqb (length l) 0) (mayEnd (v .table) (v .k)) false) (on (nextTable v))
+    (cond (cond (eqb (length l) 0) (mayEnd (v .upto) (v .table) (v .k)) false) (on (nextTable v))
     (cond (mustEnd (v .table) (v .k)) (stop (Malformed n))
-    (takes v (lineIn (v .table) (fieldsOf l) n) n)))
-    (cond (sameBytes l (heading (v .table))) (on (nowNamed v)) (stop (Heading n)))
+    (takes v (lineIn (v .table) (v .form) (fieldsOf l) n) n)))
+    (namedBy v (formOf (v .table) l) n)
 
 -- The input's end, on line n: all is read behind the names of the last table, else "the input ends where a line is due".
 abbrev pub atEnd : Sofar → ℕ → Led
-atEnd v n = cond (v .named && eqb (v .table) 3) (on v) (stop (Heading n))
+atEnd v n = cond (v .named && eqb (v .table) (v .upto)) (on v) (stop (Heading n))
 
 abbrev pub goesOn : Led → (Sofar → Led) → Led
 goesOn (on v) next = next v
@@ -124,6 +116,10 @@ readFrom n [] v = atEnd v n
 readFrom n (l ∷ []) v = cond (eqb (length l) 0) (atEnd v n) (stop (Malformed n))
 readFrom n (l ∷ m ∷ rest) v = goesOn (leads v l n) (readFrom (suc n) (m ∷ rest))
 
--- what the text says, or the refusal of its first faulty line
+-- what a text says whose last table is the one numbered `upto`, or the refusal of its first faulty line
+abbrev pub readingTo : ℕ → List ℕ → Led
+readingTo upto s = readFrom 1 (split 10 s) (atStart upto)
+
+-- and a text of all four tables
 abbrev pub readingOf : List ℕ → Led
-readingOf s = readFrom 1 (split 10 s) atStart
+readingOf s = readingTo 3 s

@@ -1,4 +1,4 @@
-// The text input's four tables, read line by line up to the first faulty line.
+// The text input's tables, read line by line up to the first faulty line.
 ghost use mathlib.Core.Path.{_≡_};
 ghost use mathlib.Core.Bool.{cond};
 ghost use mathlib.Core.List.{[], _∷_};
@@ -6,21 +6,23 @@ ghost use Prim.Native.Nat.{_+_, _*_, _≤_};
 ghost use lib.ListN.{length};
 ghost use lib.Dec.{eqb};
 ghost use Rattle.landlord.specs.declared.Step.the-variants.{Read};
-ghost use Rattle.landlord.specs.declared.Refusal.the-variants.{Malformed, Heading};
+ghost use Rattle.landlord.specs.declared.Refusal.the-variants.{Malformed};
 ghost use Rattle.landlord.specs.Calls.{itemRefusal};
 ghost use Rattle.catalog_bytes.specs.Inner.{catalogOfFirst};
 ghost use Rattle.season_lines.specs.declared.Line.the-variants.{Sizes, Item as ItemLine, Step as StepLine, Act as ActLine};
 ghost use Rattle.season_tables.specs.declared.Verdict.the-variants.{Taken, Refused};
-ghost use Rattle.season_tables.specs.Tables.{on, stop, heading, sameBytes, mayEnd, mustEnd, nowNamed, nextTable, takes, leads, atEnd};
+ghost use Rattle.season_tables.specs.Tables.{on, stop, mayEnd, mustEnd, namedBy, nextTable, takes, leads, atEnd};
 ghost use Rattle.season_tables.specs.Inner.{nothingRead, endVerdict, LeadsFrom, LeadsBy, NotesItem, NotesStep, NotesAct, KeepsSeen, KeepsPast, Keeps, Takeable, Leadable, wantsValues, callNumbers, actNumbers, putAt};
 use landlord::Act;
 use landlord::Refusal;
 use landlord::Step;
 use season_lines::Field;
 use season_lines::Line;
+use season_lines::Names;
 
 // What has been read: in which table, and whether behind its line of names; the sizes, k 0 before they are read; how many items,
-// steps and acts, which stand in lent slices; and the place of the last act.
+// steps and acts, which stand in lent slices; the place of the last act; which table is the last, and which of its headings this table
+// has, 0 before its line of names.
 pub struct Seen {
     pub table: u32,
     pub named: bool,
@@ -30,6 +32,8 @@ pub struct Seen {
     pub steps: usize,
     pub acts: usize,
     pub last: u32,
+    pub upto: u32,
+    pub form: u32,
 }
 
 pub enum Verdict {
@@ -43,46 +47,14 @@ pub struct Scanned {
     pub seen: Seen,
 }
 
-fn same(s: &[u8], t: &[u8]) -> bool
-    ensures { λ r. ⌜ r ≡ sameBytes (now (s .entry)) (now (t .entry)) ⌝ }
-{
-    if s.len() != t.len() {
-        return false;
-    }
-    let mut i = 0;
-    while i < s.len() {
-        if s[i] != t[i] {
-            return false;
-        }
-        i += 1;
-    }
-    true
-}
-
-// Whether a line is the names of a table.
-fn is_heading(table: u32, line: &[u8]) -> bool
-    ensures { λ r. ⌜ r ≡ sameBytes (now (line .entry)) (heading table) ⌝ }
-{
-    if table == 0 {
-        return same(line, b"locker rival");
-    }
-    if table == 1 {
-        return same(line, b"sail blocks load write");
-    }
-    if table == 2 {
-        return same(line, b"step sail minutes");
-    }
-    same(line, b"at act sail")
-}
-
-// Whether a blank line may stand here: behind the one line of `locker rival`, and in the two tables after it.
-fn may_end(table: u32, k: u32) -> bool
-    ensures { λ r. ⌜ r ≡ mayEnd table k ⌝ }
+// Whether a blank line may stand here: behind the one line of `locker rival`, and in each table after it but the last.
+fn may_end(upto: u32, table: u32, k: u32) -> bool
+    ensures { λ r. ⌜ r ≡ mayEnd upto table k ⌝ }
 {
     if table == 0 {
         return 1 <= k;
     }
-    table < 3
+    table < upto
 }
 
 // Whether nothing else may.
@@ -96,23 +68,23 @@ fn must_end(table: u32, k: u32) -> bool
 }
 
 // Whether the fields of a line of so many bytes are looked at: a value line is due, and this is not the blank line.
-pub fn wants_values(named: bool, table: u32, k: u32, bytes: usize) -> bool
-    ensures { λ r. ⌜ r ≡ wantsValues named table k bytes ⌝ }
+pub fn wants_values(named: bool, upto: u32, table: u32, k: u32, bytes: usize) -> bool
+    ensures { λ r. ⌜ r ≡ wantsValues named upto table k bytes ⌝ }
 {
     if !named {
         return false;
     }
     if bytes == 0 {
-        if may_end(table, k) {
+        if may_end(upto, table, k) {
             return false;
         }
     }
     !must_end(table, k)
 }
 
-// Nothing is read.
-pub fn at_start() -> Seen
-    ensures { λ r. ⌜ r ≡ nothingRead ⌝ }
+// Nothing is read of a text whose last table is the one numbered `upto`.
+pub fn at_start(upto: u32) -> Seen
+    ensures { λ r. ⌜ r ≡ nothingRead upto ⌝ }
 {
     Seen {
         table: 0,
@@ -123,6 +95,8 @@ pub fn at_start() -> Seen
         steps: 0,
         acts: 0,
         last: 0,
+        upto: upto,
+        form: 0,
     }
 }
 
@@ -145,17 +119,20 @@ pub fn stopped(seen: Seen, r: Refusal) -> Scanned
     }
 }
 
-// The line of names, right or not.
-fn take_names(seen: Seen, right: bool, at: u32) -> Scanned
-    ensures { λ r. ⌜ LeadsBy seen (λ v. cond right (on (nowNamed v)) (stop (Heading at))) r ⌝ }
+// The line of names, a heading of its table or not.
+fn take_names(seen: Seen, names: Names, at: u32) -> Scanned
+    ensures { λ r. ⌜ LeadsBy seen (λ v. namedBy v names at) r ⌝ }
     ensures { λ r. ⌜ KeepsSeen seen r ⌝ }
 {
-    if !right {
-        return stopped(seen, Refusal::Heading { line: at });
+    match names {
+        Names::Form(form) => {
+            let mut q = seen;
+            q.named = true;
+            q.form = form;
+            taken(q)
+        }
+        Names::Unknown => stopped(seen, Refusal::Heading { line: at }),
     }
-    let mut q = seen;
-    q.named = true;
-    taken(q)
 }
 
 // The blank line between two tables, or what stands in its place.
@@ -170,6 +147,7 @@ fn take_blank(seen: Seen, bytes: usize, at: u32) -> Scanned
     let mut q = seen;
     q.table = seen.table + 1;
     q.named = false;
+    q.form = 0;
     taken(q)
 }
 
@@ -344,10 +322,10 @@ pub fn lead(
 {
     let table = seen.table;
     if !seen.named {
-        return take_names(seen, is_heading(table, text), at);
+        return take_names(seen, season_lines::form_of(table, text), at);
     }
-    if wants_values(true, table, seen.k, text.len()) {
-        let line = season_lines::line_in(table, fields, count, at);
+    if wants_values(true, seen.upto, table, seen.k, text.len()) {
+        let line = season_lines::line_in(table, seen.form, fields, count, at);
         return take_line(seen, line, at, catalog, calls, acts);
     }
     take_blank(seen, text.len(), at)
@@ -359,7 +337,7 @@ pub fn ended(seen: Seen, at: u32) -> Scanned
     ensures { λ r. ⌜ LeadsBy seen (λ v. atEnd v at) r ⌝ }
 {
     if seen.named {
-        if seen.table == 3 {
+        if seen.table == seen.upto {
             return taken(seen);
         }
     }

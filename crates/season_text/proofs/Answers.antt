@@ -67,7 +67,9 @@ items-hold : (x : Seen) (catalog calls acts : List ℕ) (v : Sofar) → Holds x 
 items-hold x catalog calls acts v h =
     record {
       table = h .table;
+      upto = h .upto;
       named = h .named;
+      form = h .form;
       k = h .k;
       h = h .h;
       few = h .few;

@@ -55,7 +55,7 @@ pub fn answer(text: &[u8], page: &mut [u8]) -> Written
     let mut catalog = [0u8; catalog_bytes::MOST_BYTES];
     let mut calls = [0u32; 43692];
     let mut acts = [0u32; 32769];
-    let scanned = season_scan::scan(text, &mut catalog, &mut calls, &mut acts);
+    let scanned = season_scan::scan(text, 3, &mut catalog, &mut calls, &mut acts);
     let verdict = scanned.verdict;
     let seen = scanned.seen;
     match verdict {

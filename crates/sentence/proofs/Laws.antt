@@ -9,15 +9,18 @@ use Prim.Native.String.{String}
 use native.Mathlib.Numerals.{add-one}
 use native.Mathlib.Omega.{arith}
 use borrow.Author.Tests.{ltb-true, ltb-false, leb-true, eqb-true, eqb-false, lt-leb, le-leb, eq-eqb, ne-eqb, not-true}
-use borrow.Rule.Slice.PartMut.{midOf, putMid, mid-len}
+use borrow.Rule.Slice.PartMut.{midOf, putMid}
 use lib.Dec.{ltb, leb, eqb}
-use lib.ListN.{length, getD, set, take, drop, length-append, length-drop, take-append-drop, drop-of-length-le, List·getD-eq-default}
-use lib.Seq.{paste, paste-suc, take-length, drop-cons, drop-drop, take-at, drop-at, take-all}
-use Rattle.decimal.specs.Decimal.{textOf, digitsOf, allDigits, wroteOf, pageOf}
+use lib.ListN.{length, getD, take, drop, length-append, take-append-drop, drop-of-length-le, List·getD-eq-default}
+use lib.Seq.{drop-cons, take-at, drop-at, take-all}
+use Rattle.decimal.specs.Decimal.{textOf, sameText, digitsOf, allDigits, wroteOf, pageOf}
+use Rattle.decimal.specs.InnerPages.{textOver}
 use Rattle.decimal.proofs.Laws.{digits-all, digits-length, wrote-all, wrote-none, page-all, page-none}
+use Rattle.decimal.proofs.Texts.{same-true}
+use Rattle.decimal.proofs.Pages.{TextGoing, go-first, go-as, go-room, go-next, go-end}
 use Rattle.landlord.specs.Types.{namesItem}
 use Rattle.sentence.specs.Sentences.{words, wordOf, inTable, linePart, itemPart, sentenceOf, longestSentence}
-use Rattle.sentence.specs.InnerSentences.{inOneText, startOf, WordAt, OnPage, toldOf, sameText, isStop, pieceOf, placeOf}
+use Rattle.sentence.specs.InnerSentences.{inOneText, startOf, WordAt, OnPage, toldOf, isStop, pieceOf, placeOf}
 
 -- ## Tests
 
@@ -226,23 +229,24 @@ parts-size n l i h k = omega (arith, line-size l h, word-item-size n i k)
 
 -- ## A text written in parts, each into the rest of the page
 
--- the first part has room, and so has the next behind it
-pub first-fits : (t u before : List ℕ) → length (t ++ u) ≤ length before → (length t ≤ length before) × (length u ≤ length before - length t)
-first-fits t u before h = let e = length-append t u in (omega arith, omega arith)
+-- what a writer answers, and what it leaves on the page
+pub put-is : {t before page : List ℕ} {a : ℕ} → (a ≡ length t) × (page ≡ textOver t before) → OnPage t before a page
+put-is p = record { count = p .0; text = p .1 }
 
-put-length : (t before : List ℕ) {a : ℕ} {page : List ℕ} → length t ≤ length before → OnPage t before a page → length page ≡ length before
-put-length t before h p = ap length (p .text) ∙ omega (arith, length-append t (drop (length t) before), length-drop (length t) before)
+-- the first of two parts has room
+pub first-fits : (t u before : List ℕ) → length (t ++ u) ≤ length before → length t ≤ length before
+first-fits t u before h = omega (arith, length-append t u)
 
 module _ (t u : List ℕ) {before : List ℕ} (room : length (t ++ u) ≤ length before) where
+  -- the first part is put, and the next is left
+  going : {a : ℕ} {page : List ℕ} → OnPage t before a page → TextGoing (t ++ u) before a (u ++ []) page
+  going p = go-as (sym (append-nil u)) (go-first t u before room (p .count) (p .text))
+
   pub next-starts : {a : ℕ} {page : List ℕ} → OnPage t before a page → a ≤ length page
-  next-starts p =
-      let f = first-fits t u before room in
-      omega (arith, p .count, put-length t before (f .0) p)
+  next-starts p = omega (arith, room, going p .count, going p .same)
 
   pub next-fits : {a : ℕ} {page : List ℕ} → OnPage t before a page → length u ≤ length (midOf a (length page - a) page)
-  next-fits {a} {page} p =
-      let f = first-fits t u before room in
-      omega (arith, p .count, put-length t before (f .0) p, mid-len a (length page) page (omega arith))
+  next-fits {a} {page} p = go-room room a u [] page (going p)
 
   -- the next part is put behind what is there
   pub put-next :
@@ -250,20 +254,7 @@ module _ (t u : List ℕ) {before : List ℕ} (room : length (t ++ u) ≤ length
       OnPage t before a page →
       OnPage u (midOf a (length page - a) page) b ys →
       OnPage (t ++ u) before (a + b) (putMid a (length page - a) page ys)
-  put-next {a} {b} {page} {ys} p q =
-      let front : take a page ≡ t = ap (take a) (p .text) ∙ take-at t (drop (length t) before) a (sym (p .count)) in
-      let back : drop a page ≡ drop (length t) before = ap (drop a) (p .text) ∙ drop-at t (drop (length t) before) a (sym (p .count)) in
-      let lent : midOf a (length page - a) page ≡ drop a page = take-all (length page - a) (drop a page) (omega (arith, length-drop a page)) in
-      let past : drop (length page - a) (drop a page) ≡ [] =
-      drop-of-length-le (drop a page) {i = length page - a} (omega (arith, length-drop a page)) in
-      let behind : drop (length u) (drop (length t) before) ≡ drop (length (t ++ u)) before =
-      drop-drop (length u) (length t) before ∙ ap (λ (k : ℕ). drop k before) (sym (length-append t u)) in
-      let wrote : ys ≡ u ++ drop (length (t ++ u)) before =
-      q .text ∙ ap (λ (l : List ℕ). u ++ drop (length u) l) (lent ∙ back) ∙ ap (λ (l : List ℕ). u ++ l) behind in
-      record {
-        count = omega (arith, p .count, q .count, length-append t u);
-        text = rw (front, past, append-nil, wrote) (sym (append-assoc t u (drop (length (t ++ u)) before)));
-      }
+  put-next p q = put-is (go-end (go-next room u [] (going p) (q .count) (q .text)))
 
 -- a number's digits put on a page that has room for them
 pub put-digits :
@@ -285,47 +276,6 @@ pub put-as : {t u before page : List ℕ} {n : ℕ} → t ≡ u → OnPage u bef
 put-as e p = rw e p
 
 -- ## A text taken apart
-
-pub same-sizes : (a b : List ℕ) → (length a ≡ length b → ⊥) → sameText a b ≡ false
-unfolding sameText
-same-sizes [] [] h = absurd (h refl)
-same-sizes [] (y ∷ b) h = refl
-same-sizes (x ∷ a) [] h = refl
-same-sizes (x ∷ a) (y ∷ b) h = rw (same-sizes a b (λ e. h (ap suc e))) (and-false (eqb x y))
-  where
-    and-false : (t : Bool) → (t && false) ≡ false
-    and-false true = refl
-    and-false false = refl
-
-pub same-refl : (a : List ℕ) → sameText a a ≡ true
-unfolding sameText
-same-refl [] = refl
-same-refl (x ∷ a) = rw (eq-eqb x x refl) (same-refl a)
-
-pub same-true : (a b : List ℕ) → sameText a b ≡ true → a ≡ b
-unfolding sameText
-same-true [] [] h = refl
-same-true [] (y ∷ b) h = absurd (false≢true h)
-same-true (x ∷ a) [] h = absurd (false≢true h)
-same-true (x ∷ a) (y ∷ b) h =
-    let p = and-eq-true-iff (eqb x y) (sameText a b) .0 h in
-    let e = eqb-true x y (p .0) in
-    let f = same-true a b (p .1) in
-    cc
-
--- byte by byte
-module _ (a b : List ℕ) (i : ℕ) (h : i < length a) (k : i < length b) where
-  pub same-next : getD a i 0 ≡ getD b i 0 → sameText (drop i a) (drop i b) ≡ sameText (drop (i + 1) a) (drop (i + 1) b)
-  unfolding sameText
-  same-next e = rw (drop-cons a i 0 h, drop-cons b i 0 k, add-one, eq-eqb (getD a i 0) (getD b i 0) e)
-
-  pub same-differ : (getD a i 0 ≡ getD b i 0 → ⊥) → sameText (drop i a) (drop i b) ≡ false
-  unfolding sameText
-  same-differ e = rw (drop-cons a i 0 h, drop-cons b i 0 k, ne-eqb (getD a i 0) (getD b i 0) e)
-
-pub same-end : (a b : List ℕ) (i : ℕ) → length a ≤ i → length b ≤ i → sameText (drop i a) (drop i b) ≡ true
-unfolding sameText
-same-end a b i h k = rw (drop-of-length-le a {i = i} h, drop-of-length-le b {i = i} k)
 
 -- a piece ends at a comma or a full stop
 module _ (s : List ℕ) (i : ℕ) (h : i < length s) where
@@ -408,23 +358,6 @@ place-right (t ∷ rest) w h = go (sameText (textOf t) w) refl h (place-right re
 pub place-found : (w : List ℕ) → inTable (placeOf words w) ≡ true → w ≡ wordOf (placeOf words w)
 unfolding wordOf
 place-found w t = sym (place-right words w (row-below (placeOf words w) t))
-
--- ## A text copied byte by byte
-
-pub copied-next :
-    (text before : List ℕ) (i : ℕ) {page : List ℕ} → length text ≤ length before → i < length text → page ≡ paste before 0 text i →
-    set page i (getD text i 0) ≡ paste before 0 text (i + 1)
-copied-next text before i h k e =
-    let n : 0 + i ≡ i = omega arith in
-    ap (λ (l : List ℕ). set l i (getD text i 0)) e
-    ∙ ap (λ (j : ℕ). set (paste before 0 text i) j (getD text i 0)) (sym n)
-    ∙ paste-suc before 0 text i 0 (omega arith) k
-    ∙ ap (paste before 0 text) (sym (add-one i))
-
-pub copied-all : (text before : List ℕ) (i : ℕ) {page : List ℕ} → i ≡ length text → page ≡ paste before 0 text i → OnPage text before i page
-copied-all text before i e p =
-    let n : 0 + i ≡ length text = omega arith in
-    record { count = e; text = p ∙ rw (n, e) (ap (λ (l : List ℕ). l ++ drop (length text) before) (take-length text)) }
 
 -- ## A sentence written in two halves
 

@@ -11,17 +11,18 @@ use lib.ListN.{length, take, drop, length-append, length-take, length-drop, take
 use lib.Seq.{drop-drop, take-all, take-append-seam, drop-append-seam}
 use Rattle.decimal.specs.declared.Number.{Number}
 use Rattle.decimal.specs.declared.Number.the-variants.{Malformed, OutOfRange, Value}
-use Rattle.decimal.specs.Decimal.{textOf, digitsOf}
+use Rattle.decimal.specs.Decimal.{textOf, sameText, digitsOf}
 use Rattle.decimal.specs.InnerReads.{readOf}
 use Rattle.decimal.proofs.Laws.{read-digits, read-value}
+use Rattle.decimal.proofs.Texts.{same-lengths, same-refl, same-true}
 use Rattle.landlord.specs.Types.{namesItem, itemTold}
 use Rattle.sentence.specs.declared.Part.{Part}
 use Rattle.sentence.specs.declared.Part.the-variants.{Missing, Told}
 use Rattle.sentence.specs.declared.Reading.{Reading}
 use Rattle.sentence.specs.declared.Reading.the-variants.{NoSentence, Sentence}
 use Rattle.sentence.specs.Sentences.{words, wordOf, inTable, linePart, itemPart, sentenceOf, Sayable, SaysThat}
-use Rattle.sentence.specs.InnerSentences.{toldOf, sameText, pieceOf, placeOf, partFrom, partOf, endOf, itemBehind, restOf, lineBehind, behindWord, readBack}
-use Rattle.sentence.proofs.Laws.{word-plain, place-word, place-found, line-none, line-told, item-none, item-told, same-sizes, same-refl, same-true, take-piece, piece-front, piece-fits, piece-plain, number-plain}
+use Rattle.sentence.specs.InnerSentences.{toldOf, pieceOf, placeOf, partFrom, partOf, endOf, itemBehind, restOf, lineBehind, behindWord, readBack}
+use Rattle.sentence.proofs.Laws.{word-plain, place-word, place-found, line-none, line-told, item-none, item-told, take-piece, piece-front, piece-fits, piece-plain, number-plain}
 
 -- ## A number behind its label
 
@@ -40,7 +41,7 @@ module _ (label : List ℕ) (limit : ℕ) (s : List ℕ) where
   -- the text is too short for the label, or begins with another
   pub part-short : length s < length label → Missing ≡ partOf label limit s
   part-short h =
-      sym (part-other (same-sizes label (take (length label) s) (λ e. omega (arith, length-take (length label) s))))
+      sym (part-other (sym (same-lengths label (take (length label) s) (λ e. omega (arith, length-take (length label) s)))))
 
   pub part-none : sameText label (take (length label) s) ≡ false → Missing ≡ partOf label limit s
   part-none h = sym (part-other h)

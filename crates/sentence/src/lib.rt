@@ -4,10 +4,10 @@ ghost use mathlib.Core.Path.{_≡_};
 ghost use mathlib.Core.List.{_++_};
 ghost use Prim.Native.Nat.{_≤_};
 ghost use lib.ListN.{length};
-ghost use Rattle.decimal.specs.Decimal.{textOf, wroteOf, pageOf};
+ghost use Rattle.decimal.specs.Decimal.{textOf, sameText, wroteOf, pageOf};
 ghost use Rattle.landlord.specs.Types.{namesItem};
 ghost use Rattle.sentence.specs.Sentences.{words, wordOf, inTable, linePart, itemPart, sentenceOf, SaysThat};
-ghost use Rattle.sentence.specs.InnerSentences.{startOf, WordAt, OnPage, toldOf, sameText, pieceOf, placeOf, partOf, endOf, restOf, behindWord};
+ghost use Rattle.sentence.specs.InnerSentences.{startOf, WordAt, OnPage, toldOf, pieceOf, placeOf, partOf, endOf, restOf, behindWord};
 use decimal::Number;
 
 // The words of the refusals, one behind the other in the order of their numbers. 0 and 23 have none.
@@ -178,19 +178,6 @@ pub fn sentence_bytes(number: u32, line: u32, item: u32) -> usize
     word_bytes(number) + line_bytes(line) + item_bytes(number, item) + 2
 }
 
-// Writes a text at the start of the page, which has room for it.
-fn put_text(text: &[u8], page: &mut [u8]) -> usize
-    requires { ⌜ length (now text) ≤ length (now page) ⌝ }
-    ensures { λ r. ⌜ OnPage (now (text .entry)) (now (page .entry)) r (now (page .exit)) ⌝ }
-{
-    let mut i = 0;
-    while i < text.len() {
-        page[i] = text[i];
-        i += 1;
-    }
-    i
-}
-
 // Writes the word of a number at the start of the page, which has room for it.
 fn put_word(number: u32, page: &mut [u8]) -> usize
     requires { ⌜ length (wordOf number) ≤ length (now page) ⌝ }
@@ -199,7 +186,7 @@ fn put_word(number: u32, page: &mut [u8]) -> usize
     let word = word_at(number);
     let from = word.from;
     let to = word.to;
-    put_text(&LETTERS[from..to], page)
+    decimal::put_text(&LETTERS[from..to], page)
 }
 
 // Writes a number behind its label at the start of the page, which has room for both.
@@ -207,7 +194,7 @@ fn put_told(label: &[u8], value: u32, page: &mut [u8]) -> usize
     requires { ⌜ length (toldOf (now label) value) ≤ length (now page) ⌝ }
     ensures { λ r. ⌜ OnPage (toldOf (now (label .entry)) value) (now (page .entry)) r (now (page .exit)) ⌝ }
 {
-    let at = put_text(label, page);
+    let at = decimal::put_text(label, page);
     at + decimal::write(wide(value), &mut page[at..])
 }
 
@@ -248,7 +235,7 @@ fn put_back(number: u32, item: u32, page: &mut [u8]) -> usize
     ensures { λ r. ⌜ OnPage (itemPart number item ++ textOf ".\n") (now (page .entry)) r (now (page .exit)) ⌝ }
 {
     let at = put_item(number, item, page);
-    at + put_text(b".\n", &mut page[at..])
+    at + decimal::put_text(b".\n", &mut page[at..])
 }
 
 // Writes a sentence at the start of the page, and answers how many bytes that took. A page too short for all of it is left as it was, and
@@ -262,23 +249,6 @@ pub fn write_sentence(number: u32, line: u32, item: u32, page: &mut [u8]) -> usi
     }
     let at = put_front(number, line, page);
     at + put_back(number, item, &mut page[at..])
-}
-
-// Whether two texts are one. Their lengths decide first, so that neither may go on where the other ends.
-fn same(a: &[u8], b: &[u8]) -> bool
-    ensures { λ r. ⌜ r ≡ sameText (now (a .entry)) (now (b .entry)) ⌝ }
-{
-    if a.len() != b.len() {
-        return false;
-    }
-    let mut i = 0;
-    while i < a.len() {
-        if a[i] != b[i] {
-            return false;
-        }
-        i += 1;
-    }
-    true
 }
 
 // How many bytes stand before the first comma or full stop. No word and no number has one, so this is where either ends.
@@ -303,7 +273,7 @@ fn is_word(number: u32, w: &[u8]) -> bool
     let word = word_at(number);
     let from = word.from;
     let to = word.to;
-    same(&LETTERS[from..to], w)
+    decimal::same(&LETTERS[from..to], w)
 }
 
 // The first number whose word a text is; 28 if it is none. The text with no letter is the word of 0, which has no row.
@@ -328,7 +298,7 @@ fn read_part(label: &[u8], s: &[u8]) -> Part
     if s.len() < n {
         return Part::Missing;
     }
-    if !same(label, &s[..n]) {
+    if !decimal::same(label, &s[..n]) {
         return Part::Missing;
     }
     let e = n + piece(&s[n..]);
@@ -346,7 +316,7 @@ fn read_part(label: &[u8], s: &[u8]) -> Part
 fn read_end(number: u32, line: u32, item: u32, s: &[u8]) -> Reading
     ensures { λ r. ⌜ r ≡ endOf number line item (now (s .entry)) ⌝ }
 {
-    if same(b".\n", s) {
+    if decimal::same(b".\n", s) {
         Reading::Sentence { number, line, item }
     } else {
         Reading::NoSentence

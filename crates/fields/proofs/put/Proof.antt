@@ -5,7 +5,7 @@ use native.Mathlib.Nat.{add-zero}
 use native.Mathlib.Omega.{arith}
 use lib.ListN.{length, length-set}
 use lib.Seq.{sets}
-use Rattle.fields.specs.Inner.{le}
+use Rattle.fields.specs.LittleEndian.{le}
 use Rattle.fields.proofs.Turns.{put-step, put-done}
 use Rattle.fields.proofs.put.Statement.{statement}
 use Rattle.fields.proofs.put.Tie as tie

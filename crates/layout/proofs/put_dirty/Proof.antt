@@ -8,7 +8,8 @@ use mir.Val.{Fits}
 use lib.ListN.{length, getD}
 use lib.Seq.{sets}
 use borrow.Author.Needs.{needs}
-use Rattle.fields.specs.Inner.{Below, le}
+use Rattle.fields.specs.LittleEndian.{le}
+use Rattle.fields.specs.Inner.{Below}
 use Rattle.layout.specs.InnerRows.{atDirty}
 use Rattle.layout.proofs.Stores.{coded, dirty-stored, store-four}
 use Rattle.layout.proofs.put_dirty.Statement.{statement}

@@ -5,10 +5,11 @@ use native.Mathlib.Omega.{arith}
 use borrow.Author.Needs.{needs}
 use borrow.Rule.Slice.PartMut.{putMid}
 use lib.ListN.{length, drop}
+use Rattle.decimal.proofs.Pages.{TextGoing, go-start, go-as, go-room, go-next, go-end}
 use Rattle.cache_state.specs.Cache.{usesOf}
 use Rattle.layout.specs.Layout.{cacheOf}
 use Rattle.report.specs.Report.{lineOf, itemLines}
-use Rattle.report.proofs.Laws.{TextGoing, go-start, go-as, go-room, go-next, go-end, items-next, items-end}
+use Rattle.report.proofs.Laws.{items-next, items-end}
 use Rattle.report.proofs.put_items.Statement.{statement}
 use Rattle.report.proofs.put_items.Tie as tie
 

@@ -7,8 +7,9 @@ use native.Mathlib.Omega.{arith}
 use borrow.Author.Needs.{needs}
 use borrow.Rule.Slice.PartMut.{putMid}
 use lib.ListN.{length, drop}
+use Rattle.decimal.proofs.Pages.{TextGoing, go-start, go-as, go-byte, go-end}
 use Rattle.report.specs.Report.{separator, lineOf}
-use Rattle.report.proofs.Laws.{TextGoing, go-start, go-as, go-byte, go-end, line-end, number-next, space-next, feed-last}
+use Rattle.report.proofs.Laws.{line-end, number-next, space-next, feed-last}
 use Rattle.report.proofs.put_line.Statement.{statement}
 use Rattle.report.proofs.put_line.Tie as tie
 

@@ -5,11 +5,13 @@ use Prim.Native.Nat.{ℕ, _+_}
 use native.Mathlib.Omega.{arith}
 use borrow.Author.Needs.{needs}
 use lib.ListN.{length}
+use Rattle.decimal.specs.InnerPages.{textOver}
 use Rattle.decimal.proofs.Laws.{page-all}
+use Rattle.decimal.proofs.Pages.{TextGoing, go-first, go-as, go-room, go-next, go-end}
 use Rattle.sentence.specs.Sentences.{sentenceOf}
 use Rattle.report.specs.Report.{lineOf}
-use Rattle.report.specs.Inner.{textOver, refusalNames, refusedText}
-use Rattle.report.proofs.Laws.{told-count, refused-count, TextGoing, go-first, go-as, go-room, go-next, go-end}
+use Rattle.report.specs.Inner.{refusalNames, refusedText}
+use Rattle.report.proofs.Laws.{told-count, refused-count}
 use Rattle.report.proofs.put_refusal.Statement.{statement}
 use Rattle.report.proofs.put_refusal.Tie as tie
 

@@ -6,11 +6,12 @@ use native.Mathlib.Omega.{arith}
 use borrow.Author.Needs.{needs}
 use borrow.Rule.Slice.PartMut.{putMid}
 use lib.ListN.{length}
+use Rattle.decimal.proofs.Pages.{TextGoing, go-first, go-as, go-room, go-next, go-end}
 use Rattle.cache_state.specs.Cache.{view, usesOf}
 use Rattle.layout.specs.Layout.{cacheOf}
 use Rattle.report.specs.Report.{itemLines, totalLines, reportOf}
 use Rattle.report.specs.Inner.{itemNames}
-use Rattle.report.proofs.Laws.{report-count, TextGoing, go-first, go-as, go-room, go-next, go-end}
+use Rattle.report.proofs.Laws.{report-count}
 use Rattle.report.proofs.put_report.Statement.{statement}
 use Rattle.report.proofs.put_report.Tie as tie
 
@@ -33,7 +34,7 @@ put-text-requires c κs =
 named :
     (c : tie.After-put-text) →
     (let s = c .before .before .before .before .before in
-    TextGoing (whole s) (s .args .page .now) (c .put-text .result) (itemLines 0 (usesOf (cacheOf (s .args .b .now))) ++ (10 ∷ totals s)) (c .put-text .last .0))
+    TextGoing (whole s) (s .args .page .now) (c .put-text .result) (itemLines 0 (usesOf (cacheOf (s .args .b .now))) ++ (10 ∷ totals s)) (c .put-text .last .1 .0))
 unfolding reportOf
 named c =
     let s = c .before .before .before .before .before in
@@ -52,7 +53,7 @@ put-items-requires : tie.Need-put-items-requires
 put-items-requires c κs =
     let s = c .before .before .before .before .before .before .before .before in
     let p = c .before .before .before .put-text in
-    (s .pre .valid, go-room (s .pre .room) (p .result) (itemLines 0 (usesOf (cacheOf (s .args .b .now)))) _ (p .last .0) (named (c .before .before .before)))
+    (s .pre .valid, go-room (s .pre .room) (p .result) (itemLines 0 (usesOf (cacheOf (s .args .b .now)))) _ (p .last .1 .0) (named (c .before .before .before)))
 
 -- the items' lines are written: how far, and the page with them
 abbrev far : (c : tie.After-put-items) → ℕ
@@ -61,7 +62,7 @@ far c = c .before .before .before .before .put-text .result + c .put-items .resu
 abbrev listing : (c : tie.After-put-items) → List ℕ
 listing c =
     let p = c .before .before .before .before .put-text in
-    putMid (p .result) (length (p .last .0) - p .result) (p .last .0) (c .put-items .last .0)
+    putMid (p .result) (length (p .last .1 .0) - p .result) (p .last .1 .0) (c .put-items .last .0)
 
 listed :
     (c : tie.After-put-items) →
@@ -74,17 +75,17 @@ listed c =
 add-at : tie.Need-add-at
 add-at c = omega (arith, c .before .before .before .before .before .before .before .before .before .before .before .pre .room, listed (c .before .before))
 
+slice-aggregate-put-text-2 : tie.Need-slice-aggregate-put-text-2
+slice-aggregate-put-text-2 c = search needs
+
 sub-put-text : tie.Need-sub-put-text
-sub-put-text c = omega (arith, c .before .before .before .before .before .before .before .before .before .before .before .pre .room, listed (c .before .before))
+sub-put-text c = omega (arith, c .before .before .before .before .before .before .before .before .before .before .before .before .pre .room, listed (c .before .before .before))
 
 part-put-text-start : tie.Need-part-put-text-start
-part-put-text-start c = omega (arith, c .before .before .before .before .before .before .before .before .before .before .before .pre .room, listed (c .before .before))
+part-put-text-start c = omega (arith, c .before .before .before .before .before .before .before .before .before .before .before .before .pre .room, listed (c .before .before .before))
 
 part-put-text-end : tie.Need-part-put-text-end
 part-put-text-end c = search needs
-
-slice-aggregate-put-text-2 : tie.Need-slice-aggregate-put-text-2
-slice-aggregate-put-text-2 c = search needs
 
 put-text-requires-2 : tie.Need-put-text-requires-2
 put-text-requires-2 c κs =
@@ -98,7 +99,7 @@ parted :
     (let s = c .before .before .before .before .before .before .before .before .before .before .before .before .before .before in
     let p = (c .before .before .before .before .before) in
     TextGoing (whole s) (s .args .page .now) (far p + c .put-text2 .result) (totals s ++ [])
-    (putMid (far p) (length (listing p) - far p) (listing p) (c .put-text2 .last .0)))
+    (putMid (far p) (length (listing p) - far p) (listing p) (c .put-text2 .last .1 .0)))
 parted c =
     let s = c .before .before .before .before .before .before .before .before .before .before .before .before .before .before in
     go-as (sym (append-nil _))
@@ -146,10 +147,10 @@ put-report-spec =
     part-put-items-end
     put-items-requires
     add-at
+    slice-aggregate-put-text-2
     sub-put-text
     part-put-text-start
     part-put-text-end
-    slice-aggregate-put-text-2
     put-text-requires-2
     add-at-2
     sub-put-totals

@@ -4,8 +4,8 @@ use mathlib.Core.List.{[], _++_, append-nil}
 use native.Mathlib.Omega.{arith}
 use borrow.Author.Needs.{needs}
 use lib.ListN.{length-append}
+use Rattle.decimal.proofs.Pages.{TextGoing, go-first, go-as, go-room, go-next, go-end}
 use Rattle.report.specs.Report.{lineOf}
-use Rattle.report.proofs.Laws.{TextGoing, go-first, go-as, go-room, go-next, go-end}
 use Rattle.report.proofs.put_table.Statement.{statement}
 use Rattle.report.proofs.put_table.Tie as tie
 
@@ -19,7 +19,7 @@ named :
     (c : tie.After-put-text) →
     (let a = c .before .before .before .before .before .args in
     let line = lineOf (a .numbers .now) in
-    TextGoing (a .names .now ++ line) (a .page .now) (c .put-text .result) (line ++ []) (c .put-text .last .0))
+    TextGoing (a .names .now ++ line) (a .page .now) (c .put-text .result) (line ++ []) (c .put-text .last .1 .0))
 named c =
     let s = c .before .before .before .before .before in
     go-as (sym (append-nil _)) (go-first (s .args .names .now) _ (s .args .page .now) (s .pre) (c .put-text .ensures .0) (c .put-text .ensures .1))
@@ -37,7 +37,7 @@ put-line-requires : tie.Need-put-line-requires
 put-line-requires c κs =
     let s = c .before .before .before .before .before .before .before .before in
     let p = c .before .before .before .put-text in
-    go-room (s .pre) (p .result) (lineOf (s .args .numbers .now)) [] (p .last .0) (named (c .before .before .before))
+    go-room (s .pre) (p .result) (lineOf (s .args .numbers .now)) [] (p .last .1 .0) (named (c .before .before .before))
 
 same-length : tie.Need-same-length
 same-length c = search needs

@@ -6,11 +6,11 @@ use native.Mathlib.Omega.{arith}
 use borrow.Author.Needs.{needs}
 use lib.ListN.{length, take}
 use lib.Seq.{length-take-le}
+use Rattle.decimal.specs.InnerPages.{textOver}
 use Rattle.cache_state.specs.Cache.{view}
 use Rattle.layout.specs.Layout.{cacheOf}
 use Rattle.report.specs.declared.Rival.the-variants.{Absent, Against}
 use Rattle.report.specs.Report.{lineOf, totalNames, totalLines}
-use Rattle.report.specs.Inner.{textOver}
 use Rattle.report.proofs.Laws.{totals-alone, totals-priced}
 use Rattle.report.proofs.put_totals.Statement.{statement}
 use Rattle.report.proofs.put_totals.Tie as tie

@@ -5,8 +5,9 @@ use Prim.Native.Nat.{ℕ, _≤_}
 use native.Mathlib.Omega.{arith}
 use borrow.Author.Needs.{needs}
 use lib.ListN.{length}
+use Rattle.decimal.specs.InnerPages.{textOver}
 use Rattle.report.specs.Report.{refusalText, longest}
-use Rattle.report.specs.Inner.{textOver, refusedText}
+use Rattle.report.specs.Inner.{refusedText}
 use Rattle.report.proofs.Longest.{refusal-no-longer}
 use Rattle.report.proofs.Laws.{refusal-is, put-short, put-whole}
 use Rattle.report.proofs.refused.Statement.{statement}

@@ -5,7 +5,7 @@ use native.Mathlib.Omega.{arith}
 use borrow.Author.Needs.{needs}
 use Rattle.decimal.proofs.Laws.{read-value}
 use Rattle.season_lines.specs.Inner.{beyond}
-use Rattle.season_lines.proofs.Laws.{field-number, field-beyond, field-mark, field-other}
+use Rattle.season_lines.proofs.Laws.{field-number, field-beyond, field-mark, field-empty, field-word}
 use Rattle.season_lines.proofs.field_of.Statement.{statement}
 use Rattle.season_lines.proofs.field_of.Tie as tie
 
@@ -42,21 +42,27 @@ returns c =
 
 returns-2 : tie.Need-returns-2
 returns-2 c =
+    let s = c .before .before .before .before .before .before .args .s .now in
+    let told = c .before .before .enum-told2 .given in
+    field-empty s (sym (told .1) ∙ c .before .before .before .before .read .ensures) (c .if2 .taken)
+
+returns-3 : tie.Need-returns-3
+returns-3 c =
     let s = c .before .before .before .before .before .args .s .now in
     let v = c .before .v .given in
     field-number s (v .0 .0) (sym (v .1) ∙ c .before .before .before .read .ensures)
 
-returns-3 : tie.Need-returns-3
-returns-3 c =
+returns-4 : tie.Need-returns-4
+returns-4 c =
     let s = c .before .before .before .before .args .s .now in
     let told = c .enum-told .given in
     field-beyond s (sym (told .1) ∙ c .before .before .read .ensures)
 
-returns-4 : tie.Need-returns-4
-returns-4 c =
-    let s = c .before .before .before .before .before .args .s .now in
-    let told = c .before .enum-told2 .given in
-    field-other s (sym (told .1) ∙ c .before .before .before .read .ensures) (c .if1 .left)
+returns-5 : tie.Need-returns-5
+returns-5 c =
+    let s = c .before .before .before .before .before .before .args .s .now in
+    let told = c .before .before .enum-told2 .given in
+    field-word s (sym (told .1) ∙ c .before .before .before .before .read .ensures) (c .before .if1 .left) (c .if2 .left)
 
 pub field-of-spec : {M : Type 1} → statement M
 field-of-spec =
@@ -72,4 +78,5 @@ field-of-spec =
     returns
     returns-2
     returns-3
-    returns-4)
+    returns-4
+    returns-5)

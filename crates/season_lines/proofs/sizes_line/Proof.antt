@@ -2,18 +2,10 @@
 use mathlib.Core.Path.{_≡_}
 use mathlib.Core.Bool.{true}
 use mathlib.Core.Logic.{inl, inr, ⊎-elim}
-use native.Mathlib.Omega.{arith}
 use borrow.Author.Needs.{needs}
-use borrow.Author.Tests.{eq-eqb, ne-eqb}
-use Rattle.season_lines.proofs.Laws.{both-yes, told-no, told-yes, slot, sizesShape, sizes-malformed, sizes-far, sizes-good}
+use Rattle.season_lines.proofs.Laws.{both-yes, told-no, told-yes, sizesShape, sizes-malformed, sizes-far, sizes-good}
 use Rattle.season_lines.proofs.sizes_line.Statement.{statement}
 use Rattle.season_lines.proofs.sizes_line.Tie as tie
-
-array-copy-out-k : tie.Need-array-copy-out-k
-array-copy-out-k c = search needs
-
-array-copy-out-h : tie.Need-array-copy-out-h
-array-copy-out-h c = search needs
 
 is-number-requires : tie.Need-is-number-requires
 is-number-requires c κs = search needs
@@ -22,22 +14,16 @@ is-number-requires-2 : tie.Need-is-number-requires-2
 is-number-requires-2 c κs = search needs
 
 -- where the tests of the shape are passed
-shape :
-    (c : tie.Else3) →
-    (let a = c .before .before .before .before .before .before .before .args in sizesShape (a .count) (slot (a .t1) 0) (slot (a .t1) 1) ≡ true)
+shape : (c : tie.Else2) → (let a = c .before .before .before .before .args in sizesShape (a .k) (a .h) ≡ true)
 shape c =
     let k = c .before .before in
-    both-yes _ _
-    (both-yes _ _ (eq-eqb _ 2 (k .before .before .if1 .left)) (told-yes _ _ (k .before .is-number .ensures) (k .if2 .left)))
-    (told-yes _ _ (c .before .is-number2 .ensures) (c .if3 .left))
+    both-yes _ _ (told-yes _ _ (k .before .is-number .ensures) (k .if1 .left)) (told-yes _ _ (c .before .is-number2 .ensures) (c .if2 .left))
 
 returns : tie.Need-returns
 returns c =
-    let a = c .before .before .before .args in
-    sizes-malformed (a .t1) (a .count) (a .line) (omega arith)
-    (⊎-elim (λ w. inl (ne-eqb (a .count) 2 (w .taken)))
-    (⊎-elim (λ w. inr (inl (told-no _ _ (w .1 .ensures) (w .2 .taken))))
-    (λ w. inr (inr (told-no _ _ (w .3 .ensures) (w .4 .taken))))) (c .if1 .came))
+    sizes-malformed _ _ _
+    (⊎-elim (λ w. inl (told-no _ _ (c .before .is-number .ensures) (w .taken)))
+    (λ w. inr (told-no _ _ (w .1 .ensures) (w .2 .taken))) (c .if1 .came))
 
 value-in-requires : tie.Need-value-in-requires
 value-in-requires c κs = search needs
@@ -53,28 +39,23 @@ is-size-requires-2 c κs = search needs
 
 returns-2 : tie.Need-returns-2
 returns-2 c =
-    let a = c .before .before .before .before .before .before .before .before .before .before .before .args in
     let k = c .before .before .before .value-in in
     let h = c .before .before .value-in2 in
-    sizes-far (a .t1) (a .count) (a .line) (omega arith) (k .result) (h .result) (k .ensures) (h .ensures) (shape (c .before .before .before .before))
+    sizes-far _ _ _ (k .result) (h .result) (k .ensures) (h .ensures) (shape (c .before .before .before .before))
     (⊎-elim (λ w. inl (told-no _ _ (c .before .is-size .ensures) (w .taken)))
-    (λ w. inr (told-no _ _ (w .1 .ensures) (w .2 .taken))) (c .if4 .came))
+    (λ w. inr (told-no _ _ (w .1 .ensures) (w .2 .taken))) (c .if3 .came))
 
 returns-3 : tie.Need-returns-3
 returns-3 c =
-    let a = c .before .before .before .before .before .before .before .before .before .before .before .before .before .args in
     let k = c .before .before .before .before .before .value-in in
     let h = c .before .before .before .before .value-in2 in
-    sizes-good (a .t1) (a .count) (a .line) (omega arith) (k .result) (h .result) (k .ensures) (h .ensures) (shape (c .before .before .before .before .before .before))
-    (both-yes _ _ (told-yes _ _ (c .before .before .before .is-size .ensures) (c .before .before .if4 .left))
-    (told-yes _ _ (c .before .is-size2 .ensures) (c .if5 .left)))
+    sizes-good _ _ _ (k .result) (h .result) (k .ensures) (h .ensures) (shape (c .before .before .before .before .before .before))
+    (both-yes _ _ (told-yes _ _ (c .before .before .before .is-size .ensures) (c .before .before .if3 .left)) (told-yes _ _ (c .before .is-size2 .ensures) (c .if4 .left)))
 
 pub sizes-line-spec : {M : Type 1} → statement M
 sizes-line-spec =
     tie.close
     (tie.spec
-    array-copy-out-k
-    array-copy-out-h
     is-number-requires
     is-number-requires-2
     returns

@@ -4,7 +4,7 @@ use mathlib.Core.Path.{_≡_, refl, sym, ap, _∙_}
 use mathlib.Core.Bool.{Bool, true, false}
 use mathlib.Core.List.{List}
 use mathlib.Core.Logic.{inl, inr, ⊎-elim}
-use Prim.Native.Nat.{ℕ, _+_, _-_, _≤_}
+use Prim.Native.Nat.{ℕ, _+_, _-_, _≤_, _<_}
 use native.Mathlib.Nat.{le-trans}
 use native.Mathlib.Omega.{arith}
 use borrow.Author.Needs.{needs}
@@ -19,16 +19,16 @@ use Rattle.season_scan.proofs.scan.Statement.{statement}
 use Rattle.season_scan.proofs.scan.Tie as tie
 
 abbrev Inv-loop : tie.InvT-loop
-Inv-loop s catalog calls acts seen at line end fields₀ count₀ i₀ more₀ fields count i more = Fielded s seen at end fields count i more
+Inv-loop s upto catalog calls acts seen at line end names fields₀ count₀ i₀ more₀ fields count i more = Fielded s seen at end names fields count i more
 
 abbrev μ-loop : tie.MeasureT-loop
-μ-loop s catalog calls acts seen at line end fields₀ count₀ i₀ more₀ fields count i more = end + 1 - i
+μ-loop s upto catalog calls acts seen at line end names fields₀ count₀ i₀ more₀ fields count i more = end + 1 - i
 
 abbrev Inv-lines : tie.InvT-lines
-Inv-lines s catalog₀ calls₀ acts₀ seen₀ at₀ line₀ catalog calls acts seen at line = Lined s catalog₀ calls₀ acts₀ catalog calls acts seen at line
+Inv-lines s upto catalog₀ calls₀ acts₀ seen₀ at₀ line₀ catalog calls acts seen at line = Lined upto s catalog₀ calls₀ acts₀ catalog calls acts seen at line
 
 abbrev μ-lines : tie.MeasureT-lines
-μ-lines s catalog₀ calls₀ acts₀ seen₀ at₀ line₀ catalog calls acts seen at line = length s - at
+μ-lines s upto catalog₀ calls₀ acts₀ seen₀ at₀ line₀ catalog calls acts seen at line = length s - at
 
 -- the slices are as long as they were
 same-items :
@@ -71,17 +71,17 @@ found-le c =
 fielded :
     (c : tie.At-loop Inv-loop μ-loop Inv-lines μ-lines) (t : Bool) →
     c .loop .more ≡ t →
-    (let a = c .before .before .before in
+    (let a = c .before .before .before .before in
     let l = c .loop in
-    Fielded (text a) (a .before .before .before .lines .seen) (from a) (to a) (l .fields) (l .count) (l .i) t)
+    Fielded (text a) (a .before .before .before .lines .seen) (from a) (to a) (c .before .before .names-in .result) (l .fields) (l .count) (l .i) t)
 fielded c t e = rw e at (c .loop .inv)
 
 -- where the field ends, and what it is
 field-le :
     (c : tie.After-find2 Inv-loop μ-loop Inv-lines μ-lines) →
-    c .before .before .before .loop .i + c .find2 .result ≤ to (c .before .before .before .before .before .before)
+    c .before .before .before .loop .i + c .find2 .result ≤ to (c .before .before .before .before .before .before .before)
 field-le c =
-    let a = c .before .before .before .before .before .before in
+    let a = c .before .before .before .before .before .before .before in
     let i = c .before .before .before .loop .i in
     omega (
       arith,
@@ -93,11 +93,11 @@ field-le c =
 
 field-is :
     (c : tie.After-field-of Inv-loop μ-loop Inv-lines μ-lines) →
-    (let a = c .before .before .before .before .before .before .before .before in
+    (let a = c .before .before .before .before .before .before .before .before .before in
     let i = c .before .before .before .before .before .loop .i in
     c .field-of .result ≡ heldField (fieldOf (take (c .before .before .find2 .result) (drop i (text a)))))
 field-is c =
-    let a = c .before .before .before .before .before .before .before .before in
+    let a = c .before .before .before .before .before .before .before .before .before in
     let i = c .before .before .before .before .before .loop .i in
     let m = c .before .before .find2 .result in
     let e : i + m - i ≡ m = omega arith in
@@ -105,7 +105,7 @@ field-is c =
 
 -- the line that was led from, and the slices behind it
 abbrev lines-of : tie.After-lead Inv-loop μ-loop Inv-lines μ-lines → tie.At-lines Inv-loop μ-loop Inv-lines μ-lines
-lines-of r = r .before .before .before .before .before .before .before .before .before .before .before .before
+lines-of r = r .before .before .before .before .before .before .before .before .before .before .before .before .before
 
 as-long :
     (r : tie.After-lead Inv-loop μ-loop Inv-lines μ-lines) →
@@ -118,7 +118,9 @@ at-start-requires : tie.Need-at-start-requires Inv-loop μ-loop Inv-lines μ-lin
 at-start-requires c κs = search needs
 
 lines-holds : tie.Need-lines-holds Inv-loop μ-loop Inv-lines μ-lines
-lines-holds c = begins _ _ _ _ _ (c .before .before .before .before .before .pre .roomy) (c .at-start .ensures)
+lines-holds c =
+    let p = c .before .before .before .before .before .pre in
+    begins _ _ _ _ _ _ (p .low) (p .high) (p .roomy) (c .at-start .ensures)
 
 ended-requires : tie.Need-ended-requires Inv-loop μ-loop Inv-lines μ-lines
 ended-requires c κs = search needs
@@ -141,6 +143,9 @@ add-end c = omega (arith, found-le c, short c)
 stopped-requires : tie.Need-stopped-requires Inv-loop μ-loop Inv-lines μ-lines
 stopped-requires c κs = search needs
 
+names-in-requires : tie.Need-names-in-requires Inv-loop μ-loop Inv-lines μ-lines
+names-in-requires c κs = search needs
+
 sub-wants-values : tie.Need-sub-wants-values Inv-loop μ-loop Inv-lines μ-lines
 sub-wants-values c = search needs
 
@@ -148,7 +153,9 @@ wants-values-requires : tie.Need-wants-values-requires Inv-loop μ-loop Inv-line
 wants-values-requires c κs = search needs
 
 loop-holds : tie.Need-loop-holds Inv-loop μ-loop Inv-lines μ-lines
-loop-holds c = field-none _ _ _ _ _ _ refl (omega arith) (c .wants-values .ensures)
+loop-holds c =
+    let names = c .before .names-in in
+    field-none _ _ _ _ _ _ _ refl (names .ensures .0) (names .ensures .1) (omega arith) (c .wants-values .ensures)
 
 sub-find-2 : tie.Need-sub-find-2 Inv-loop μ-loop Inv-lines μ-lines
 sub-find-2 c = fielded (c .before) true (c .loop-test .taken) .going refl .0
@@ -157,14 +164,14 @@ part-find-start-2 : tie.Need-part-find-start-2 Inv-loop μ-loop Inv-lines μ-lin
 part-find-start-2 c = fielded (c .before) true (c .loop-test .taken) .going refl .0
 
 part-find-end-2 : tie.Need-part-find-end-2 Inv-loop μ-loop Inv-lines μ-lines
-part-find-end-2 c = found-le (c .before .before .before .before)
+part-find-end-2 c = found-le (c .before .before .before .before .before)
 
 find-requires-2 : tie.Need-find-requires-2 Inv-loop μ-loop Inv-lines μ-lines
 find-requires-2 c κs = search needs
 
 add-j : tie.Need-add-j Inv-loop μ-loop Inv-lines μ-lines
 add-j c =
-    let a = c .before .before .before .before .before .before in
+    let a = c .before .before .before .before .before .before .before in
     omega (arith, field-le c, found-le a, short a)
 
 sub-field-of : tie.Need-sub-field-of Inv-loop μ-loop Inv-lines μ-lines
@@ -174,34 +181,39 @@ part-field-of-start : tie.Need-part-field-of-start Inv-loop μ-loop Inv-lines μ
 part-field-of-start c = search needs
 
 part-field-of-end : tie.Need-part-field-of-end Inv-loop μ-loop Inv-lines μ-lines
-part-field-of-end c = le-trans (field-le c) (found-le (c .before .before .before .before .before .before))
+part-field-of-end c = le-trans (field-le c) (found-le (c .before .before .before .before .before .before .before))
 
 field-of-requires : tie.Need-field-of-requires Inv-loop μ-loop Inv-lines μ-lines
 field-of-requires c κs = search needs
 
-is-other-requires : tie.Need-is-other-requires Inv-loop μ-loop Inv-lines μ-lines
-is-other-requires c κs = search needs
+is-empty-requires : tie.Need-is-empty-requires Inv-loop μ-loop Inv-lines μ-lines
+is-empty-requires c κs = search needs
 
 stopped-requires-2 : tie.Need-stopped-requires-2 Inv-loop μ-loop Inv-lines μ-lines
 stopped-requires-2 c κs = search needs
 
+-- there is a place in the array for one field more
+place :
+    (c : tie.Else4 Inv-loop μ-loop Inv-lines μ-lines) →
+    c .before .before .before .before .before .before .before .before .loop .count < 4
+place c =
+    let l = c .before .before .before .before .before .before .before .before in
+    let names = l .before .before .names-in in
+    omega (arith, leb-false (names .result) (l .loop .count) (c .if4 .left), names .ensures .1)
+
 mul-fields : tie.Need-mul-fields Inv-loop μ-loop Inv-lines μ-lines
-mul-fields c =
-    let l = c .before .before .before .before .before .before .before .before .loop in
-    omega (arith, leb-false 4 (l .count) (c .if4 .left))
+mul-fields c = omega (arith, place c)
 
 array-set-from-fields : tie.Need-array-set-from-fields Inv-loop μ-loop Inv-lines μ-lines
-array-set-from-fields c = leb-false 4 _ (c .if4 .left)
+array-set-from-fields c = place c
 
 add-count : tie.Need-add-count Inv-loop μ-loop Inv-lines μ-lines
-add-count c =
-    let l = c .before .before .before .before .before .before .before .before .loop in
-    omega (arith, leb-false 4 (l .count) (c .if4 .left))
+add-count c = omega (arith, place c)
 
 add-i : tie.Need-add-i Inv-loop μ-loop Inv-lines μ-lines
 add-i c =
     let b = c .before .before .before .before .before in
-    let a = b .before .before .before .before .before .before in
+    let a = b .before .before .before .before .before .before .before in
     omega (arith, field-le b, found-le a, short a)
 
 loop-less : tie.Need-loop-less Inv-loop μ-loop Inv-lines μ-lines
@@ -211,9 +223,9 @@ loop-again : tie.Need-loop-again Inv-loop μ-loop Inv-lines μ-lines
 loop-again c =
     let f = c .before .before .before in
     let b = f .before .before in
-    field-more _ _ _ _ _ _ _ _ _ (found-le (b .before .before .before .before .before .before))
+    field-more _ _ _ _ _ _ _ _ _ _ (found-le (b .before .before .before .before .before .before .before))
     (fielded (b .before .before .before) true (b .before .before .loop-test .taken)) (b .find2 .ensures) (field-is f) _
-    (cc) (leb-false 4 _ (c .if4 .left)) (sym (c .before .before .is-other .ensures) ∙ c .before .if3 .left)
+    (cc) (leb-false _ _ (c .if4 .left)) (sym (c .before .before .is-empty .ensures) ∙ c .before .if3 .left)
 
 sub-lead : tie.Need-sub-lead Inv-loop μ-loop Inv-lines μ-lines
 sub-lead c = omega arith
@@ -222,13 +234,13 @@ part-lead-start : tie.Need-part-lead-start Inv-loop μ-loop Inv-lines μ-lines
 part-lead-start c = omega arith
 
 part-lead-end : tie.Need-part-lead-end Inv-loop μ-loop Inv-lines μ-lines
-part-lead-end c = found-le (c .before .before .before .before)
+part-lead-end c = found-le (c .before .before .before .before .before)
 
 lead-requires : tie.Need-lead-requires Inv-loop μ-loop Inv-lines μ-lines
 lead-requires c κs =
     let l = c .before .before .before .before in
-    let a = l .before .before .before .before in
-    can-lead _ _ _ _ _ _ _ _ _ _ (a .before .before .before .lines .inv) _ (found a) (l .before .before .before .if2 .left) _ _ _
+    let a = l .before .before .before .before .before in
+    can-lead _ _ _ _ _ _ _ _ _ _ _ (a .before .before .before .lines .inv) _ (found a) (l .before .before .before .before .if2 .left) _ _ _ _
     (fielded (l .before) false (l .loop-test .left)) (short a)
 
 enum-told : tie.Need-enum-told Inv-loop μ-loop Inv-lines μ-lines
@@ -240,27 +252,27 @@ enum-told-2 c = search needs
 add-at : tie.Need-add-at Inv-loop μ-loop Inv-lines μ-lines
 add-at c =
     let l = c .before .before .before .before .before .before .before .before .before .before .before .before .before .before in
-    let a = l .before .before .before .before in
+    let a = l .before .before .before .before .before in
     omega (arith, found-le a, short a)
 
 add-line : tie.Need-add-line Inv-loop μ-loop Inv-lines μ-lines
 add-line c =
     let l = c .before .before .before .before .before .before .before .before .before .before .before .before .before .before in
-    let a = l .before .before .before .before in
+    let a = l .before .before .before .before .before in
     let h = a .before .before .before .lines .inv in
     omega (arith, h .counted, h .within, short a)
 
 lines-less : tie.Need-lines-less Inv-loop μ-loop Inv-lines μ-lines
 lines-less c =
     let l = c .before .before .before .before .before .before .before .before .before .before .before .before .before .before in
-    omega (arith, l .before .before .before .if2 .left)
+    omega (arith, l .before .before .before .before .if2 .left)
 
 lines-again : tie.Need-lines-again Inv-loop μ-loop Inv-lines μ-lines
 lines-again c =
     let r = c .before .before .before .before .before .before .before .before .before in
     let l = r .before .before .before .before .before in
-    let a = l .before .before .before .before in
-    line-taken _ _ _ _ _ _ _ _ _ _ (a .before .before .before .lines .inv) _ (found a) (l .before .before .before .if2 .left) _ _ _
+    let a = l .before .before .before .before .before in
+    line-taken _ _ _ _ _ _ _ _ _ _ _ (a .before .before .before .lines .inv) _ (found a) (l .before .before .before .before .if2 .left) _ _ _ _
     (fielded (l .before) false (l .loop-test .left)) (r .lead .result) _ _ _ (r .lead .ensures .0) (r .lead .ensures .1)
     (as-long r) (c .before .enum-told2 .given .1)
 
@@ -275,7 +287,7 @@ same-length-3 c = same-acts (c .before .before)
 
 returns : tie.Need-returns Inv-loop μ-loop Inv-lines μ-lines
 returns c =
-    ends _ _ _ _ _ _ _ _ _ _ (c .before .before .lines .inv) _ (c .before .before .before .before .before .before .before .before .pre .short)
+    ends _ _ _ _ _ _ _ _ _ _ _ (c .before .before .lines .inv) _ (c .before .before .before .before .before .before .before .before .pre .short)
     (omega (arith, c .before .if1 .taken)) (c .ended .ensures .0 .1) (c .ended .ensures .1)
 
 same-length-4 : tie.Need-same-length-4 Inv-loop μ-loop Inv-lines μ-lines
@@ -290,31 +302,32 @@ same-length-6 c = same-acts (c .before .before .before .before .before)
 returns-2 : tie.Need-returns-2 Inv-loop μ-loop Inv-lines μ-lines
 returns-2 c =
     let a = c .before .before in
-    no-line-feed _ _ _ _ _ _ _ _ _ _ (a .before .before .before .lines .inv) (c .stopped .result)
+    no-line-feed _ _ _ _ _ _ _ _ _ _ _ (a .before .before .before .lines .inv) (c .stopped .result)
     (omega (arith, a .before .before .if1 .left))
     (omega (arith, found a, c .before .if2 .taken)) (c .stopped .ensures .0) (c .stopped .ensures .1)
 
 same-length-7 : tie.Need-same-length-7 Inv-loop μ-loop Inv-lines μ-lines
-same-length-7 c = same-items (c .before .before .before .before .before .before .before .before .before .before .before .before .before .before)
+same-length-7 c = same-items (c .before .before .before .before .before .before .before .before .before .before .before .before .before .before .before)
 
 same-length-8 : tie.Need-same-length-8 Inv-loop μ-loop Inv-lines μ-lines
-same-length-8 c = same-steps (c .before .before .before .before .before .before .before .before .before .before .before .before .before .before)
+same-length-8 c = same-steps (c .before .before .before .before .before .before .before .before .before .before .before .before .before .before .before)
 
 same-length-9 : tie.Need-same-length-9 Inv-loop μ-loop Inv-lines μ-lines
-same-length-9 c = same-acts (c .before .before .before .before .before .before .before .before .before .before .before .before .before .before)
+same-length-9 c = same-acts (c .before .before .before .before .before .before .before .before .before .before .before .before .before .before .before)
 
 returns-3 : tie.Need-returns-3 Inv-loop μ-loop Inv-lines μ-lines
 returns-3 c =
     let f = c .before .before .before in
     let b = f .before .before in
-    let a = b .before .before .before .before .before .before in
-    let h = fielded (b .before .before .before) true (b .before .before .loop-test .taken) in
+    let l = b .before .before .before in
+    let a = l .before .before .before .before in
+    let h = fielded l true (b .before .before .loop-test .taken) in
     let bad =
-    ⊎-elim (λ w. inl (sym (c .before .before .is-other .ensures) ∙ w .taken))
-    (λ w. inr (leb-true 4 (b .before .before .before .loop .count) (w .1 .taken))) (c .before .if3 .came) in
-    malformed-here _ _ _ _ _ _ _ _ _ _ (a .before .before .before .lines .inv) _ (found a) (b .before .before .before .before .before .if2 .left)
+    ⊎-elim (λ w. inl (sym (c .before .before .is-empty .ensures) ∙ w .taken))
+    (λ w. inr (leb-true (l .before .before .names-in .result) (l .loop .count) (w .1 .taken))) (c .before .if3 .came) in
+    malformed-here _ _ _ _ _ _ _ _ _ _ _ (a .before .before .before .lines .inv) _ (found a) (l .before .before .before .if2 .left)
     (c .stopped2 .result)
-    (h .going refl .1) (λ table. field-malformed _ _ _ _ _ _ _ _ _ (found-le a) h (b .find2 .ensures) (field-is f) table _ bad)
+    (h .going refl .1) (field-malformed _ _ _ _ _ _ _ _ _ _ (found-le a) h (b .find2 .ensures) (field-is f) _ bad)
     (c .stopped2 .ensures .0) (c .stopped2 .ensures .1)
 
 same-length-10 : tie.Need-same-length-10 Inv-loop μ-loop Inv-lines μ-lines
@@ -336,8 +349,8 @@ returns-4 : tie.Need-returns-4 Inv-loop μ-loop Inv-lines μ-lines
 returns-4 c =
     let r = c .before .before .before .before .before .before .before .before in
     let l = r .before .before .before .before .before in
-    let a = l .before .before .before .before in
-    line-refused _ _ _ _ _ _ _ _ _ _ (a .before .before .before .lines .inv) _ (found a) (l .before .before .before .if2 .left) _ _ _
+    let a = l .before .before .before .before .before in
+    line-refused _ _ _ _ _ _ _ _ _ _ _ (a .before .before .before .lines .inv) _ (found a) (l .before .before .before .before .if2 .left) _ _ _ _
     (fielded (l .before) false (l .loop-test .left)) (r .lead .result) _ _ _ (r .lead .ensures .0) (r .lead .ensures .1) _
     (c .enum-told .given .1)
 
@@ -358,6 +371,7 @@ scan-spec =
     find-requires
     add-end
     stopped-requires
+    names-in-requires
     sub-wants-values
     wants-values-requires
     loop-holds
@@ -370,7 +384,7 @@ scan-spec =
     part-field-of-start
     part-field-of-end
     field-of-requires
-    is-other-requires
+    is-empty-requires
     stopped-requires-2
     mul-fields
     array-set-from-fields

@@ -4,7 +4,7 @@ use mathlib.Core.Bool.{false, _&&_}
 use mathlib.Core.Logic.{⊎-elim}
 use lib.Dec.{eqb}
 use borrow.Author.Needs.{needs}
-use borrow.Author.Tests.{ne-eqb}
+use borrow.Author.Tests.{eq-eqb, ne-eqb}
 use Rattle.season_tables.specs.Inner.{endVerdict}
 use Rattle.season_tables.proofs.Held.{end-leads}
 use Rattle.season_tables.proofs.ended.Statement.{statement}
@@ -21,7 +21,7 @@ returns : tie.Need-returns
 returns c =
     let a = c .before .before .before .before .args in
     let told : c .taken .result .verdict ≡ endVerdict (a .seen) (a .at) =
-    rw (c .before .before .before .if1 .taken, c .before .if2 .taken) (c .taken .ensures .0) in
+    rw (c .before .before .before .if1 .taken, eq-eqb (a .seen .table) (a .seen .upto) (c .before .if2 .taken)) (c .taken .ensures .0) in
     ((told, c .taken .ensures .1), end-leads (a .seen) (a .at) (c .taken .result) told (c .taken .ensures .1))
 
 stopped-requires : tie.Need-stopped-requires
@@ -30,8 +30,8 @@ stopped-requires c κs = search needs
 returns-2 : tie.Need-returns-2
 returns-2 c =
     let a = c .before .before .args in
-    let due : (a .seen .named && eqb (a .seen .table) 3) ≡ false =
-    ⊎-elim (λ w. rw (w .0 .taken, ne-eqb (a .seen .table) 3 (w .2 .left))) (λ w. rw (w .left)) (c .before .if1 .came) in
+    let due : (a .seen .named && eqb (a .seen .table) (a .seen .upto)) ≡ false =
+    ⊎-elim (λ w. rw (w .0 .taken, ne-eqb (a .seen .table) (a .seen .upto) (w .2 .left))) (λ w. rw (w .left)) (c .before .if1 .came) in
     let told : c .stopped .result .verdict ≡ endVerdict (a .seen) (a .at) = rw due (c .stopped .ensures .0) in
     ((told, c .stopped .ensures .1), end-leads (a .seen) (a .at) (c .stopped .result) told (c .stopped .ensures .1))
 

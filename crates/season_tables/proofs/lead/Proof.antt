@@ -9,15 +9,15 @@ use Rattle.season_tables.proofs.lead.Statement.{statement}
 use Rattle.season_tables.proofs.lead.Tie as tie
 use Rattle.season_tables.proofs.lead.Reads as reads
 use Rattle.season_tables.proofs.lead.Lts as lts
+use Rattle.season_lines.proofs.form_of.Reads as form-of-reads
 use Rattle.season_lines.proofs.line_in.Reads as line-in-reads
-use Rattle.season_tables.proofs.is_heading.Reads as is-heading-reads
 use Rattle.season_tables.proofs.take_blank.Reads as take-blank-reads
 use Rattle.season_tables.proofs.take_line.Reads as take-line-reads
 use Rattle.season_tables.proofs.take_names.Reads as take-names-reads
 use Rattle.season_tables.proofs.wants_values.Reads as wants-values-reads
 
-is-heading-requires : tie.Need-is-heading-requires
-is-heading-requires c κs = search needs
+form-of-requires : tie.Need-form-of-requires
+form-of-requires c κs = search needs
 
 take-names-requires : tie.Need-take-names-requires
 take-names-requires c κs = search needs
@@ -25,7 +25,7 @@ take-names-requires c κs = search needs
 returns : tie.Need-returns
 returns c =
     let a = c .before .before .before .before .before .before .before .before .args in (
-      lead-names (a .seen) (a .catalog .now) (a .calls .now) (a .acts .now) (a .text .now) (a .at) (c .take-names .result) (c .before .is-heading .result) (not-true _ (c .before .before .if1 .taken)) (c .before .is-heading .ensures) (c .take-names .ensures .0),
+      lead-names (a .seen) (a .catalog .now) (a .calls .now) (a .acts .now) (a .text .now) (a .at) (c .take-names .result) (c .before .form-of .result) (not-true _ (c .before .before .if1 .taken)) (c .before .form-of .ensures) (c .take-names .ensures .0),
       keeps-all (a .seen) (a .catalog .now) (a .calls .now) (a .acts .now) (c .take-names .result) (c .take-names .ensures .1),
     )
 
@@ -33,14 +33,14 @@ wants-values-requires : tie.Need-wants-values-requires
 wants-values-requires c κs = search needs
 
 line-in-requires : tie.Need-line-in-requires
-line-in-requires c κs = search needs
+line-in-requires c κs = c .before .before .before .before .before .before .before .before .pre .judgeable
 
 take-line-requires : tie.Need-take-line-requires
 take-line-requires c κs =
     let a = c .before .before .before .before .before .before .before .before .before .before .before .before .args in
     let p = c .before .before .before .before .before .before .before .before .before .before .before .before .pre in
     let line = c .before .before .before .line-in in
-    record { room = p .room; few = p .holds .few; numbered = line-numbered (a .seen .table) (take (a .count) (a .fields)) (a .at) (line .result) (line .ensures) }
+    record { room = p .room; few = p .holds .few; numbered = line-numbered (a .seen .table) (a .seen .form) (take (a .count) (a .fields)) (a .at) (line .result) (line .ensures) }
 
 same-length : tie.Need-same-length
 same-length c = search needs
@@ -74,7 +74,7 @@ pub lead-spec : {M : Type 1} → statement M
 lead-spec =
     tie.close
     (tie.spec
-    is-heading-requires
+    form-of-requires
     take-names-requires
     returns
     wants-values-requires

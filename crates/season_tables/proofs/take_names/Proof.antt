@@ -1,6 +1,5 @@
 -- `season_tables::take_names` meets its contract: each return is a law of proofs/Held.antt. Assumes nothing.
 use borrow.Author.Needs.{needs}
-use borrow.Author.Tests.{not-true, not-false}
 use Rattle.season_tables.proofs.Held.{names-right, names-wrong}
 use Rattle.season_tables.proofs.Keeps.{stopped-keeps, taken-keeps}
 use Rattle.season_tables.proofs.take_names.Statement.{statement}
@@ -10,21 +9,29 @@ use Rattle.season_tables.proofs.take_names.Lts as lts
 use Rattle.season_tables.proofs.stopped.Reads as stopped-reads
 use Rattle.season_tables.proofs.taken.Reads as taken-reads
 
+enum-known-names : tie.Need-enum-known-names
+enum-known-names c = search needs
+
+taken-requires : tie.Need-taken-requires
+taken-requires c κs = search needs
+
+enum-told : tie.Need-enum-told
+enum-told c = search needs
+
 stopped-requires : tie.Need-stopped-requires
 stopped-requires c κs = search needs
 
 returns : tie.Need-returns
 returns c =
-    let a = c .before .before .args in
-    (names-wrong (a .seen) (a .right) (a .at) (c .stopped .result) (not-true _ (c .before .if1 .taken)) (c .stopped .ensures .0), stopped-keeps (a .seen) (c .stopped .result) (c .stopped .ensures .1))
-
-taken-requires : tie.Need-taken-requires
-taken-requires c κs = search needs
+    let a = c .before .before .before .before .args in
+    (names-right (a .seen) (a .names) (a .at) (c .taken .result) _ (c .before .before .names .given .1) (c .taken .ensures .0) (c .taken .ensures .1), taken-keeps (a .seen) (c .taken .result) (c .taken .ensures .0))
 
 returns-2 : tie.Need-returns-2
 returns-2 c =
-    let a = c .before .before .args in
-    (names-right (a .seen) (a .right) (a .at) (c .taken .result) (not-false _ (c .before .if1 .left)) (c .taken .ensures .0) (c .taken .ensures .1), taken-keeps (a .seen) (c .taken .result) (c .taken .ensures .0))
+    let a = c .before .before .before .args in
+    (names-wrong (a .seen) (a .names) (a .at) (c .stopped .result) (c .before .enum-told .given .1) (c .stopped .ensures .0), stopped-keeps (a .seen) (c .stopped .result) (c .stopped .ensures .1))
 
 pub take-names-spec : {M : Type 1} → statement M
-take-names-spec = tie.close (tie.spec stopped-requires returns taken-requires returns-2)
+take-names-spec =
+    tie.close
+    (tie.spec enum-known-names taken-requires enum-told stopped-requires returns returns-2)

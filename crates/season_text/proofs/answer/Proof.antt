@@ -36,27 +36,27 @@ enum-told c = search needs
 few : (c : tie.After-struct-known) → c .before .before .before .before .before .before .before .scan .result .seen .n ≤ 256
 few c =
     let r = c .before .before .before .before .before .before .before .scan in
-    items-few (readingOf (c .before .before .before .before .before .before .before .before .before .before .before .before .before .before .args .text .now)) (r .result) (r .last .1 .0) (r .last .1 .1 .0) (r .last .1 .1 .1 .0) (r .ensures .0) (c .before .enum-told .given .1)
+    items-few (readingOf (c .before .before .before .before .before .before .before .before .before .before .before .before .before .before .args .text .now)) (r .result) (r .last .1 .1 .0) (r .last .1 .1 .1 .0) (r .last .1 .1 .1 .1 .0) (r .ensures .0) (c .before .enum-told .given .1)
 
 -- the slices are as long as the arrays
-for-items : (c : tie.After-struct-known) → length (c .before .before .before .before .before .before .before .scan .last .1 .0) ≡ 1280
+for-items : (c : tie.After-struct-known) → length (c .before .before .before .before .before .before .before .scan .last .1 .1 .0) ≡ 1280
 for-items c = search needs
 
-for-steps : (c : tie.After-struct-known) → length (c .before .before .before .before .before .before .before .scan .last .1 .1 .0) ≡ 43692
+for-steps : (c : tie.After-struct-known) → length (c .before .before .before .before .before .before .before .scan .last .1 .1 .1 .0) ≡ 43692
 for-steps c = search needs
 
-for-acts : (c : tie.After-struct-known) → length (c .before .before .before .before .before .before .before .scan .last .1 .1 .1 .0) ≡ 32769
+for-acts : (c : tie.After-struct-known) → length (c .before .before .before .before .before .before .before .scan .last .1 .1 .1 .1 .0) ≡ 32769
 for-acts c = search needs
 
-inside : (c : tie.After-struct-known) → 5 * c .before .before .before .before .before .before .before .scan .result .seen .n ≤ length (c .before .before .before .before .before .before .before .scan .last .1 .0)
+inside : (c : tie.After-struct-known) → 5 * c .before .before .before .before .before .before .before .scan .result .seen .n ≤ length (c .before .before .before .before .before .before .before .scan .last .1 .1 .0)
 inside c = omega (arith, few c, for-items c)
 
 read :
     (c : tie.After-struct-known) →
-    (let r = c .before .before .before .before .before .before .before .scan in Reads (c .before .before .before .before .before .before .before .before .before .before .before .before .before .before .args .text .now) (r .result .seen) (take (5 * r .result .seen .n) (r .last .1 .0)) (r .last .1 .1 .0) (r .last .1 .1 .1 .0))
+    (let r = c .before .before .before .before .before .before .before .scan in Reads (c .before .before .before .before .before .before .before .before .before .before .before .before .before .before .args .text .now) (r .result .seen) (take (5 * r .result .seen .n) (r .last .1 .1 .0)) (r .last .1 .1 .1 .0) (r .last .1 .1 .1 .1 .0))
 read c =
     let r = c .before .before .before .before .before .before .before .scan in
-    taken-reads (c .before .before .before .before .before .before .before .before .before .before .before .before .before .before .args .text .now) (r .result) (r .last .1 .0) (r .last .1 .1 .0) (r .last .1 .1 .1 .0) (c .before .before .before .before .before .before .before .before .before .before .before .if1 .left) (r .ensures .0) (r .ensures .1 .0) (for-items c) (for-steps c) (for-acts c) (c .before .enum-told .given .1)
+    taken-reads (c .before .before .before .before .before .before .before .before .before .before .before .before .before .before .args .text .now) (r .result) (r .last .1 .1 .0) (r .last .1 .1 .1 .0) (r .last .1 .1 .1 .1 .0) (c .before .before .before .before .before .before .before .before .before .before .before .if1 .left) (r .ensures .0) (r .ensures .1 .0) (for-items c) (for-steps c) (for-acts c) (c .before .enum-told .given .1)
 
 mul-bytes : tie.Need-mul-bytes
 mul-bytes c = record { fits = omega (arith, few c) }
@@ -98,7 +98,7 @@ returns-2 : tie.Need-returns-2
 returns-2 c =
     let a = c .before .before .before .before .before .before .before .before .before .before .before .before .before .before .args in
     let r = c .before .before .before .before .before .before .before .scan in
-    line-refused (a .text .now) (a .page .now) (r .result) (r .last .1 .0) (r .last .1 .1 .0) (r .last .1 .1 .1 .0) _ (c .before .before .before .before .before .before .before .before .before .before .before .if1 .left) (r .ensures .0) (c .before .verdict .given .1)
+    line-refused (a .text .now) (a .page .now) (r .result) (r .last .1 .1 .0) (r .last .1 .1 .1 .0) (r .last .1 .1 .1 .1 .0) _ (c .before .before .before .before .before .before .before .before .before .before .before .if1 .left) (r .ensures .0) (c .before .verdict .given .1)
 
 returns-3 : tie.Need-returns-3
 returns-3 c = plan-refused (c .before .before .before .before .before .before .before .before .before .before .before .before .before .before .before .before .before .before .before .before .before .args .page .now) (c .before .r .given .0 .0) (c .before .before .before .before .before .before .before .before .before .before .before .before .before .before .before .before .before .before .if1 .left) (read (c .before .before .before .before .before .before .before)) (c .before .before .before .price-plan .ensures .0) (c .before .r .given .1)

@@ -3,7 +3,8 @@ use mathlib.Core.Path.{ap, _∙_}
 use mathlib.Core.List.{List}
 use Prim.Native.Nat.{ℕ}
 use borrow.Author.Needs.{needs}
-use Rattle.sentence.specs.InnerSentences.{inOneText, sameText}
+use Rattle.decimal.specs.Decimal.{sameText}
+use Rattle.sentence.specs.InnerSentences.{inOneText}
 use Rattle.sentence.proofs.is_word.Statement.{statement}
 use Rattle.sentence.proofs.is_word.Tie as tie
 

@@ -3,14 +3,14 @@ use native.Mathlib.Omega.{arith}
 use borrow.Author.Needs.{needs}
 use Rattle.decimal.specs.Decimal.{textOf}
 use Rattle.sentence.specs.Sentences.{itemPart}
-use Rattle.sentence.proofs.Laws.{first-fits, next-starts, next-fits, put-next}
+use Rattle.sentence.proofs.Laws.{first-fits, next-starts, next-fits, put-is, put-next}
 use Rattle.sentence.proofs.put_back.Statement.{statement}
 use Rattle.sentence.proofs.put_back.Tie as tie
 
 put-item-requires : tie.Need-put-item-requires
 put-item-requires c κs =
     let s = c .before .before in
-    first-fits (itemPart (s .args .number) (s .args .item)) (textOf ".\n") (s .args .page .now) (s .pre) .0
+    first-fits (itemPart (s .args .number) (s .args .item)) (textOf ".\n") (s .args .page .now) (s .pre)
 
 slice-aggregate-put-text : tie.Need-slice-aggregate-put-text
 slice-aggregate-put-text c = search needs
@@ -37,7 +37,7 @@ same-length c = search needs
 returns : tie.Need-returns
 returns c =
     let s = c .before .before .before .before .before .before .before .before .before .before in
-    put-next (itemPart (s .args .number) (s .args .item)) (textOf ".\n") (s .pre) (c .before .before .before .before .before .before .before .put-item .ensures) (c .before .before .put-text .ensures)
+    put-next (itemPart (s .args .number) (s .args .item)) (textOf ".\n") (s .pre) (c .before .before .before .before .before .before .before .put-item .ensures) (put-is (c .before .before .put-text .ensures))
 
 add-result : tie.Need-add-result
 add-result c = omega (arith, returns c .count, c .before .before .before .before .before .before .before .before .before .before .pre)

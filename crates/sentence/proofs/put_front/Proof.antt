@@ -9,7 +9,7 @@ use Rattle.sentence.proofs.put_front.Tie as tie
 put-word-requires : tie.Need-put-word-requires
 put-word-requires c κs =
     let s = c .before .before in
-    first-fits (wordOf (s .args .number)) (linePart (s .args .line)) (s .args .page .now) (s .pre) .0
+    first-fits (wordOf (s .args .number)) (linePart (s .args .line)) (s .args .page .now) (s .pre)
 
 sub-put-line : tie.Need-sub-put-line
 sub-put-line c =

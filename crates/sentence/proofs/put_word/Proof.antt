@@ -2,7 +2,7 @@
 use mathlib.Core.Path.{sym}
 use borrow.Author.Needs.{needs}
 use Rattle.sentence.specs.InnerSentences.{inOneText}
-use Rattle.sentence.proofs.Laws.{put-as}
+use Rattle.sentence.proofs.Laws.{put-is, put-as}
 use Rattle.sentence.proofs.put_word.Statement.{statement}
 use Rattle.sentence.proofs.put_word.Tie as tie
 
@@ -26,7 +26,7 @@ same-length c = search needs
 
 returns : tie.Need-returns
 unfolding inOneText
-returns c = put-as (sym (c .before .before .before .before .before .before .word-at .ensures .text)) (c .before .before .put-text .ensures)
+returns c = put-as (sym (c .before .before .before .before .before .before .word-at .ensures .text)) (put-is (c .before .before .put-text .ensures))
 
 pub put-word-spec : {M : Type 1} → statement M
 put-word-spec =

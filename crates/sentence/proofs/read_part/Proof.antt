@@ -8,8 +8,9 @@ use borrow.Author.Needs.{needs}
 use borrow.Author.Tests.{not-true, not-false}
 use lib.ListN.{length, take, drop, length-drop}
 use lib.Seq.{length-take-le}
+use Rattle.decimal.specs.Decimal.{sameText}
 use Rattle.decimal.proofs.Laws.{read-value}
-use Rattle.sentence.specs.InnerSentences.{sameText, pieceOf, partFrom, partOf}
+use Rattle.sentence.specs.InnerSentences.{pieceOf, partFrom, partOf}
 use Rattle.sentence.proofs.Laws.{piece-fits}
 use Rattle.sentence.proofs.Readings.{part-short, part-none, part-found, lent-rest}
 use Rattle.sentence.proofs.read_part.Statement.{statement}

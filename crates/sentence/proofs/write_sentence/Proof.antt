@@ -32,7 +32,7 @@ room c = let a = c .before .before .before .args in halves-fit (a .number) (a .l
 put-front-requires : tie.Need-put-front-requires
 put-front-requires c κs =
     let a = c .before .before .before .before .args in
-    first-fits (wordOf (a .number) ++ linePart (a .line)) (itemPart (a .number) (a .item) ++ textOf ".\n") (a .page .now) (room (c .before)) .0
+    first-fits (wordOf (a .number) ++ linePart (a .line)) (itemPart (a .number) (a .item) ++ textOf ".\n") (a .page .now) (room (c .before))
 
 sub-put-back : tie.Need-sub-put-back
 sub-put-back c =

@@ -1,24 +1,22 @@
--- `season_tables::same` meets its contract: the bytes passed are the same, so the rest decides. Assumes nothing.
+-- `decimal::same` meets its contract: the bytes passed are the same, so the rest decides. Assumes nothing.
 use mathlib.Core.Path.{_≡_, _∙_}
 use Prim.Native.Nat.{_≤_, _-_}
 use native.Mathlib.Omega.{arith}
 use borrow.Author.Needs.{needs}
 use lib.ListN.{length, drop}
-use Rattle.season_tables.specs.Tables.{sameBytes}
-use Rattle.season_tables.proofs.Bytes.{same-lengths, same-step, same-differs, same-end}
-use Rattle.season_tables.proofs.same.Statement.{statement}
-use Rattle.season_tables.proofs.same.Tie as tie
-use Rattle.season_tables.proofs.same.Reads as reads
-use Rattle.season_tables.proofs.same.Lts as lts
+use Rattle.decimal.specs.Decimal.{sameText}
+use Rattle.decimal.proofs.Texts.{same-lengths, same-step, same-differs, same-end}
+use Rattle.decimal.proofs.same.Statement.{statement}
+use Rattle.decimal.proofs.same.Tie as tie
 
 abbrev Inv-loop : tie.InvT-loop
-Inv-loop s t i₀ i = (i ≤ length s) × (sameBytes (drop i s) (drop i t) ≡ sameBytes s t)
+Inv-loop s t i₀ i = (i ≤ length s) × (sameText (drop i s) (drop i t) ≡ sameText s t)
 
 abbrev μ-loop : tie.MeasureT-loop
 μ-loop s t i₀ i = length s - i
 
 returns : tie.Need-returns Inv-loop μ-loop
-returns c = same-lengths (c .before .args .s .now) (c .before .args .t .now) (c .if1 .taken)
+returns c = same-lengths (c .before .args .s .now) (c .before .args .t .now) (λ e. omega arith)
 
 loop-holds : tie.Need-loop-holds Inv-loop μ-loop
 loop-holds c = search needs

@@ -1,22 +1,20 @@
--- `sentence::put_text` meets its contract. The loop's invariant: the first i bytes of the text are copied. Assumes nothing.
-use mathlib.Core.Path.{_≡_}
+-- `decimal::put_text` meets its contract. The loop's invariant: the rest of the text is left to write. Assumes nothing.
 use Prim.Native.Nat.{_-_, _≤_}
 use native.Mathlib.Omega.{arith}
 use borrow.Author.Needs.{needs}
-use lib.ListN.{length, length-set}
-use lib.Seq.{paste}
-use Rattle.sentence.proofs.Laws.{copied-next, copied-all}
-use Rattle.sentence.proofs.put_text.Statement.{statement}
-use Rattle.sentence.proofs.put_text.Tie as tie
+use lib.ListN.{length, drop, drop-of-length-le}
+use Rattle.decimal.proofs.Pages.{TextGoing, go-start, go-as, go-byte, go-end, text-next}
+use Rattle.decimal.proofs.put_text.Statement.{statement}
+use Rattle.decimal.proofs.put_text.Tie as tie
 
 abbrev Inv-loop : tie.InvT-loop
-Inv-loop text page₀ i₀ page i = (i ≤ length text) × (page ≡ paste page₀ 0 text i) × (length page ≡ length page₀)
+Inv-loop text page₀ i₀ page i = (i ≤ length text) × TextGoing text page₀ i (drop i text) page
 
 abbrev μ-loop : tie.MeasureT-loop
 μ-loop text page₀ i₀ page i = length text - i
 
 loop-holds : tie.Need-loop-holds Inv-loop μ-loop
-loop-holds c = search needs
+loop-holds c = (omega arith, go-start (c .args .text .now) (c .args .page .now))
 
 shared-slice-read-page : tie.Need-shared-slice-read-page Inv-loop μ-loop
 shared-slice-read-page c = search needs
@@ -32,19 +30,17 @@ loop-less c = search needs
 
 loop-again : tie.Need-loop-again Inv-loop μ-loop
 loop-again c =
-    let a = c .before .before .before .args in
+    let s = c .before .before .before in
     let l = c .before .before .loop in
-    (omega arith, copied-next (a .text .now) (a .page .now) (l .i) (c .before .before .before .pre) (omega arith) (l .inv .1), simp length-set (l .inv .2))
+    (omega arith, go-byte (s .pre) (go-as (text-next (s .args .text .now) (l .i) (omega arith)) (l .inv .1)))
 
 same-length : tie.Need-same-length Inv-loop μ-loop
 same-length c = search needs
 
 returns : tie.Need-returns Inv-loop μ-loop
 returns c =
-    let a = c .before .before .args in
     let l = c .before .loop in
-    let e : l .i ≡ length (a .text .now) = omega arith in
-    copied-all (a .text .now) (a .page .now) (l .i) e (l .inv .1)
+    go-end (go-as (drop-of-length-le (c .before .before .args .text .now) {i = l .i} (omega arith)) (l .inv .1))
 
 pub put-text-spec : {M : Type 1} → statement M
 put-text-spec =
