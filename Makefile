@@ -1,8 +1,9 @@
 # `make example` runs the main job on an example, `make test` runs everything that must hold; README.md has the rest.
-.PHONY: example report lib example-c example-firmware test bench soak
+.PHONY: example report check-log lib example-c example-firmware test bench soak
 
 LIBRARY = target/staticlib/librecorder.a
 SEASON = target/bin/season
+CHECK_LOG = target/bin/check_log
 
 # The main job: paper 01's whole example, a season's text on standard input, its report on standard output.
 example:
@@ -15,9 +16,13 @@ example:
 report: $(if $(FILE),$(SEASON))
 	@bash scripts/report "$(FILE)"
 
+# The log that the box writes, alone: printed again if it is good, or its refusal: make check-log FILE=log.txt
+check-log: $(if $(FILE),$(CHECK_LOG))
+	@bash scripts/report "$(FILE)" check_log
+
 # Proves the program and all below it, and links it. What the prover says goes to standard error.
-$(SEASON): $(wildcard crates/*/src/*.rt crates/*/specs/*.antt) crates.txt
-	@rt check season >&2
+$(SEASON) $(CHECK_LOG): target/bin/%: $(wildcard crates/*/src/*.rt crates/*/specs/*.antt) crates.txt
+	@rt check $* >&2
 	@touch $@
 
 # The archive for C.
@@ -42,11 +47,12 @@ test:
 	bash scripts/test
 
 # Not part of the tests: times against plain Rust that does the same checks on the same bytes, and prints the same report.
-bench: $(SEASON) lib
+bench: $(SEASON) $(CHECK_LOG) lib
 	bash bench/run
 	bash bench/season/run
+	bash bench/log/run
 
-# A long differential run of the library and the program against plain Rust; docs/PRACTICE.md has what came of one. With fewer
+# A long differential run of the library and the programs against plain Rust; docs/PRACTICE.md has what came of one. With fewer
 # cases it is part of the tests. One case again: make soak SEED=1 ONLY=seasons:123
 SEED = 1
 SEASONS = 100000
@@ -54,5 +60,6 @@ TEXTS = 100000
 STATES = 1000000
 PLANS = 1000000
 SENTENCES = 1000000
-soak: $(SEASON) lib
-	bash bench/soak/run seed=$(SEED) seasons=$(SEASONS) texts=$(TEXTS) states=$(STATES) plans=$(PLANS) sentences=$(SENTENCES) only=$(ONLY)
+LOGS = 500000
+soak: $(SEASON) $(CHECK_LOG) lib
+	bash bench/soak/run seed=$(SEED) seasons=$(SEASONS) texts=$(TEXTS) states=$(STATES) plans=$(PLANS) sentences=$(SENTENCES) logs=$(LOGS) only=$(ONLY)

@@ -1,8 +1,9 @@
 /*
  * recorder.h: the cache recorder, as the firmware calls it.
  *
- * Five functions over bytes that the caller lends: open a cache, take one step of the log, close the log, write the report,
- * and say a refusal in words. They are compiled from proved code into a static library; link it with nothing else:
+ * Six functions over bytes that the caller lends: open a cache, take one step of the log, close the log, write the report,
+ * say a refusal in words, and write the log as text for the office. They are compiled from proved code into a static library;
+ * link it with nothing else:
  *
  *     cc -Iinclude main.c librecorder.a
  *
@@ -19,15 +20,17 @@
  * different states may run at the same time, or one in the middle of another. Calls on one state may not, and nothing else
  * may write it during a call.
  *
- * OVERLAP. The bytes of `state` must not overlap those of `catalog`, `page` or `length`, nor these each other.
+ * OVERLAP. The bytes of `state` must not overlap those of `catalog`, `page` or `length`, nor these each other; nor may those of
+ * `steps` overlap those of `page` or `length`.
  *
- * ANSWERS. Each call answers 0 (taken) or the number of a refusal. Refused, every lent byte is as it was before the call.
- * Any bytes, any numbers and any length may be handed in; a call never traps and always returns. A pointer must be good
- * for the count of bytes that is handed in with it; with a count of 0 it is not used, and may be NULL.
+ * ANSWERS. Each call answers 0 (taken) or the number of a refusal; recorder_log answers a number and a line in one. Refused,
+ * every lent byte is as it was before the call. Any bytes, any numbers and any length may be handed in; a call never traps and
+ * always returns. A pointer must be good for the count of bytes that is handed in with it; with a count of 0 it is not used,
+ * and may be NULL.
  *
  * STACK. Measured on x86-64 (make bench prints it): at most 191 bytes for recorder_open, 343 for recorder_step, 199 for
- * recorder_close, 471 for recorder_report and 623 for recorder_sentence, with no recursion, what the C library's memcpy and
- * memset use included. The library works on the lent bytes in place and makes no copy of them.
+ * recorder_close, 471 for recorder_report, 623 for recorder_sentence and 191 for recorder_log, with no recursion, what the C
+ * library's memcpy and memset use included. The library works on the lent bytes in place and makes no copy of them.
  */
 #ifndef RECORDER_H
 #define RECORDER_H
@@ -57,6 +60,9 @@ extern "C" {
 /* The bytes of the longest sentence there can be, its line feed included: a page of this size is never too short. */
 #define RECORDER_SENTENCE_BYTES 47
 
+/* The most bytes that a log's text may have: a page of this size is never too short, and a longer season has no text. */
+#define RECORDER_LOG_BYTES 65536
+
 /* The limits of the arguments. */
 #define RECORDER_MAX_K 4096         /* capacity, in blocks: 1 to 4,096 */
 #define RECORDER_MAX_ITEMS 256      /* items of a catalog: 0 to 256, numbered from 0 */
@@ -64,6 +70,7 @@ extern "C" {
 #define RECORDER_MAX_BLOCKS 16      /* blocks of an item: 1 to 16 */
 #define RECORDER_MAX_MINUTES 1440   /* minutes of a write: 0 to 1,440 */
 #define RECORDER_MAX_STEPS 1000000  /* steps of a log */
+#define RECORDER_STEP_BYTES 12      /* bytes of a step in a list of steps */
 
 /* One unit of cost in credit units (the scope's 'shares'): the least common multiple of 1 to 16. */
 #define RECORDER_UNIT 720720
@@ -71,13 +78,14 @@ extern "C" {
 /* What a call answers. The numbers and the words in quotes are those of the table of refusals. */
 enum recorder_answer {
     RECORDER_TAKEN = 0,
-    RECORDER_OUT_OF_RANGE = 3,   /* 'off the tape': k, the catalog, a kind, an item number or minutes out of range; or the
-                                    number of no refusal */
+    RECORDER_OUT_OF_RANGE = 3,   /* 'off the tape': k, the catalog, a kind, an item number or minutes out of range; a list
+                                    of steps that is not whole; or the number of no refusal */
     RECORDER_UNKNOWN_ITEM = 6,   /* 'stranger': the item is not in the catalog */
     RECORDER_ITEM_TOO_LARGE = 7, /* 'too bulky': the item has more than k blocks */
     RECORDER_LOG_FULL = 8,       /* 'log full': 1,000,000 steps are already taken */
     RECORDER_CLOSED = 9,         /* 'closed': a step or a close on a closed cache */
-    RECORDER_SHORT_PAGE = 15,    /* 'short page': the page is shorter than the report, or than the sentence */
+    RECORDER_SHORT_PAGE = 15,    /* 'short page': the page is shorter than the report, the sentence or the log's text; or this
+                                    has over 65,536 bytes */
     RECORDER_INVALID_STATE = 17  /* 'foul locker': a state of the wrong length, or damaged */
 };
 
@@ -170,9 +178,10 @@ uint32_t recorder_report(const uint8_t *state, size_t state_len, uint8_t *page, 
  *     too bulky, sail 4.
  *     stranger, line 7, sail 3.
  *
- * The number is what another call has answered, or that of a refused text. A call's refusal has no line: hand in 0. The item is
- * the one that was handed in with that call; for the other numbers it is not looked at. Line and item may be any numbers. Two
- * refusals that differ in number, line or a named item have different sentences, so all three can be read back from one.
+ * The number is what another call has answered, or that of a refused text. Of the calls only recorder_log answers a line: hand
+ * in 0 for the others. The item is the one that was handed in with that call; for the other numbers it is not looked at. Line
+ * and item may be any numbers. Two refusals that differ in number, line or a named item have different sentences, so all three
+ * can be read back from one.
  *
  * The words, by number:
  *      1 torn             2 heading          3 off the tape     4 miscounted       5 outsized rival   6 stranger
@@ -188,6 +197,45 @@ uint32_t recorder_report(const uint8_t *state, size_t state_len, uint8_t *page, 
  * Refused, every byte of the page and *length are as before. `length` must point to a size_t, always.
  */
 uint32_t recorder_sentence(uint32_t number, uint32_t line, uint32_t item, uint8_t *page, size_t page_len, size_t *length);
+
+/*
+ * Writes the log of a season for the office: the steps that were taken, as the third table of the office's text, at the start
+ * of the page, without a zero byte behind it, and its length in bytes to *length. Bytes of the page past the text keep their
+ * contents. The steps are only read. No state is needed, and none keeps the steps: the caller does.
+ *
+ * The list has RECORDER_STEP_BYTES bytes a step, in the order of the log:
+ *     bytes 0 to 3   kind, low byte first: 82, 87 or 76, as for recorder_step
+ *     bytes 4 to 7   item, low byte first
+ *     bytes 8 to 11  minutes, low byte first
+ * On this machine an array of uint32_t, three a step, is such bytes: hand it in as (const uint8_t *)array, with its size in
+ * bytes. The list may stand at any alignment. As for recorder_step, a read's minutes and a flush's item and minutes may be any
+ * numbers. Neither a catalog nor k is known here, so 6 and 7 never fall due: list the steps that recorder_step has taken.
+ *
+ * The text has a line of names and a line for each step, its kind, item and minutes, with `-` for what it lacks. Numbers are
+ * decimal, split by single spaces; each line ends with a line feed:
+ *
+ *     step sail minutes
+ *     W 0 90
+ *     R 1 -
+ *     L - -
+ *
+ * A list in range has one text, and the office reads the same steps back from it. A line has 6 to 11 bytes, so 5,956 steps
+ * always have a text, and more than 10,919 never have one. The office's text has no more bytes either, with its other three
+ * tables; leave room for them (docs/GUIDE.md, 'The log that the box writes').
+ *
+ * Answers a number and a line, as RECORDER_LOG_NUMBER and RECORDER_LOG_LINE take them from the answer. The first that holds:
+ *      3  a step is out of range: its kind is none of 82, 87 and 76; or it is a read or write of an item above 255; or a write
+ *         of more than 1,440 minutes. Or the list is not whole: behind its last whole step there are 1 to 11 bytes more. The
+ *         line is that of the first such step, which is 2 for the first of the list; one above 4,294,967,295 is told as that
+ *     15  the page is shorter than the text, or the text has over RECORDER_LOG_BYTES bytes; line 0
+ *      0  written; line 0
+ * Refused, every byte of the page and *length are as before. `length` must point to a size_t, always.
+ */
+uint64_t recorder_log(const uint8_t *steps, size_t steps_len, uint8_t *page, size_t page_len, size_t *length);
+
+/* The two halves of what recorder_log answers: the number, 0, 3 or 15, and the line of a 3, else 0. */
+#define RECORDER_LOG_NUMBER(answer) ((uint32_t)(answer))
+#define RECORDER_LOG_LINE(answer) ((uint32_t)((answer) >> 32))
 
 /*
  * WHAT THE STATE SAYS. Numbers are little-endian; docs/LAYOUT.md has every field with its allowed values. A run has 256

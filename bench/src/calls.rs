@@ -27,6 +27,13 @@ unsafe extern "C" {
         page_len: usize,
         length: *mut usize,
     ) -> u32;
+    fn recorder_log(
+        steps: *const u8,
+        steps_len: usize,
+        page: *mut u8,
+        page_len: usize,
+        length: *mut usize,
+    ) -> u64;
 }
 
 #[derive(Clone, Copy)]
@@ -57,6 +64,14 @@ pub const LIBRARY: Calls = Calls {
 pub fn sentence(number: u32, line: u32, item: u32, page: &mut [u8], length: &mut usize) -> u32 {
     // SAFETY: as of the calls above.
     unsafe { recorder_sentence(number, line, item, page.as_mut_ptr(), page.len(), length) }
+}
+
+/// The library's log of a list of steps, 12 bytes each: a number in the low half of the answer, its line in the high half. It has no
+/// state either; in plain Rust it is `plain_season::log::write`, and bench/log and the soak compare the two.
+pub fn log(steps: &[u8], page: &mut [u8], length: &mut usize) -> u64 {
+    let (list, list_len) = (steps.as_ptr(), steps.len());
+    // SAFETY: as of the calls above.
+    unsafe { recorder_log(list, list_len, page.as_mut_ptr(), page.len(), length) }
 }
 
 /// The plain step under a name of its own, as the library's has one, so that callgrind can count what is below it.

@@ -41,9 +41,16 @@ fn taken_by(call: &mut dyn FnMut()) -> usize {
 }
 
 /// The most that each call takes, over a few states: a catalog of 3 and one of 256 items, little and much held, clean and dirty; and
-/// the sentence of each number that has one, with the longest line and item.
-fn most() -> [usize; 5] {
-    let [mut open, mut step, mut close, mut report, mut sentence] = [0; 5];
+/// the sentence of each number that has one, with the longest line and item; and a log with a step of each kind, on a page and on none.
+fn most() -> [usize; 6] {
+    let [
+        mut open,
+        mut step,
+        mut close,
+        mut report,
+        mut sentence,
+        mut log,
+    ] = [0; 6];
     for n in [3u32, 256] {
         let catalog: Vec<u8> = (0..n)
             .flat_map(|i| [1 + (i % 4) as u8, 9, 0, 7, 0])
@@ -75,7 +82,19 @@ fn most() -> [usize; 5] {
             assert_eq!(answer, 0);
         }));
     }
-    [open, step, close, report, sentence]
+    let steps = [[READ, 255, 0], [WRITE, 255, 1440], [FLUSH, 0, 0]];
+    let list: Vec<u8> = steps
+        .as_flattened()
+        .iter()
+        .flat_map(|number| number.to_le_bytes())
+        .collect();
+    for (page_len, expected) in [(64, 0), (0, 15)] {
+        let mut page = vec![0; page_len];
+        log = log.max(taken_by(&mut || {
+            assert_eq!(calls::log(&list, &mut page, &mut 0), expected);
+        }));
+    }
+    [open, step, close, report, sentence, log]
 }
 
 pub fn table() {
@@ -86,7 +105,7 @@ pub fn table() {
         .join()
         .expect("each call is taken");
     println!("bytes of stack at most, memcpy and memset of the C library included:");
-    let names = ["open", "step", "close", "report", "sentence"];
+    let names = ["open", "step", "close", "report", "sentence", "log"];
     for (name, bytes) in names.iter().zip(bytes) {
         println!("  {name:<8} {bytes:>6}");
     }

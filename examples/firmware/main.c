@@ -1,6 +1,7 @@
 /*
  * The recorder's main loop, in small: a season of a few steps with a card that fails, a state that is damaged, and a night
- * without power. It prints what it does; examples/firmware/run compares that with expected.txt.
+ * without power. It prints what it does; examples/firmware/run compares that with expected.txt. At the end it writes the season's
+ * log for the office, and with a file's name as argument into that file.
  *
  * THE ORDER OF A STEP. (1) Keep a copy of the state. (2) Make the call. (3) Compare the marks of both states. (4) Write back
  * the records that have to go to the card. (5) Fetch the one that was loaded. (6) Store the new state, with the number of the
@@ -79,6 +80,15 @@ static const struct fault {
 };
 
 static uint8_t state[RECORDER_STATE_BYTES], before[RECORDER_STATE_BYTES];
+
+/*
+ * The steps that were taken, three numbers each, which are the bytes that recorder_log wants. They stand on the card as the log
+ * does. How many there are says the state's own count, and a step is put at its place before the state is stored: broken off and
+ * taken again it comes to the same place, and a step that was not stored is past the count.
+ */
+static uint32_t taken[CLOSE - 1][3];
+
+_Static_assert(sizeof *taken == RECORDER_STEP_BYTES, "a step of the list is three numbers");
 
 /*
  * Working memory, with a place for each item, so that a fetch never lands on a record that was evicted in the same step and
@@ -160,14 +170,14 @@ static void say_call(uint32_t step)
 
 /*
  * A refusal as the crew reads it: the number and, so that nobody has to look it up, its sentence, which ends the line. A call
- * answers the bare number; the item is the one that was handed in, and there is no line. Nothing is left to go wrong here: every
- * number that a call answers has a sentence, and the page is as long as the longest.
+ * answers the bare number; the item is the one that was handed in, and there is no line but that of a log's step. Nothing is left
+ * to go wrong here: every number that a call answers has a sentence, and the page is as long as the longest.
  */
-static void say_refusal(uint32_t answer, uint32_t item)
+static void say_refusal(uint32_t answer, uint32_t line, uint32_t item)
 {
     uint8_t sentence[RECORDER_SENTENCE_BYTES];
     size_t length = 0;
-    (void)recorder_sentence(answer, 0, item, sentence, sizeof sentence, &length);
+    (void)recorder_sentence(answer, line, item, sentence, sizeof sentence, &length);
     printf(", answer %u: ", answer);
     fwrite(sentence, 1, length, stdout);
 }
@@ -196,12 +206,32 @@ static void serve_boat(uint32_t step)
         tally.wrong_records++;
 }
 
+/* How many steps the state has taken. On this machine the low byte comes first, as in the state. */
+static uint32_t steps_taken(void)
+{
+    uint32_t count;
+    memcpy(&count, state + RECORDER_AT_STEPS, sizeof count);
+    return count;
+}
+
+/* Puts a step that was taken behind those before it. The close is no step. */
+static void keep(uint32_t step)
+{
+    if (step == CLOSE)
+        return;
+    uint32_t *place = taken[steps_taken() - 1];
+    place[0] = steps[step - 1].kind;
+    place[1] = steps[step - 1].item;
+    place[2] = steps[step - 1].minutes;
+}
+
 /* (4), (5) and (6) of the order above. */
 static bool carry_out(uint32_t step, const struct moves *m)
 {
     if (!serve_card(m))
         return false;
     serve_boat(step);
+    keep(step);
     if (!card_store(state, step + 1))
         return false;
     for (uint32_t i = 0; i < ITEMS; i++)
@@ -217,7 +247,7 @@ static enum outcome take(uint32_t step)
     uint32_t answer = call(step);
     say_call(step);
     if (answer != RECORDER_TAKEN) {
-        say_refusal(answer, step == CLOSE ? 0 : steps[step - 1].item);
+        say_refusal(answer, 0, step == CLOSE ? 0 : steps[step - 1].item);
         return answer == RECORDER_INVALID_STATE ? DAMAGED : REFUSED;
     }
     struct moves m = compare();
@@ -247,7 +277,7 @@ static bool reopen(uint32_t next)
     uint32_t answer = recorder_open(state, sizeof state, K, catalog, sizeof catalog);
     if (answer != RECORDER_TAKEN) {
         printf("  the catalogue is refused");
-        say_refusal(answer, 0);
+        say_refusal(answer, 0, 0);
         return false;
     }
     for (uint32_t step = 1; step < next; step++)
@@ -277,7 +307,7 @@ static bool restore(uint32_t *next)
         return true;
     }
     printf("  no good state on the card");
-    say_refusal(answer, 0);
+    say_refusal(answer, 0, 0);
     return reopen(*next);
 }
 
@@ -377,12 +407,34 @@ static bool finish(void)
     return equal && tally.wrong_records == 0;
 }
 
-int main(void)
+/*
+ * The season's log for the office, which puts it between its other tables. What a page of RECORDER_LOG_BYTES bytes does not hold
+ * has no text at all; a box that may sail so long closes its season before.
+ */
+static bool hand_over(const char *name)
+{
+    static uint8_t page[RECORDER_LOG_BYTES];
+    size_t length = 0;
+    uint64_t answer = recorder_log((const uint8_t *)taken, steps_taken() * sizeof *taken, page, sizeof page, &length);
+    if (answer != RECORDER_TAKEN) {
+        printf("the log is refused");
+        say_refusal(RECORDER_LOG_NUMBER(answer), RECORDER_LOG_LINE(answer), 0);
+        return false;
+    }
+    puts("the log, for the office");
+    fwrite(page, 1, length, stdout);
+    if (name == NULL)
+        return true;
+    FILE *file = fopen(name, "wb");
+    return file != NULL && fwrite(page, 1, length, file) == length && fclose(file) == 0;
+}
+
+int main(int argc, char **argv)
 {
     enum end end;
     while ((end = run()) == POWERED_OFF)
         puts("power off");
     if (end == GAVE_UP)
         puts("gave up");
-    return end == CLOSED && finish() ? 0 : 1;
+    return end == CLOSED && finish() && hand_over(argc > 1 ? argv[1] : NULL) ? 0 : 1;
 }

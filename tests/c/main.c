@@ -1,9 +1,10 @@
 /*
- * The exported calls from C: the worked example, every refusal, damaged states, the marks of 256 items, reports, sentences. It prints
- * short lines that tests/c/run compares with expected.txt.
+ * The exported calls from C: the worked example, every refusal, damaged states, the marks of 256 items, reports, sentences, logs. It
+ * prints short lines that tests/c/run compares with expected.txt.
  *
- * Every call is made twice on copies of the state: at an odd address between guard bytes, and in a heap block of exactly
- * the state's length, so that valgrind sees a byte read or written outside it. Both must give the same answer and bytes.
+ * Every call on a state is made twice on copies of it: at an odd address between guard bytes, and in a heap block of exactly
+ * the state's length, so that valgrind sees a byte read or written outside it. Both must give the same answer and bytes. A log is
+ * written twice in the same way, with the list and the page for the state.
  */
 #include "recorder.h"
 
@@ -747,6 +748,217 @@ static void sentences(void)
            pages.written, pages.just_fitting, pages.longer, pages.byte_short, pages.longest);
 }
 
+/* What was answered to a list of steps, and the text if there is one. */
+struct log {
+    uint64_t answer;
+    size_t length;
+    uint8_t text[RECORDER_LOG_BYTES];
+};
+
+/* A list with one more step than any text has, and bytes of a step that is not whole. */
+#define LIST_BYTES (12 * 10920 + 11)
+#define PAGE_BYTES (RECORDER_LOG_BYTES + 64)
+
+/* The log of a list at an odd address, on a page at an odd address; the bytes around both have to be as before. */
+static uint64_t log_between_guards(const uint8_t *list, size_t list_len, uint8_t *page, size_t page_len, size_t *length)
+{
+    static uint8_t lists[GUARD + LIST_BYTES + GUARD], pages[GUARD + PAGE_BYTES + GUARD];
+    memset(lists, 0xC3, sizeof lists);
+    memset(pages, 0xC3, sizeof pages);
+    if (list_len != 0)
+        memcpy(lists + GUARD, list, list_len);
+    memset(pages + GUARD, 0x7E, page_len);
+    uint64_t answer = recorder_log(lists + GUARD, list_len, pages + GUARD, page_len, length);
+    for (size_t i = 0; i < sizeof pages; i++)
+        if ((i < GUARD || i >= GUARD + page_len) && pages[i] != 0xC3) {
+            fault("a byte outside the page was written");
+            break;
+        }
+    for (size_t i = 0; i < sizeof lists; i++)
+        if (lists[i] != (i < GUARD || i >= GUARD + list_len ? 0xC3 : list[i - GUARD])) {
+            fault("the list, or a byte beside it, was written");
+            break;
+        }
+    memcpy(page, pages + GUARD, page_len);
+    return answer;
+}
+
+static const struct log *log_of(const uint8_t *list, size_t list_len, size_t page_len)
+{
+    static struct log l;
+    static uint8_t other[PAGE_BYTES];
+    uint8_t *steps = block(list, list_len), *page = blank(page_len);
+    size_t length = UNTOLD, other_length = UNTOLD;
+    l.answer = recorder_log(steps, list_len, page, page_len, &length);
+    l.length = written(page, page_len, l.answer == 0 ? 0 : 1, length);
+    if (l.length > sizeof l.text) {
+        fault("a log longer than the longest");
+        l.length = sizeof l.text;
+    }
+    if (l.length != 0)
+        memcpy(l.text, page, l.length);
+    if (list_len != 0 && memcmp(steps, list, list_len) != 0)
+        fault("a log changed its list");
+    if (log_between_guards(list, list_len, other, page_len, &other_length) != l.answer || other_length != length)
+        fault("two answers to one list");
+    if (page_len != 0 && memcmp(other, page, page_len) != 0)
+        fault("two pages of one list");
+    free(page);
+    free(steps);
+    return &l;
+}
+
+/* A list of steps, each three numbers, which on this machine are the bytes that are lent. */
+static const struct log *log_of_steps(const uint32_t (*steps)[3], size_t count, size_t page_len)
+{
+    return log_of((const uint8_t *)steps, count * sizeof *steps, page_len);
+}
+
+/* Number and line, and the text's length if it was written. */
+static void print_log(const char *what, const struct log *l)
+{
+    printf("%s: %u", what, RECORDER_LOG_NUMBER(l->answer));
+    if (RECORDER_LOG_LINE(l->answer) != 0)
+        printf(" on line %u", RECORDER_LOG_LINE(l->answer));
+    if (l->answer == 0)
+        printf(", length %zu", l->length);
+    putchar('\n');
+}
+
+/* The same, and the text. */
+static void print_text(const char *what, const struct log *l)
+{
+    print_log(what, l);
+    fwrite(l->text, 1, l->length, stdout);
+}
+
+/* Each count of digits, and the ends of both ranges; what a step lacks is wild. */
+static void good_logs(void)
+{
+    static const uint32_t kinds[][3] = {
+        { RECORDER_READ, 0, 0 }, { RECORDER_READ, 9, 0 }, { RECORDER_READ, 10, 0 }, { RECORDER_READ, 99, 0 },
+        { RECORDER_READ, 100, 0 }, { RECORDER_READ, 255, 0 }, { RECORDER_WRITE, 0, 0 }, { RECORDER_WRITE, 9, 9 },
+        { RECORDER_WRITE, 10, 10 }, { RECORDER_WRITE, 99, 99 }, { RECORDER_WRITE, 100, 100 }, { RECORDER_WRITE, 199, 999 },
+        { RECORDER_WRITE, 200, 1000 }, { RECORDER_WRITE, 255, 1440 }, { RECORDER_FLUSH, 0, 0 },
+    };
+    static const uint32_t wild[][3] = {
+        { RECORDER_READ, 3, 1441 }, { RECORDER_READ, 3, 4294967295u }, { RECORDER_FLUSH, 256, 1441 },
+        { RECORDER_FLUSH, 4294967295u, 4294967295u }, { RECORDER_FLUSH, RECORDER_READ, RECORDER_WRITE },
+    };
+    static const uint32_t tame[][3] = {
+        { RECORDER_READ, 3, 0 }, { RECORDER_READ, 3, 0 }, { RECORDER_FLUSH, 0, 0 }, { RECORDER_FLUSH, 0, 0 }, { RECORDER_FLUSH, 0, 0 },
+    };
+    enum { KINDS = sizeof kinds / sizeof *kinds, WILD = sizeof wild / sizeof *wild };
+    print_text("no steps", log_of(NULL, 0, RECORDER_LOG_BYTES));
+    print_log("no steps, a page that just fits", log_of(NULL, 0, 18));
+    print_log("no steps, a byte short", log_of(NULL, 0, 17));
+    print_log("no steps, no page", log_of(NULL, 0, 0));
+    print_text("each kind", log_of_steps(kinds, KINDS, RECORDER_LOG_BYTES));
+    size_t fits = log_of_steps(kinds, KINDS, RECORDER_LOG_BYTES)->length;
+    print_log("a page that just fits", log_of_steps(kinds, KINDS, fits));
+    print_log("a byte more", log_of_steps(kinds, KINDS, fits + 1));
+    print_log("a byte short", log_of_steps(kinds, KINDS, fits - 1));
+    print_log("no page", log_of_steps(kinds, KINDS, 0));
+    print_text("wild where nothing is looked at", log_of_steps(wild, WILD, RECORDER_LOG_BYTES));
+    struct log first = *log_of_steps(wild, WILD, RECORDER_LOG_BYTES);
+    const struct log *second = log_of_steps(tame, WILD, RECORDER_LOG_BYTES);
+    puts(first.length == second->length && memcmp(first.text, second->text, first.length) == 0 ? "the same text" : "ANOTHER TEXT");
+}
+
+/* A step out of range in front, in the middle and at the end of good ones; with a page, and with none (3 before 15). */
+static void faulty_steps(void)
+{
+    static const struct { const char *name; uint32_t step[3]; } rows[] = {
+        { "kind 0", { 0, 0, 0 } },
+        { "kind 65 (A)", { 65, 0, 0 } },
+        { "kind 114 (r)", { 114, 0, 0 } },
+        { "kind 82 + 256", { 338, 0, 0 } },
+        { "kind 82, high byte first", { 82u << 24, 0, 0 } },
+        { "kind 4294967295", { 4294967295u, 0, 0 } },
+        { "R 256", { RECORDER_READ, 256, 0 } },
+        { "R 4294967295", { RECORDER_READ, 4294967295u, 0 } },
+        { "W 256 0", { RECORDER_WRITE, 256, 0 } },
+        { "W 0 1441", { RECORDER_WRITE, 0, 1441 } },
+        { "W 0 4294967295", { RECORDER_WRITE, 0, 4294967295u } },
+        { "W 65536 65536", { RECORDER_WRITE, 65536, 65536 } },
+    };
+    static const size_t places[] = { 0, 3, 6 };
+    for (size_t i = 0; i < sizeof rows / sizeof *rows; i++) {
+        printf("%s:", rows[i].name);
+        for (size_t j = 0; j < 3; j++) {
+            uint32_t steps[7][3];
+            for (size_t k = 0; k < 7; k++)
+                memcpy(steps[k], k == places[j] ? rows[i].step : (const uint32_t[3]) { RECORDER_WRITE, 7, 60 }, sizeof *steps);
+            uint64_t answer = log_of_steps(steps, 7, RECORDER_LOG_BYTES)->answer;
+            if (log_of_steps(steps, 7, 0)->answer != answer)
+                fault("another answer without a page");
+            printf(" %u on line %u%s", RECORDER_LOG_NUMBER(answer), RECORDER_LOG_LINE(answer), j < 2 ? "," : "\n");
+        }
+    }
+    uint32_t two[4][3] = { { RECORDER_FLUSH, 0, 0 }, { RECORDER_WRITE, 0, 1441 }, { RECORDER_FLUSH, 0, 0 }, { 0, 0, 0 } };
+    print_log("two faults", log_of_steps((const uint32_t (*)[3])two, 4, RECORDER_LOG_BYTES));
+}
+
+/* Lists that are not whole: behind three good steps, as the whole list, and behind a fault, which is the first then. */
+static void rests(void)
+{
+    static const uint32_t good[4][3] = { { 76, 0, 0 }, { 82, 3, 0 }, { 87, 3, 40 }, { 82, 4, 0 } };
+    static const uint32_t bad[4][3] = { { 76, 0, 0 }, { 82, 256, 0 }, { 87, 3, 40 }, { 82, 4, 0 } };
+    for (size_t rest = 1; rest < 12; rest++) {
+        printf("%zu bytes:", rest);
+        const struct { const uint32_t (*steps)[3]; size_t whole; } lists[] = { { good, 3 }, { good, 0 }, { bad, 3 } };
+        for (size_t i = 0; i < 3; i++) {
+            const uint8_t *list = (const uint8_t *)lists[i].steps;
+            size_t list_len = lists[i].whole * RECORDER_STEP_BYTES + rest;
+            uint64_t answer = log_of(list, list_len, RECORDER_LOG_BYTES)->answer;
+            if (log_of(list, list_len, 0)->answer != answer)
+                fault("another answer without a page");
+            printf(" %u on line %u%s", RECORDER_LOG_NUMBER(answer), RECORDER_LOG_LINE(answer), i < 2 ? "," : "\n");
+        }
+    }
+}
+
+/* The longest texts. A line has six bytes or more, so 10,919 steps are the most. */
+static void long_logs(void)
+{
+    static uint32_t steps[10921][3];
+    const uint32_t (*list)[3] = (const uint32_t (*)[3])steps;
+    for (size_t i = 0; i < sizeof steps / sizeof *steps; i++)
+        steps[i][0] = RECORDER_FLUSH;
+    print_log("10919 times L", log_of_steps(list, 10919, RECORDER_LOG_BYTES));
+    print_log("  on a page that just fits", log_of_steps(list, 10919, 65532));
+    print_log("  a byte short", log_of_steps(list, 10919, 65531));
+    print_log("10920 times L, 65538 bytes", log_of_steps(list, 10920, PAGE_BYTES));
+    print_log("  and 5 bytes more (3 before 15)", log_of((const uint8_t *)list, 12 * 10920 + 5, PAGE_BYTES));
+    memcpy(steps[10918], (const uint32_t[3]) { RECORDER_WRITE, 0, 1000 }, sizeof *steps);
+    memcpy(steps[0], (const uint32_t[3]) { RECORDER_READ, 10, 0 }, sizeof *steps);
+    print_log("65536 bytes", log_of_steps(list, 10919, RECORDER_LOG_BYTES));
+    const struct log *l = log_of_steps(list, 10919, RECORDER_LOG_BYTES);
+    printf("  begins and ends with\n%.25s%.15s", (const char *)l->text, (const char *)l->text + l->length - 15);
+    print_log("  on a longer page", log_of_steps(list, 10919, PAGE_BYTES));
+    print_log("  a byte short", log_of_steps(list, 10919, RECORDER_LOG_BYTES - 1));
+    memcpy(steps[1], (const uint32_t[3]) { RECORDER_READ, 10, 0 }, sizeof *steps);
+    print_log("65537 bytes", log_of_steps(list, 10919, RECORDER_LOG_BYTES + 1));
+    print_log("  on a longer page", log_of_steps(list, 10919, PAGE_BYTES));
+    steps[10918][1] = 256;
+    print_log("  its last step out of range (3 before 15)", log_of_steps(list, 10919, PAGE_BYTES));
+    steps[10919][0] = 0;
+    steps[10918][1] = 0;
+    print_log("  a step out of range behind it", log_of_steps(list, 10920, PAGE_BYTES));
+}
+
+static void logs(void)
+{
+    puts("logs");
+    good_logs();
+    puts("steps out of range: in front, in the middle, at the end");
+    faulty_steps();
+    puts("lists that are not whole: behind three steps, alone, behind a step out of range");
+    rests();
+    puts("the longest logs");
+    long_logs();
+}
+
 int main(void)
 {
     example();
@@ -757,6 +969,7 @@ int main(void)
     evictions();
     reports();
     sentences();
+    logs();
     printf("faults: %d\n", faults);
     return faults != 0;
 }

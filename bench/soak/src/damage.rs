@@ -1,4 +1,4 @@
-//! Damage to a season's text: to its bytes, its lines, its fields and its length.
+//! Damage to a season's text, or to a log alone: to its bytes, its lines, its fields and its length.
 
 use bench::random::Random;
 use plain_season::MAX_BYTES;
@@ -66,12 +66,16 @@ const STEP: &[&str] = &["R", "W", "L", "A", "Q", "D", "F", "r", "WW", "1", "-"];
 const MINUTES: &[&str] = &["0", "5", "1439", "1440", "1441", "-", "--", "06"];
 const AT: &[&str] = &["0", "1", "2", "8", "999999", "1000000", "-", "00"];
 const ACT: &[&str] = &["D", "F", "R", "W", "L", "A", "Z", "d", "DF", "0", "-"];
-const TABLES: [&[&[&str]]; 4] = [
+type Tables = [&'static [&'static [&'static str]]];
+
+/// The tables of a season's text, and of a log alone.
+pub const SEASON: &Tables = &[
     &[SIZE, SIZE],
     &[SAIL, BLOCKS, COST, COST],
     &[STEP, SAIL, MINUTES],
     &[AT, ACT, SAIL],
 ];
+pub const LOG: &Tables = &[&[STEP, SAIL, MINUTES]];
 
 const BYTES: &[u8] = b" \n\n-0123456789RWLDFX\t\r\0\x0B\xA0\xFF:/@[";
 
@@ -123,9 +127,9 @@ fn line(r: &mut Random, text: &mut Vec<u8>) {
 }
 
 /// A field or two of a value line at the limits of their own ranges, or of another shape.
-fn limits(r: &mut Random, text: &mut Vec<u8>) {
+fn limits(r: &mut Random, text: &mut Vec<u8>, tables: &Tables) {
     let mut lines = lines(text);
-    let table = place(r, TABLES.len());
+    let table = place(r, tables.len());
     let blanks = (0..lines.len()).filter(|&i| lines[i] == b"\n");
     let ends: Vec<usize> = blanks.chain([lines.len()]).collect();
     let starts: Vec<usize> = [0]
@@ -143,8 +147,8 @@ fn limits(r: &mut Random, text: &mut Vec<u8>) {
     let bare = line.strip_suffix(b"\n").unwrap_or(line);
     let mut fields = split(bare);
     for _ in 0..r.pick(&[1, 1, 2, 3]) {
-        let i = place(r, fields.len().min(TABLES[table].len()));
-        fields[i] = r.pick(TABLES[table][i]).into();
+        let i = place(r, fields.len().min(tables[table].len()));
+        fields[i] = r.pick(tables[table][i]).into();
         if r.one_in(8) {
             by_one(r, &mut fields[i]);
         }
@@ -271,12 +275,12 @@ fn table(r: &mut Random, text: &mut Vec<u8>) {
     *text = tables.join(&b'\n');
 }
 
-/// Damages a text once.
-pub fn damage(r: &mut Random, text: &mut Vec<u8>) {
+/// Damages a text of such tables once.
+pub fn damage(r: &mut Random, text: &mut Vec<u8>, tables: &Tables) {
     match r.below(32) {
         0..=4 => byte(r, text),
         5..=8 => line(r, text),
-        9..=20 => limits(r, text),
+        9..=20 => limits(r, text, tables),
         21..=25 => field(r, text),
         26..=27 => blanks(r, text),
         28..=29 => end(r, text),

@@ -1,8 +1,8 @@
-//! A long differential run: the recorder's exported calls and the program `season` against plain Rust, on random seasons, texts,
-//! hostile states, small seasons beside their cheapest plans, and sentences. It ends at the first difference, with status 1.
-//! bench/soak/run builds and runs it:
-//!   soak program=target/bin/season seed=1 seasons=1000 texts=1000 states=10000 plans=1000 sentences=1000
-//!   soak program=target/bin/season seed=1 only=seasons:123
+//! A long differential run: the recorder's exported calls and the programs `season` and `check_log` against plain Rust, on random
+//! seasons, texts, hostile states, small seasons beside their cheapest plans, sentences and logs. It ends at the first difference,
+//! with status 1. bench/soak/run builds and runs it, with the programs of target/bin:
+//!   soak program=season check_log=check_log seed=1 seasons=1000 texts=1000 states=10000 plans=1000 sentences=1000 logs=1000
+//!   soak program=season check_log=check_log seed=1 only=seasons:123
 //! With trace=1 each case is named before it is run.
 
 mod changes;
@@ -10,6 +10,7 @@ mod cheapest;
 mod damage;
 mod hostile;
 mod layout;
+mod logs;
 mod pair;
 mod plans;
 mod program;
@@ -55,23 +56,24 @@ impl Words {
 fn usage(word: &str) -> ! {
     eprintln!("soak: {word} is not understood");
     eprintln!(
-        "usage: soak program=FILE [seed=N] [seasons=N] [texts=N] [states=N] [plans=N] [sentences=N]"
+        "usage: soak program=FILE check_log=FILE [seed=N] [seasons=N] [texts=N] [states=N] [plans=N] [sentences=N] [logs=N]"
     );
-    eprintln!("       soak program=FILE [seed=N] only=PART:N");
+    eprintln!("       soak program=FILE check_log=FILE [seed=N] only=PART:N");
     std::process::exit(2);
 }
 
 /// The whole run, and what it has seen.
 struct Soak {
     program: Program,
+    check_log: Program,
     seed: u64,
     trace: bool,
     begun: Instant,
     seen: Seen,
     worst: Worst,
     tally: Tally,
-    /// Seasons, texts, states, small seasons and sentences.
-    done: [u64; 5],
+    /// Seasons, texts, states, small seasons, sentences and logs.
+    done: [u64; 6],
 }
 
 impl Soak {
@@ -83,6 +85,7 @@ impl Soak {
             Part::States => hostile::case(run, &mut self.seen),
             Part::Plans => plans::case(run, &self.program, &mut self.worst),
             Part::Sentences => sentences::case(run),
+            Part::Logs => logs::case(run, &self.check_log),
         }
     }
 
@@ -105,6 +108,7 @@ impl Soak {
             Part::States => hostile::TO_A_START,
             Part::Plans => plans::TO_A_CLIMB,
             Part::Sentences => 1,
+            Part::Logs => logs::TO_A_TEXT,
         };
         let cases = count.div_ceil(to_a_case);
         let mut run = Run::new(self.seed, part);
@@ -138,16 +142,17 @@ impl Soak {
 
 fn main() {
     let words = Words::of_command_line();
-    let program = words.value("program").unwrap_or_else(|| usage("program"));
+    let program = |name: &str| Program(words.value(name).unwrap_or_else(|| usage(name)).into());
     let mut soak = Soak {
-        program: Program(program.into()),
+        program: program("program"),
+        check_log: program("check_log"),
         seed: words.number("seed"),
         trace: words.number("trace") != 0,
         begun: Instant::now(),
         seen: Seen::default(),
         worst: Worst::default(),
         tally: Tally::default(),
-        done: [0; 5],
+        done: [0; 6],
     };
     if let Some(which) = words.value("only") {
         soak.only(which);

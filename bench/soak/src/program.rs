@@ -1,4 +1,4 @@
-//! The program `season`, run once for each text.
+//! The programs `season` and `check_log`, run once for each text.
 
 use std::io::{Read, Write};
 use std::path::PathBuf;
@@ -28,23 +28,44 @@ impl Program {
         Ok(out)
     }
 
-    /// Has the program and the plain Rust answer a text. Answers what both print.
-    pub fn compare(&self, run: &mut Run, text: &[u8]) -> String {
-        let plain = plain_season::output(text);
+    /// Has the program answer a text, as the plain Rust has.
+    fn same(&self, run: &mut Run, text: &[u8], plain: &[u8]) {
         run.calls += 1;
         let proved = match self.output(text) {
             Ok(proved) => proved,
             Err(error) => panic!("{}: {error}", self.0.display()),
         };
-        if proved != plain.as_bytes() {
+        if proved != plain {
             let what = format!("a text of {} bytes is answered in two ways", text.len());
             let details = [
                 kept("soak-difference.text", text),
                 format!("the program:\n{}", String::from_utf8_lossy(&proved)),
-                format!("plain Rust:\n{plain}"),
+                format!("plain Rust:\n{}", String::from_utf8_lossy(plain)),
             ];
             run.differ(&what, &details);
         }
+    }
+
+    /// Has `check_log` and the plain Rust answer a log alone. What is taken has to be printed as it is.
+    pub fn compare_log(&self, run: &mut Run, text: &[u8]) {
+        let plain = plain_season::log::output(text);
+        self.same(run, text, &plain);
+        let number = number(&String::from_utf8_lossy(&plain));
+        if number == 0 && plain != text {
+            run.differ(
+                "a log that was taken is not printed as it is",
+                &[kept("soak-difference.text", text)],
+            );
+        }
+        run.tally.count(Asked::LogText, number);
+        let longest_taken = number == 0 && text.len() == plain_season::MAX_BYTES;
+        run.tally.longest_logs[1] += u64::from(longest_taken);
+    }
+
+    /// Has `season` and the plain Rust answer a text. Answers what both print.
+    pub fn compare(&self, run: &mut Run, text: &[u8]) -> String {
+        let plain = plain_season::output(text);
+        self.same(run, text, plain.as_bytes());
         if let Some(sail) = sail(&plain) {
             if field_of_sail(&plain, text) != Some(sail.as_bytes()) {
                 let details = [kept("soak-difference.text", text), plain.clone()];

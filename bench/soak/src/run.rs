@@ -11,15 +11,17 @@ pub enum Part {
     States,
     Plans,
     Sentences,
+    Logs,
 }
 
 impl Part {
-    pub const ALL: [Part; 5] = [
+    pub const ALL: [Part; 6] = [
         Part::Seasons,
         Part::Texts,
         Part::States,
         Part::Plans,
         Part::Sentences,
+        Part::Logs,
     ];
 
     pub fn name(self) -> &'static str {
@@ -29,6 +31,7 @@ impl Part {
             Part::States => "states",
             Part::Plans => "plans",
             Part::Sentences => "sentences",
+            Part::Logs => "logs",
         }
     }
 }
@@ -42,16 +45,22 @@ pub enum Asked {
     Report,
     Text,
     Sentence,
+    Log,
+    LogText,
 }
 
-pub const ASKED: [&str; 6] = ["open", "step", "close", "report", "text", "sentence"];
+pub const ASKED: [&str; 8] = [
+    "open", "step", "close", "report", "text", "sentence", "log", "log text",
+];
 
 /// How often each number was answered, to each kind of question.
 #[derive(Default)]
 pub struct Tally {
-    pub answers: [[u64; 18]; 6],
+    pub answers: [[u64; 18]; 8],
     /// Texts as long as one may be that were taken.
     pub longest_taken: u64,
+    /// Logs as long as one may be that were written, and that were taken.
+    pub longest_logs: [u64; 2],
     /// Refused texts whose sentence tells a sail.
     pub sails_told: u64,
 }
@@ -68,6 +77,8 @@ impl Tally {
             .zip(more)
             .for_each(|(sum, count)| *sum += count);
         self.longest_taken += other.longest_taken;
+        self.longest_logs[0] += other.longest_logs[0];
+        self.longest_logs[1] += other.longest_logs[1];
         self.sails_told += other.sails_told;
     }
 
@@ -76,7 +87,7 @@ impl Tally {
     }
 }
 
-/// A run over the cases of the five parts. Each case has random numbers of its own, so that it can be repeated by itself.
+/// A run over the cases of the six parts. Each case has random numbers of its own, so that it can be repeated by itself.
 pub struct Run {
     pub seed: u64,
     pub part: Part,

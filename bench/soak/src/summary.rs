@@ -14,6 +14,8 @@ fn answers(tally: &Tally) {
         println!("  {name:<8} {}", words.join(", "));
     }
     println!("  {} texts of 65,536 bytes were taken", tally.longest_taken);
+    let [written, taken] = tally.longest_logs;
+    println!("  {written} logs of 65,536 bytes were written, and {taken} were taken");
     println!(
         "  {} refused texts were told a sail, each the one on its line",
         tally.sails_told
@@ -63,11 +65,11 @@ pub fn print(soak: &Soak) {
     answers(&soak.tally);
     states(&soak.seen);
     worst(&soak.worst);
-    let [seasons, texts, states, plans, sentences] = soak.done;
+    let [seasons, texts, states, plans, sentences, logs] = soak.done;
     let (questions, time) = (soak.tally.questions(), soak.begun.elapsed());
     println!(
         "seed {}: {seasons} seasons, {texts} texts, {states} hostile states, {plans} small seasons beside their cheapest plans, \
-         {sentences} sentences: {questions} answers compared in {} s, no difference",
+         {sentences} sentences, {logs} lists of steps: {questions} answers compared in {} s, no difference",
         soak.seed,
         time.as_secs()
     );

@@ -4,7 +4,7 @@ use bench::plain::STATE_BYTES;
 use bench::random::{Random, catalog, some_k, some_n};
 use plain_season::{Act, Item, MAX_BYTES, Step, text};
 
-use crate::damage::damage;
+use crate::damage::{SEASON, damage};
 use crate::pair::{Call, Pair};
 use crate::program::{Program, figures, number};
 use crate::run::Run;
@@ -237,7 +237,7 @@ pub fn case(run: &mut Run, program: &Program) {
         }
         let mut text = whole.clone().into_bytes();
         for _ in 0..r.pick(&[1, 1, 1, 2, 4]) {
-            damage(r, &mut text);
+            damage(r, &mut text, SEASON);
         }
         program.compare(run, &text);
     }

@@ -20,7 +20,7 @@ use Rattle.decimal.specs.InnerReads.{isDigit, readOf}
 
 -- ## Tests
 
-less-or-not : (x n : ℕ) → (x < n) ⊎ (n ≤ x)
+pub less-or-not : (x n : ℕ) → (x < n) ⊎ (n ≤ x)
 less-or-not x n = go (ltb x n) refl
   where
     go : (t : Bool) → ltb x n ≡ t → (x < n) ⊎ (n ≤ x)
@@ -134,7 +134,7 @@ value-append s t = sym (from-start (s ++ t)) ∙ go 0 s ∙ ap (λ (v : ℕ). va
     go v [] = ap (λ (w : ℕ). valueFrom w t) (sym (from-end v [] 0 (omega arith)))
     go v (b ∷ s) = from-cons v b (s ++ t) ∙ go (v * 10 + (b - 48)) s ∙ ap (λ (w : ℕ). valueFrom w t) (sym (from-cons v b s))
 
-value-snoc : (s : List ℕ) (b : ℕ) → valueOf (s ++ (b ∷ [])) ≡ valueOf s * 10 + (b - 48)
+pub value-snoc : (s : List ℕ) (b : ℕ) → valueOf (s ++ (b ∷ [])) ≡ valueOf s * 10 + (b - 48)
 value-snoc s b = value-append s (b ∷ []) ∙ from-cons (valueOf s) b [] ∙ from-end (valueOf s * 10 + (b - 48)) [] 0 (omega arith)
 
 value-one : (b : ℕ) → valueOf (b ∷ []) ≡ b - 48
@@ -150,7 +150,7 @@ value-digits =
 
 -- ## The shape of a number
 
-is-digit : (b : ℕ) → 48 ≤ b → b ≤ 57 → isDigit b ≡ true
+pub is-digit : (b : ℕ) → 48 ≤ b → b ≤ 57 → isDigit b ≡ true
 is-digit b h k = rw (le-leb 48 b h) (le-leb b 57 k)
 
 -- the two bounds of a digit
@@ -163,7 +163,7 @@ all-cons : (b : ℕ) (s : List ℕ) → allDigits (b ∷ s) ≡ true → (isDigi
 unfolding allDigits
 all-cons b s h = and-eq-true-iff (isDigit b) (allDigits s) .0 h
 
-all-snoc : (s : List ℕ) (b : ℕ) → allDigits s ≡ true → isDigit b ≡ true → allDigits (s ++ (b ∷ [])) ≡ true
+pub all-snoc : (s : List ℕ) (b : ℕ) → allDigits s ≡ true → isDigit b ≡ true → allDigits (s ++ (b ∷ [])) ≡ true
 unfolding allDigits
 all-snoc [] b h k = rw k
 all-snoc (a ∷ s) b h k = let p = all-cons a s h in rw (p .0) (all-snoc s b (p .1) k)

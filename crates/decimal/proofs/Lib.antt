@@ -2,4 +2,5 @@
 pub mod Laws
 pub mod Texts
 pub mod Pages
+pub mod Shorts
 mod Examples

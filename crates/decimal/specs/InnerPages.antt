@@ -1,8 +1,16 @@
--- A text written on a page that has room for it. Assumes nothing.
-use mathlib.Core.List.{List, _++_}
-use Prim.Native.Nat.{ℕ}
+-- A text written on a page that has room for it, and the digits of short numbers. Assumes nothing.
+use mathlib.Core.List.{List, [], _∷_, _++_}
+use Prim.Native.Nat.{ℕ, _+_, _/_, _%_}
 use lib.ListN.{length, drop}
 
 -- the page with the text t at its start
 abbrev pub textOver : List ℕ → List ℕ → List ℕ
 textOver t page = t ++ drop (length t) page
+
+-- a number below 100 as two digits
+abbrev pub twoDigits : ℕ → List ℕ
+twoDigits v = (48 + v / 10) ∷ (48 + v % 10) ∷ []
+
+-- one below 1,000 as three
+abbrev pub threeDigits : ℕ → List ℕ
+threeDigits v = (48 + v / 100) ∷ twoDigits (v % 100)

@@ -2,11 +2,12 @@
 // have any count of digits: its value decides whether it is in range, never its width, and no sum here can wrap.
 
 ghost use mathlib.Core.Path.{_≡_};
-ghost use Prim.Native.Nat.{_+_, _%_, _≤_};
+ghost use Prim.Native.Nat.{_+_, _%_, _≤_, _<_};
 ghost use lib.ListN.{length};
+ghost use lib.Seq.{sets};
 ghost use Rattle.decimal.specs.Decimal.{sameText, shaped, digitsOf, wroteOf, pageOf};
 ghost use Rattle.decimal.specs.InnerReads.{readOf};
-ghost use Rattle.decimal.specs.InnerPages.{textOver};
+ghost use Rattle.decimal.specs.InnerPages.{textOver, twoDigits, threeDigits};
 
 // What a text is, read as a number with a limit: no number, a number above the limit, or one that is at most the limit.
 pub enum Number {
@@ -115,6 +116,67 @@ pub fn write(v: u64, page: &mut [u8]) -> usize
         rest = rest / 10;
     }
     count
+}
+
+// The digit of a number below 10.
+fn digit(v: u32) -> u8
+    requires { ⌜ v < 10 ⌝ }
+    ensures { λ r. ⌜ r ≡ 48 + v ⌝ }
+{
+    (48 + v) as u8
+}
+
+// Stores a number below 100 as two digits at a place of the page.
+fn put_two(v: u32, page: &mut [u8], at: usize)
+    requires { ⌜ (v < 100) × (at + 2 ≤ length (now page)) ⌝ }
+    ensures { λ _. ⌜ now (page .exit) ≡ sets (now (page .entry)) at (twoDigits v) ⌝ }
+{
+    let tens = v / 10;
+    page[at] = digit(tens);
+    page[at + 1] = digit(v - 10 * tens);
+}
+
+// And one below 1,000 as three.
+fn put_three(v: u32, page: &mut [u8], at: usize)
+    requires { ⌜ (v < 1000) × (at + 3 ≤ length (now page)) ⌝ }
+    ensures { λ _. ⌜ now (page .exit) ≡ sets (now (page .entry)) at (threeDigits v) ⌝ }
+{
+    let hundreds = v / 100;
+    page[at] = digit(hundreds);
+    put_two(v - 100 * hundreds, page, at + 1);
+}
+
+// How many digits a number below 10,000 has.
+pub fn short_width(v: u32) -> usize
+    requires { ⌜ v < 10000 ⌝ }
+    ensures { λ r. ⌜ r ≡ length (digitsOf v) ⌝ }
+{
+    1 + (9 < v) as usize + (99 < v) as usize + (999 < v) as usize
+}
+
+// Writes the text of a number below 10,000 at the start of the page, which has room for it, and answers how many bytes that took. The
+// numbers of a log are such, and no loop is needed for them.
+pub fn put_short(v: u32, page: &mut [u8]) -> usize
+    requires { ⌜ (v < 10000) × (length (digitsOf v) ≤ length (now page)) ⌝ }
+    ensures { λ r. ⌜ r ≡ length (digitsOf v) ⌝ }
+    ensures { λ r. ⌜ now (page .exit) ≡ textOver (digitsOf v) (now (page .entry)) ⌝ }
+{
+    if v < 10 {
+        page[0] = digit(v);
+        return 1;
+    }
+    if v < 100 {
+        put_two(v, page, 0);
+        return 2;
+    }
+    if v < 1000 {
+        put_three(v, page, 0);
+        return 3;
+    }
+    let thousands = v / 1000;
+    page[0] = digit(thousands);
+    put_three(v - 1000 * thousands, page, 1);
+    4
 }
 
 // Whether two texts are one. Their lengths decide first, so that neither may go on where the other ends.

@@ -1,3 +1,4 @@
--- The laws of the exported report, and the proofs of the functions. Assumes nothing.
+-- The laws of the exported report, sentence and log, and the proofs of the functions. Assumes nothing.
 pub mod Reported
 mod Said
+mod Logged

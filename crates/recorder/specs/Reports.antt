@@ -1,12 +1,14 @@
--- What the exported report and the exported sentence promise of the bytes that C lends. Assumes nothing.
+-- What the exported report, sentence and log promise of the bytes that C lends. Assumes nothing.
 use mathlib.Core.{Bool.{true, false, cond}, Path._≡_, List.List}
 use Rattle.sentence.specs.Sentences.{inTable, sentenceOf}
-use Prim.Native.Nat.{ℕ}
+use Prim.Native.Nat.{ℕ, _+_, _*_}
 use lib.ListN.{length}
 use Rattle.decimal.specs.Decimal.{fits, pageOf}
 use Rattle.cache_state.specs.Cache.{view}
 use Rattle.layout.specs.Layout.{cacheOf, ValidBytes}
 use Rattle.report.specs.{declared.Rival.the-variants.Absent, Report.reportOf}
+use Rattle.landlord.specs.Types.{refusalNumber, refusalLine}
+use Rattle.season_log.specs.{declared.LogAnswer.{LogAnswer, the-variants.{Count, Refused}}, Log.{listed, writeAnswer, writtenPage}}
 
 -- A text put on the page: 0 and its length in the length's place, or 15 with page and place as before.
 pub record PutLent (t before : List ℕ) (was number : ℕ) (after : List ℕ) (told : ℕ) : Type 0 where
@@ -23,3 +25,19 @@ pub record ReportedLent (b before : List ℕ) (was number : ℕ) (after : List �
 pub record SaidLent (number line item : ℕ) (before : List ℕ) (was answer : ℕ) (after : List ℕ) (told : ℕ) : Type 0 where
   pub row : inTable number ≡ true → PutLent (sentenceOf number line item) before was answer after told
   pub none : inTable number ≡ false → (answer ≡ 3) × (after ≡ before) × (told ≡ was)
+
+-- 0, or a refusal's number in the low half of 64 bits and its line in the high half
+abbrev pub bothHalves : LogAnswer → ℕ
+bothHalves (Count n) = 0
+bothHalves (Refused r) = refusalNumber r + 4294967296 * refusalLine r
+
+-- the length's place: the bytes that were written, or what it held
+abbrev pub lengthTold : LogAnswer → ℕ → ℕ
+lengthTold (Count n) was = n
+lengthTold (Refused r) was = was
+
+-- the log of a list of steps: "off the tape", then "the short page", with the line, else the text
+pub record LoggedLent (list before : List ℕ) (was answer : ℕ) (after : List ℕ) (told : ℕ) : Type 0 where
+  pub tells : answer ≡ bothHalves (writeAnswer (listed list) before)
+  pub page : after ≡ writtenPage (listed list) before
+  pub size : told ≡ lengthTold (writeAnswer (listed list) before) was

@@ -1,10 +1,11 @@
-// The functions that the firmware calls from C, on a state in lent bytes. Each answers 0 or the refusal's number; refused, every
-// lent byte is as before. Nothing is asked of the caller: any bytes, any lengths and any numbers are answered.
+// The functions that the firmware calls from C, on lent bytes. Each answers 0 or the refusal's number, the log's with its line; refused,
+// every lent byte is as before. Nothing is asked of the caller: any bytes, any lengths and any numbers are answered.
 ghost use Rattle.landlord.specs.Calls.{stepCall, close};
 ghost use Rattle.cache.specs.Contract.{lent, Called, OpenedLent};
-ghost use Rattle.recorder.specs.Reports.{ReportedLent, SaidLent};
+ghost use Rattle.recorder.specs.Reports.{ReportedLent, SaidLent, LoggedLent};
 use report::Rival;
 use report::Written;
+use season_log::LogAnswer;
 
 // Opens the state for a cache of `k` blocks and the items of the catalog, five bytes each.
 #[no_mangle]
@@ -66,4 +67,23 @@ pub extern "C" fn recorder_sentence(
     }
     *told = bytes;
     0
+}
+
+// Writes the log of a list of steps on the page, 12 bytes a step, and how long it is in the length's place. Refused, nothing is written, so
+// the line comes back in the answer: the number in its low half, the line in its high half.
+#[no_mangle]
+pub extern "C" fn recorder_log(list: &[u8], page: &mut [u8], told: &mut usize) -> u64
+    ensures { λ r. ⌜ LoggedLent (now (list .entry)) (now (page .entry)) (now (told .entry)) r (now (page .exit)) (now (told .exit)) ⌝ }
+{
+    match season_log::write_log(list, page) {
+        LogAnswer::Count(length) => {
+            *told = length;
+            0
+        }
+        LogAnswer::Refused(r) => {
+            let number = r.number() as u64;
+            let line = r.line() as u64;
+            number + line * 4294967296
+        }
+    }
 }

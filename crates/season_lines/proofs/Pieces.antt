@@ -188,7 +188,7 @@ acts-bounds p kind i e =
     (leb-true p 999999 (and-parts (leb p 999999) (isActKind kind) (both .0) .0), leb-true i 255 (both .1))
 
 -- a step made of values in range is in range as a call
-step-range :
+pub step-range :
     (kind i m : ℕ) →
     inRange kind i m ≡ true →
     (let s = stepOf kind i m in inRange (stepKind s) (stepItem s) (stepMinutes s) ≡ true)

@@ -33,7 +33,7 @@ use Rattle.season_tables.specs.Inner.{isBlank, lastPlace}
 use Rattle.season_tables.specs.InnerSound.{placedAt, Sound}
 
 -- what is claimed of a reading where it leads on
-abbrev Leading : (Sofar → Type 0) → Led → Type 0
+abbrev pub Leading : (Sofar → Type 0) → Led → Type 0
 Leading P (on w) = P w
 Leading P (stop r) = Unit {0}
 
@@ -391,7 +391,7 @@ end-after u i b n v l p =
           table = eqb-true (v .table) (v .upto) (e .1) ∙ p .upto;
         }
 
-goes-on :
+pub goes-on :
     (P Q : Sofar → Type 0) (x : Led) (next : Sofar → Led) →
     Leading P x →
     ((v : Sofar) → P v → Leading Q (next v)) →

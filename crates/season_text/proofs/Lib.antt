@@ -5,3 +5,4 @@ pub mod Answers
 pub mod LineNumbers
 pub mod Prints
 pub mod Accepted
+pub mod ThirdTable

@@ -5,11 +5,11 @@ use borrow.Author.Needs.{needs}
 use Rattle.season.proofs.main.Statement.{statement}
 use Rattle.season.proofs.main.Tie as tie
 
-slice-aggregate-read-input : tie.Need-slice-aggregate-read-input
-slice-aggregate-read-input c = search needs
+slice-aggregate-read-all : tie.Need-slice-aggregate-read-all
+slice-aggregate-read-all c = search needs
 
-read-input-requires : tie.Need-read-input-requires
-read-input-requires c κs = search needs
+read-all-requires : tie.Need-read-all-requires
+read-all-requires c κs = search needs
 
 slice-aggregate-fail : tie.Need-slice-aggregate-fail
 slice-aggregate-fail c = search needs
@@ -27,7 +27,7 @@ array-share-prefix-text : tie.Need-array-share-prefix-text
 array-share-prefix-text c = search needs
 
 slice-aggregate-output : tie.Need-slice-aggregate-output
-slice-aggregate-output c = let p = c .before .before .before .before .read-input in sym (length-take-le (p .result .bytes) (p .last .0) (p .ensures))
+slice-aggregate-output c = let p = c .before .before .before .before .read-all in sym (length-take-le (p .result .bytes) (p .last .0) (p .ensures))
 
 slice-aggregate-output-2 : tie.Need-slice-aggregate-output-2
 slice-aggregate-output-2 c = search needs
@@ -60,8 +60,8 @@ pub main-spec : {M : Type 1} → statement M
 main-spec =
     tie.close
     (tie.spec
-    slice-aggregate-read-input
-    read-input-requires
+    slice-aggregate-read-all
+    read-all-requires
     slice-aggregate-fail
     fail-requires
     returns

@@ -1,0 +1,359 @@
+-- The third table of an input, taken alone (specs/ThirdTable.antt). Before each line it is known what the log's reader will say (`due`);
+-- each line that leads on keeps that, and where all is read it is the steps. Assumes nothing.
+use mathlib.Core.Path.{_≡_, refl, sym, ap, subst, _∙_}
+use mathlib.Core.Bool.{Bool, true, false, cond, _&&_, false≢true}
+use mathlib.Core.List.{List, [], _∷_, _++_, append-nil}
+use Prim.Native.Nat.{ℕ, zero, suc, _+_, _-_, _≤_}
+use native.Mathlib.Omega.{arith}
+use lib.ListN.{length, length-append}
+use lib.Dec.{leb, ltb, eqb}
+use borrow.Author.Tests.{eqb-true, eqb-false, ne-eqb, le-leb}
+use Rattle.landlord.specs.declared.Step.{Step}
+use Rattle.landlord.specs.declared.Refusal.the-variants.{Malformed}
+use Rattle.landlord.specs.Types.{actItem}
+use Rattle.landlord.specs.Calls.{itemRefusal}
+use Rattle.landlord.proofs.Folds.{either}
+use Rattle.decimal.specs.Decimal.{textOf, sameText}
+use Rattle.season_lines.specs.declared.Names.{Names}
+use Rattle.season_lines.specs.declared.Names.the-variants.{Form, Unknown}
+use Rattle.season_lines.specs.declared.Line.{Line}
+use Rattle.season_lines.specs.declared.Line.the-variants.{Sizes, Item as ItemLine, Step as StepLine, Act as ActLine, Refused}
+use Rattle.season_lines.specs.Lines.{onto, split, allFields, fieldsOf, noneEmpty, headings, namesIn, formAmong, formOf, valuesIn, lineIn}
+use Rattle.season_lines.proofs.Laws.{and-parts, names-2}
+use Rattle.season_lines.proofs.Pieces.{no-bytes, empty-malformed, Says, line-says}
+use Rattle.season_tables.specs.Tables.{Sofar, Led, on, atStart, nowNamed, nextTable, withStep, inTurn, takes, mayEnd, mustEnd, namedBy, leads, atEnd, readFrom, readingOf}
+use Rattle.season_tables.specs.Inner.{isBlank}
+use Rattle.season_tables.proofs.Sound.{Leading, goes-on}
+use Rattle.season_log.specs.Log.{Logged, steps, fault, ahead, logText, follows, readLines, headed, readTable, readLog, allInRange}
+use Rattle.season_log.proofs.Lines.{lacks, split-first, step-written, step-reads}
+use Rattle.season_log.proofs.OneText.{lines-first, table-first, one-text}
+use Rattle.season_log.proofs.Reading.{onward, onward-none, onward-more}
+use Rattle.season_text.specs.ThirdTable.{tableText, behindBlank, thirdTable, TwoReaders}
+
+-- ## The lines of a table and its text
+
+-- no line has a line feed
+unfoldable AllLack : List (List ℕ) → Type 0
+AllLack [] = Unit {0}
+AllLack (l ∷ rest) = (lacks 10 l ≡ true) × AllLack rest
+
+lines-lack : (s : List ℕ) → AllLack (split 10 s)
+unfolding split lacks AllLack
+lines-lack [] = (refl, tt)
+lines-lack (x ∷ s) =
+    either AllLack (eqb x 10) ([] ∷ split 10 s) (onto x (split 10 s)) (λ e. (refl, lines-lack s)) (λ e. more (split 10 s) (lines-lack s) e)
+  where
+    more : (ls : List (List ℕ)) → AllLack ls → eqb x 10 ≡ false → AllLack (onto x ls)
+    more [] h e = (rw e, tt)
+    more (l ∷ ls) h e = (rw (e, h .0), h .1)
+
+module _ (l : List ℕ) (rest : List (List ℕ)) where
+  text-first : lacks 10 l ≡ true → (length l ≡ 0 → ⊥) → split 10 (tableText (l ∷ rest)) ≡ l ∷ split 10 (tableText rest)
+  unfolding tableText
+  text-first h some = rw (ne-eqb (length l) 0 some) (split-first 10 l (tableText rest) h)
+
+  text-ended : length l ≡ 0 → tableText (l ∷ rest) ≡ []
+  unfolding tableText
+  text-ended e = rw e
+
+  behind-first : length l ≡ 0 → behindBlank (l ∷ rest) ≡ rest
+  unfolding behindBlank
+  behind-first e = rw e
+
+  behind-more : (length l ≡ 0 → ⊥) → behindBlank (l ∷ rest) ≡ behindBlank rest
+  unfolding behindBlank
+  behind-more some = rw (ne-eqb (length l) 0 some)
+
+-- ## The third table is no longer than the text
+
+-- the bytes of lines, each with its line feed
+unfoldable bytesIn : List (List ℕ) → ℕ
+bytesIn [] = 0
+bytesIn (l ∷ rest) = suc (length l) + bytesIn rest
+
+split-bytes : (b : ℕ) (s : List ℕ) → bytesIn (split b s) ≡ suc (length s)
+unfolding split bytesIn
+split-bytes b [] = refl
+split-bytes b (x ∷ s) =
+    either (λ ps. bytesIn ps ≡ suc (suc (length s))) (eqb x b) ([] ∷ split b s) (onto x (split b s))
+    (λ e. omega (arith, split-bytes b s)) (λ e. more (split b s) (split-bytes b s))
+  where
+    more : (ps : List (List ℕ)) → bytesIn ps ≡ suc (length s) → bytesIn (onto x ps) ≡ suc (suc (length s))
+    more [] h = absurd (omega (arith, h))
+    more (p ∷ ps) h = omega (arith, h)
+
+behind-bytes : (ls : List (List ℕ)) → bytesIn (behindBlank ls) ≤ bytesIn ls - 1
+unfolding behindBlank bytesIn
+behind-bytes [] = omega arith
+behind-bytes (l ∷ rest) =
+    either (λ ls. bytesIn ls ≤ suc (length l) + bytesIn rest - 1) (isBlank l) rest (behindBlank rest)
+    (λ e. omega arith) (λ e. omega (arith, behind-bytes rest))
+
+table-bytes : (ls : List (List ℕ)) → length (tableText ls) ≤ bytesIn ls
+unfolding tableText bytesIn
+table-bytes [] = omega arith
+table-bytes (l ∷ rest) =
+    either (λ t. length t ≤ suc (length l) + bytesIn rest) (isBlank l) [] (l ++ (10 ∷ tableText rest))
+    (λ e. omega arith) (λ e. omega (arith, length-append l (10 ∷ tableText rest), table-bytes rest))
+
+third-few : (s : List ℕ) → length (thirdTable s) ≤ length s
+third-few s =
+    let ls = split 10 s in
+    omega (arith, table-bytes (behindBlank (behindBlank ls)), behind-bytes (behindBlank ls), behind-bytes ls, split-bytes 10 s)
+
+-- ## What the log's reader will say
+
+-- a table alone
+abbrev tableAlone : List (List ℕ) → Logged
+tableAlone ls = readTable (split 10 (tableText ls))
+
+-- what it will say to the lines ls that are left, besides the steps that were read: in which table they begin, and whether behind its
+-- names; inside the third table its own next line is line n
+abbrev due : ℕ → Bool → ℕ → List (List ℕ) → Logged
+due zero named n ls = tableAlone (behindBlank (behindBlank ls))
+due (suc zero) named n ls = tableAlone (behindBlank ls)
+due (suc (suc zero)) false n ls = tableAlone ls
+due (suc (suc zero)) true n ls = readLines n (split 10 (tableText ls))
+due (suc (suc (suc t))) named n ls = steps []
+
+-- no heading is empty
+blank-unnamed : (table : ℕ) → formOf table [] ≡ Unknown
+unfolding formOf formAmong headings sameText
+blank-unnamed table = go (eqb table 0) (eqb table 1) (eqb table 2)
+  where
+    go :
+        (p q r : Bool) →
+        formAmong 0
+        (cond p (textOf "locker rival" ∷ [])
+        (cond q (textOf "sail blocks load write" ∷ [])
+        (cond r (textOf "step sail minutes" ∷ [])
+        (textOf "at act sail" ∷ []))))
+        [] ≡ Unknown
+    go true q r = refl
+    go false true r = refl
+    go false false true = refl
+    go false false false = refl
+
+names-some : (table : ℕ) (l : List ℕ) (f : ℕ) → formOf table l ≡ Form f → length l ≡ 0 → ⊥
+names-some table [] f e z =
+    let none : _≡_ {A = Names} Unknown (Form f) = sym (blank-unnamed table) ∙ e in
+    let k : _≡_ {A = ℕ} 0 1 = cc in
+    omega arith
+names-some table (x ∷ l) f e z = omega arith
+
+-- and no value line is
+blank-refused : (table form : ℕ) (l : List ℕ) (n : ℕ) → length l ≡ 0 → lineIn table form (fieldsOf l) n ≡ Refused (Malformed n)
+unfolding split allFields
+blank-refused table form [] n z = empty-malformed table form (fieldsOf []) n 0 (omega arith) (rw no-bytes)
+blank-refused table form (x ∷ l) n z = absurd (omega arith)
+
+-- a step line is one under any heading of the table and on any line
+step-anywhere : (l : List ℕ) (form m n : ℕ) (s : Step) → lineIn 2 form (fieldsOf l) m ≡ StepLine s → lineIn 2 0 (fieldsOf l) n ≡ StepLine s
+unfolding lineIn
+step-anywhere l form m n s e =
+    let fs = fieldsOf l in
+    let names : namesIn 2 0 ≡ namesIn 2 form = names-2 2 0 refl ∙ sym (names-2 2 form refl) in
+    let first : lineIn 2 0 fs m ≡ lineIn 2 form fs m =
+    ap (λ (k : ℕ). cond (eqb (length fs) k && noneEmpty fs) (valuesIn 2 fs m) (Refused (Malformed m))) names in
+    let w = step-written l m s (first ∙ e) in
+    step-reads l n s (w .1) (w .0)
+
+-- what each line that leads on leaves to be said
+module _ (n : ℕ) (l : List ℕ) (rest : List (List ℕ)) where
+  due-names : (table f : ℕ) → formOf table l ≡ Form f → lacks 10 l ≡ true → due table true 2 rest ≡ due table false n (l ∷ rest)
+  due-names zero f e h = ap (λ (ls : List (List ℕ)). tableAlone (behindBlank ls)) (sym (behind-more l rest (names-some 0 l f e)))
+  due-names (suc zero) f e h = ap tableAlone (sym (behind-more l rest (names-some 1 l f e)))
+  due-names (suc (suc zero)) f e h =
+      sym
+      (ap readTable (text-first l rest h (names-some 2 l f e))
+      ∙ table-first l (tableText rest)
+      ∙ ap (λ (x : Names). headed x (readLines 2 (split 10 (tableText rest)))) e)
+  due-names (suc (suc (suc t))) f e h = refl
+
+  due-blank : (table : ℕ) → length l ≡ 0 → due (suc table) false n rest ≡ due table true n (l ∷ rest)
+  unfolding split readLines
+  due-blank zero e = ap (λ (ls : List (List ℕ)). tableAlone (behindBlank ls)) (sym (behind-first l rest e))
+  due-blank (suc zero) e = ap tableAlone (sym (behind-first l rest e))
+  due-blank (suc (suc zero)) e = ap (λ (t : List ℕ). readLines n (split 10 t)) (sym (text-ended l rest e))
+  due-blank (suc (suc (suc t))) e = refl
+
+  due-value : (table : ℕ) → (table ≡ 2 → ⊥) → (length l ≡ 0 → ⊥) → due table true n rest ≡ due table true n (l ∷ rest)
+  due-value zero t some = ap (λ (ls : List (List ℕ)). tableAlone (behindBlank ls)) (sym (behind-more l rest some))
+  due-value (suc zero) t some = ap tableAlone (sym (behind-more l rest some))
+  due-value (suc (suc zero)) t some = absurd (t refl)
+  due-value (suc (suc (suc k))) t some = refl
+
+  due-step :
+      (table form m : ℕ) (s : Step) →
+      table ≡ 2 →
+      lineIn table form (fieldsOf l) m ≡ StepLine s →
+      lacks 10 l ≡ true →
+      (length l ≡ 0 → ⊥) →
+      ahead s (due table true (suc n) rest) ≡ due table true n (l ∷ rest)
+  due-step zero form m s t e h some = absurd (omega arith)
+  due-step (suc zero) form m s t e h some = absurd (omega arith)
+  due-step (suc (suc zero)) form m s t e h some =
+      sym
+      (ap (readLines n) (text-first l rest h some)
+      ∙ lines-first n l (tableText rest)
+      ∙ ap (λ (x : Line). follows x (readLines (suc n) (split 10 (tableText rest)))) (step-anywhere l form m n s e))
+  due-step (suc (suc (suc k))) form m s t e h some = absurd (omega arith)
+
+-- ## Each line that leads on keeps it
+
+-- the log's reader will say x; the text has four tables
+record Kept (x : Logged) (ls : List (List ℕ)) (v : Sofar) : Type 0 where
+  last : v .upto ≡ 3
+  line : ℕ
+  says : onward (v .steps) (due (v .table) (v .named) line ls) ≡ x
+
+module _ (x : Logged) (l : List ℕ) (rest : List (List ℕ)) (h : lacks 10 l ≡ true) (v : Sofar) (q : Kept x (l ∷ rest) v) where
+  -- which is said here, behind the table's names or before them
+  here : (named : Bool) → v .named ≡ named → onward (v .steps) (due (v .table) named (q .line) (l ∷ rest)) ≡ x
+  here named b = ap (λ (z : Bool). onward (v .steps) (due (v .table) z (q .line) (l ∷ rest))) (sym b) ∙ q .says
+
+  -- the line of names, or the blank line
+  names-kept : (f : ℕ) → v .named ≡ false → formOf (v .table) l ≡ Form f → Kept x rest (nowNamed v f)
+  names-kept f b e =
+      record {
+        last = q .last;
+        line = 2;
+        says = ap (onward (v .steps)) (due-names (q .line) l rest (v .table) f e h) ∙ here false b;
+      }
+
+  blank-kept : v .named ≡ true → length l ≡ 0 → Kept x rest (nextTable v)
+  blank-kept b e =
+      record {
+        last = q .last;
+        line = q .line;
+        says = ap (onward (v .steps)) (due-blank (q .line) l rest (v .table) e) ∙ here true b;
+      }
+
+  -- a value line, which is not blank
+  module _ (b : v .named ≡ true) (some : length l ≡ 0 → ⊥) where
+    -- of another table
+    other : (v .table ≡ 2 → ⊥) → onward (v .steps) (due (v .table) (v .named) (q .line) rest) ≡ x
+    other t =
+        ap (λ (z : Bool). onward (v .steps) (due (v .table) z (q .line) rest)) b
+        ∙ ap (onward (v .steps)) (due-value (q .line) l rest (v .table) t some)
+        ∙ here true b
+
+    -- or of the third
+    step-kept : (n : ℕ) (s : Step) → v .table ≡ 2 → lineIn (v .table) (v .form) (fieldsOf l) n ≡ StepLine s → Kept x rest (withStep v s)
+    step-kept n s t e =
+        record {
+          last = q .last;
+          line = suc (q .line);
+          says =
+              onward-more (v .steps) s (due (v .table) (v .named) (suc (q .line)) rest)
+              ∙ ap (λ (z : Bool). onward (v .steps) (ahead s (due (v .table) z (suc (q .line)) rest))) b
+              ∙ ap (onward (v .steps)) (due-step (q .line) l rest (v .table) (v .form) n s t e h some)
+              ∙ here true b;
+        }
+
+    takes-kept :
+        (n : ℕ) (y : Line) →
+        lineIn (v .table) (v .form) (fieldsOf l) n ≡ y →
+        Says (v .table) (length (fieldsOf l)) n y →
+        Leading (Kept x rest) (takes v y n)
+    unfolding takes
+    takes-kept n (Sizes k j) e s =
+        either (Leading (Kept x rest)) (leb j k) _ _
+        (λ _. record { last = q .last; line = q .line; says = other (λ t. omega (arith, s .0)) }) (λ _. tt)
+    takes-kept n (ItemLine i c d w) e s =
+        either (Leading (Kept x rest)) (eqb i (length (v .catalog))) _ _
+        (λ _. record { last = q .last; line = q .line; says = other (λ t. omega (arith, s .0)) }) (λ _. tt)
+    takes-kept n (StepLine z) e s =
+        either (Leading (Kept x rest)) (eqb (itemRefusal (v .k) (v .catalog) z) 0) _ _ (λ _. step-kept n z (s .0) e) (λ _. tt)
+    takes-kept n (ActLine place act) e s =
+        either (Leading (Kept x rest)) (inTurn v place) _ _
+        (λ _. either (Leading (Kept x rest)) (ltb (actItem act) (length (v .catalog))) _ _
+        (λ _. record { last = q .last; line = q .line; says = other (λ t. omega (arith, s .0)) }) (λ _. tt))
+        (λ _. tt)
+    takes-kept n (Refused r) e s = tt
+
+  values-kept : (n : ℕ) → v .named ≡ true → Leading (Kept x rest) (takes v (lineIn (v .table) (v .form) (fieldsOf l) n) n)
+  unfolding takes
+  values-kept n b = go (isBlank l) refl
+    where
+      line : Line
+      line = lineIn (v .table) (v .form) (fieldsOf l) n
+
+      go : (t : Bool) → isBlank l ≡ t → Leading (Kept x rest) (takes v line n)
+      go true e =
+          subst (λ (y : Line). Leading (Kept x rest) (takes v y n)) (sym (blank-refused (v .table) (v .form) l n (eqb-true (length l) 0 e))) tt
+      go false e = takes-kept b (eqb-false (length l) 0 e) n line refl (line-says (v .table) (v .form) (fieldsOf l) n)
+
+  -- any line
+  leads-kept : (n : ℕ) → Leading (Kept x rest) (leads v l n)
+  unfolding leads
+  leads-kept n =
+      either Q (v .named) _ _
+      (λ b. either Q (cond (isBlank l) (mayEnd (v .upto) (v .table) (v .k)) false) _ _
+      (λ e. blank-kept b (eqb-true (length l) 0 (first (isBlank l) (mayEnd (v .upto) (v .table) (v .k)) e)))
+      (λ e. either Q (mustEnd (v .table) (v .k)) _ _ (λ m. tt) (λ m. values-kept n b)))
+      (λ b. names (formOf (v .table) l) refl b)
+    where
+      Q : Led → Type 0
+      Q = Leading (Kept x rest)
+
+      first : (p q : Bool) → cond p q false ≡ true → p ≡ true
+      first true q e = refl
+      first false q e = absurd (false≢true e)
+
+      names : (z : Names) → formOf (v .table) l ≡ z → v .named ≡ false → Q (namedBy v z n)
+      names (Form f) e b = names-kept f b e
+      names Unknown e b = tt
+
+-- ## The whole text
+
+-- where all is read, the log's reader says the steps
+abbrev Agrees : Logged → Sofar → Type 0
+Agrees x v = x ≡ steps (v .steps)
+
+end-agrees : (x : Logged) (n : ℕ) (ls : List (List ℕ)) (v : Sofar) → Kept x ls v → Leading (Agrees x) (atEnd v n)
+end-agrees x n ls v q =
+    either (Leading (Agrees x)) (v .named && eqb (v .table) (v .upto)) _ _
+    (λ e. done (and-parts (v .named) (eqb (v .table) (v .upto)) e .1)) (λ e. tt)
+  where
+    done : eqb (v .table) (v .upto) ≡ true → Agrees x v
+    done e =
+        let t : v .table ≡ 3 = eqb-true (v .table) (v .upto) e ∙ q .last in
+        sym (q .says) ∙ ap (λ (table : ℕ). onward (v .steps) (due table (v .named) (q .line) ls)) t ∙ ap steps (append-nil (v .steps))
+
+read-agrees : (x : Logged) (n : ℕ) (ls : List (List ℕ)) (v : Sofar) → AllLack ls → Kept x ls v → Leading (Agrees x) (readFrom n ls v)
+unfolding readFrom AllLack
+read-agrees x n [] v h q = end-agrees x n [] v q
+read-agrees x n (l ∷ []) v h q = either (Leading (Agrees x)) (isBlank l) _ _ (λ e. end-agrees x n (l ∷ []) v q) (λ e. tt)
+read-agrees x n (l ∷ m ∷ rest) v h q =
+    goes-on (Kept x (m ∷ rest)) (Agrees x) (leads v l n) (readFrom (suc n) (m ∷ rest)) (leads-kept x l (m ∷ rest) (h .0) v q n)
+    (λ w p. read-agrees x (suc n) (m ∷ rest) w (h .1) p)
+
+-- a text that is not too long
+short-log : (t : List ℕ) → length t ≤ 65536 → readTable (split 10 t) ≡ readLog t
+unfolding readLog
+short-log t few = rw (le-leb (length t) 65536 few)
+
+pub two-readers : TwoReaders
+two-readers s v few e =
+    let x = readLog (thirdTable s) in
+    let third = tableAlone (behindBlank (behindBlank (split 10 s))) in
+    let start : onward [] third ≡ x = onward-none third ∙ short-log (thirdTable s) (omega (arith, third-few s)) in
+    subst (Leading (Agrees x)) e
+    (read-agrees x 1 (split 10 s) (atStart 3) (lines-lack s) (record { last = refl; line = 0; says = start }))
+
+-- an accepted text whose third table is what the writer makes of some steps has those steps
+pub written-is-read :
+    (s : List ℕ) (v : Sofar) (ss : List Step) →
+    length s ≤ 65536 →
+    readingOf s ≡ on v →
+    allInRange ss ≡ true →
+    thirdTable s ≡ logText ss →
+    v .steps ≡ ss
+written-is-read s v ss few e r t =
+    let short : length (logText ss) ≤ 65536 = subst (λ (z : List ℕ). length z ≤ 65536) t (omega (arith, third-few s)) in
+    ap stepsIn (sym (two-readers s v few e) ∙ ap readLog t ∙ one-text .writtenReads ss r short)
+  where
+    stepsIn : Logged → List Step
+    stepsIn (steps xs) = xs
+    stepsIn (fault f) = []

@@ -1,0 +1,26 @@
+-- The third table of an input, taken alone: the log's reader finds in it the steps that the reader of four tables found. Paper 02, 'Two'.
+-- Assumes nothing.
+use mathlib.Core.{Path._≡_, Bool.cond, List.{List, [], _∷_, _++_}}
+use Prim.Native.Nat.{ℕ, _≤_}
+use lib.{ListN.length, Dec.eqb}
+use Rattle.season_lines.specs.Lines.{split}
+use Rattle.season_tables.specs.Tables.{Sofar, on, readingOf}
+use Rattle.season_log.specs.Log.{steps, readLog}
+
+-- a table: the lines up to the first blank one, each with its line feed
+unfoldable pub tableText : List (List ℕ) → List ℕ
+tableText [] = []
+tableText (l ∷ rest) = cond (eqb (length l) 0) [] (l ++ (10 ∷ tableText rest))
+
+-- the lines behind the first blank one
+unfoldable pub behindBlank : List (List ℕ) → List (List ℕ)
+behindBlank [] = []
+behindBlank (l ∷ rest) = cond (eqb (length l) 0) rest (behindBlank rest)
+
+-- two blank lines stand before the third table
+abbrev pub thirdTable : List ℕ → List ℕ
+thirdTable s = tableText (behindBlank (behindBlank (split 10 s)))
+
+-- the two readers agree (proofs/ThirdTable.antt)
+abbrev pub TwoReaders : Type 0
+TwoReaders = (s : List ℕ) (v : Sofar) → length s ≤ 65536 → readingOf s ≡ on v → readLog (thirdTable s) ≡ steps (v .steps)
