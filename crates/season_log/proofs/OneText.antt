@@ -27,7 +27,7 @@ use Rattle.season_lines.specs.declared.Names.the-variants.{Form, Unknown}
 use Rattle.season_lines.specs.Lines.{split, fieldsOf, headings, headingOf, formAmong, formOf, lineIn}
 use Rattle.season_lines.proofs.Laws.{and-parts, both-yes}
 use Rattle.season_lines.proofs.Pieces.{split-some, step-range}
-use Rattle.season_log.specs.Log.{Logged, steps, fault, ahead, stepText, stepLines, logText, numberAt, toldLine, listedFrom, listed, listOf, follows, readLines, headed, readTable, readLog, allInRange, OneText}
+use Rattle.season_log.specs.Log.{Logged, steps, fault, ahead, stepText, stepLines, logText, listNumber, toldLine, listedFrom, listed, listOf, follows, readLines, headed, readTable, readLog, stepsInRange, OneText}
 use Rattle.season_log.proofs.Lines.{lacks, joined, split-first, join-split, ranged, lineOf, step-line, line-lacks, step-written, step-reads}
 
 -- ## What is written is read
@@ -50,11 +50,11 @@ split-step s t =
     ∙ split-first 10 (lineOf s) t (line-lacks s)
 
 -- lines of steps in range, from any line on
-lines-read : (n : ℕ) (ss : List Step) → allInRange ss ≡ true → readLines n (split 10 (stepLines ss)) ≡ steps ss
-unfolding allInRange stepLines readLines split
+lines-read : (n : ℕ) (ss : List Step) → stepsInRange ss ≡ true → readLines n (split 10 (stepLines ss)) ≡ steps ss
+unfolding stepsInRange stepLines readLines split
 lines-read n [] h = refl
 lines-read n (s ∷ ss) h =
-    let both = and-parts (ranged s) (allInRange ss) h in
+    let both = and-parts (ranged s) (stepsInRange ss) h in
     ap (readLines n) (split-step s (stepLines ss))
     ∙ lines-first n (lineOf s) (stepLines ss)
     ∙ (λ i. follows (step-reads (lineOf s) n s (both .0) (step-line s) i) (lines-read (suc n) ss (both .1) i))
@@ -67,7 +67,7 @@ names-form : formOf 2 (headingOf 2 0) ≡ Form 0
 unfolding formOf formAmong headings sameText
 names-form = refl
 
-written-reads : (ss : List Step) → allInRange ss ≡ true → length (logText ss) ≤ 65536 → readLog (logText ss) ≡ steps ss
+written-reads : (ss : List Step) → stepsInRange ss ≡ true → length (logText ss) ≤ 65536 → readLog (logText ss) ≡ steps ss
 unfolding readLog
 written-reads ss h few =
     rw (le-leb (length (logText ss)) 65536 few)
@@ -82,10 +82,10 @@ no-steps r ss e = let z : _≡_ {A = ℕ} 0 1 = cc in omega arith
 
 -- lines, each two with a line feed between them, that are the lines of steps in range
 abbrev Written : List (List ℕ) → List Step → Type 0
-Written ls ss = (stepLines ss ≡ joined 10 ls) × (allInRange ss ≡ true)
+Written ls ss = (stepLines ss ≡ joined 10 ls) × (stepsInRange ss ≡ true)
 
 none-written : (l : List ℕ) (ss : List Step) → length l ≡ 0 → steps [] ≡ steps ss → Written (l ∷ []) ss
-unfolding joined stepLines allInRange
+unfolding joined stepLines stepsInRange
 none-written [] ss h e = let same : [] ≡ ss = cc in rw (← same) (refl, refl)
 none-written (x ∷ l) ss h e = absurd (omega arith)
 
@@ -95,16 +95,16 @@ one-written :
     Written (m ∷ rest) later →
     steps (s ∷ later) ≡ steps ss →
     Written (l ∷ m ∷ rest) ss
-unfolding joined stepLines allInRange
+unfolding joined stepLines stepsInRange
 one-written l m rest s later ss a w e =
     let same : s ∷ later ≡ ss = cc in
     let text : stepText s ++ stepLines later ≡ l ++ (10 ∷ joined 10 (m ∷ rest)) =
     (λ i. a .0 i ++ w .0 i) ∙ append-assoc l (10 ∷ []) (joined 10 (m ∷ rest)) in
-    rw (← same) (text, both-yes (ranged s) (allInRange later) (a .1) (w .1))
+    rw (← same) (text, both-yes (ranged s) (stepsInRange later) (a .1) (w .1))
 
 lines-written : (n : ℕ) (ls : List (List ℕ)) (ss : List Step) → readLines n ls ≡ steps ss → Written ls ss
 unfolding readLines
-lines-written n [] ss e = unfold joined stepLines allInRange in (let same : [] ≡ ss = cc in rw (← same) (refl, refl))
+lines-written n [] ss e = unfold joined stepLines stepsInRange in (let same : [] ≡ ss = cc in rw (← same) (refl, refl))
 lines-written n (l ∷ []) ss e = go (eqb (length l) 0) refl e
   where
     go : (t : Bool) → eqb (length l) 0 ≡ t → cond t (steps []) (fault (Malformed n)) ≡ steps ss → Written (l ∷ []) ss
@@ -144,7 +144,7 @@ unfolding logText joined
 log-joined l m rest ss a b = λ i. sym a i ++ (10 ∷ b i)
 
 table-written :
-    (ls : List (List ℕ)) (ss : List Step) → readTable ls ≡ steps ss → (logText ss ≡ joined 10 ls) × (allInRange ss ≡ true)
+    (ls : List (List ℕ)) (ss : List Step) → readTable ls ≡ steps ss → (logText ss ≡ joined 10 ls) × (stepsInRange ss ≡ true)
 unfolding readTable
 table-written [] ss e = absurd (no-steps (Heading 1) ss e)
 table-written (l ∷ []) ss e = absurd (no-steps _ ss e)
@@ -154,17 +154,17 @@ table-written (l ∷ m ∷ rest) ss e = go (formOf 2 l) refl e
         (x : Names) →
         formOf 2 l ≡ x →
         headed x (readLines 2 (m ∷ rest)) ≡ steps ss →
-        (logText ss ≡ joined 10 (l ∷ m ∷ rest)) × (allInRange ss ≡ true)
+        (logText ss ≡ joined 10 (l ∷ m ∷ rest)) × (stepsInRange ss ≡ true)
     go (Form f) h e =
         let w = lines-written 2 (m ∷ rest) ss e in
         (log-joined l m rest ss (form-names l f h) (w .0), w .1)
     go Unknown h e = absurd (no-steps (Heading 1) ss e)
 
-reads-written : (s : List ℕ) (ss : List Step) → readLog s ≡ steps ss → (logText ss ≡ s) × (allInRange ss ≡ true)
+reads-written : (s : List ℕ) (ss : List Step) → readLog s ≡ steps ss → (logText ss ≡ s) × (stepsInRange ss ≡ true)
 unfolding readLog
 reads-written s ss e = go (leb (length s) 65536) e
   where
-    go : (t : Bool) → cond t (readTable (split 10 s)) (fault (InputTooLong 0)) ≡ steps ss → (logText ss ≡ s) × (allInRange ss ≡ true)
+    go : (t : Bool) → cond t (readTable (split 10 s)) (fault (InputTooLong 0)) ≡ steps ss → (logText ss ≡ s) × (stepsInRange ss ≡ true)
     go true e =
         let w = table-written (split 10 s) ss e in
         (w .0 ∙ join-split 10 s, w .1)
@@ -172,11 +172,11 @@ reads-written s ss e = go (leb (length s) 65536) e
 
 -- ## Steps as they are lent
 
-listed-ranged : (m n : ℕ) (list : List ℕ) (ss : List Step) → listedFrom m n list ≡ steps ss → allInRange ss ≡ true
-unfolding listedFrom allInRange
+listed-ranged : (m n : ℕ) (list : List ℕ) (ss : List Step) → listedFrom m n list ≡ steps ss → stepsInRange ss ≡ true
+unfolding listedFrom stepsInRange
 listed-ranged zero n list ss e = go (eqb (length list) 0) e
   where
-    go : (t : Bool) → cond t (steps []) (fault (OutOfRange (toldLine n))) ≡ steps ss → allInRange ss ≡ true
+    go : (t : Bool) → cond t (steps []) (fault (OutOfRange (toldLine n))) ≡ steps ss → stepsInRange ss ≡ true
     go true e = let same : [] ≡ ss = cc in rw (← same) refl
     go false e = absurd (no-steps (OutOfRange (toldLine n)) ss e)
 listed-ranged (suc m) n list ss e =
@@ -184,20 +184,20 @@ listed-ranged (suc m) n list ss e =
     (λ later. listed-ranged m (suc n) (drop 12 list) later) e
   where
     kind : ℕ
-    kind = numberAt 0 list
+    kind = listNumber 0 list
 
     item : ℕ
-    item = numberAt 4 list
+    item = listNumber 4 list
 
     minutes : ℕ
-    minutes = numberAt 8 list
+    minutes = listNumber 8 list
 
     go :
         (t : Bool) (below : Logged) →
         inRange kind item minutes ≡ t →
-        ((later : List Step) → below ≡ steps later → allInRange later ≡ true) →
+        ((later : List Step) → below ≡ steps later → stepsInRange later ≡ true) →
         cond t (ahead (stepOf kind item minutes) below) (fault (OutOfRange (toldLine n))) ≡ steps ss →
-        allInRange ss ≡ true
+        stepsInRange ss ≡ true
     go true (steps later) r a e =
         let same : stepOf kind item minutes ∷ later ≡ ss = cc in
         rw (← same) (both-yes _ _ (step-range kind item minutes r) (a later refl))
@@ -245,14 +245,14 @@ module _ (s : Step) (rest : List ℕ) where
       ∙ drop-at (le 4 (stepMinutes s)) rest 4 (length-le 4 (stepMinutes s))
 
   module _ (r : ranged s ≡ true) where
-    kind-at : numberAt 0 fromKind ≡ stepKind s
+    kind-at : listNumber 0 fromKind ≡ stepKind s
     kind-at = un-front 4 (stepKind s) fromItem (omega (arith, step-small s r))
 
-    item-at : numberAt 4 fromKind ≡ stepItem s
+    item-at : listNumber 4 fromKind ≡ stepItem s
     item-at =
         ap (λ (l : List ℕ). un (take 4 l)) past-kind ∙ un-front 4 (stepItem s) fromMinutes (omega (arith, step-small s r))
 
-    minutes-at : numberAt 8 fromKind ≡ stepMinutes s
+    minutes-at : listNumber 8 fromKind ≡ stepMinutes s
     minutes-at = ap (λ (l : List ℕ). un (take 4 l)) past-item ∙ un-front 4 (stepMinutes s) rest (omega (arith, step-small s r))
 
 -- a list has 12 bytes a step
@@ -261,16 +261,16 @@ unfolding listOf
 length-list [] = refl
 length-list (s ∷ ss) = omega (arith, bytes-twelve s (listOf ss), length-list ss)
 
-list-read : (n : ℕ) (ss : List Step) → allInRange ss ≡ true → listedFrom (length ss) n (listOf ss) ≡ steps ss
-unfolding listedFrom listOf allInRange
+list-read : (n : ℕ) (ss : List Step) → stepsInRange ss ≡ true → listedFrom (length ss) n (listOf ss) ≡ steps ss
+unfolding listedFrom listOf stepsInRange
 list-read n [] h = refl
 list-read n (s ∷ ss) h =
-    let both = and-parts (ranged s) (allInRange ss) h in
+    let both = and-parts (ranged s) (stepsInRange ss) h in
     let r = both .0 in
     let rest = listOf ss in
     rw (kind-at s rest r, item-at s rest r, minutes-at s rest r, past-minutes s rest, r, same-step s, list-read (suc n) ss (both .1))
 
-list-reads : (ss : List Step) → allInRange ss ≡ true → listed (listOf ss) ≡ steps ss
+list-reads : (ss : List Step) → stepsInRange ss ≡ true → listed (listOf ss) ≡ steps ss
 list-reads ss h =
     let count : length (listOf ss) / 12 ≡ length ss = omega (arith, length-list ss) in
     rw count (list-read 2 ss h)

@@ -38,7 +38,7 @@ use Rattle.season_log.specs.declared.LogAnswer.the-variants.{Count, Refu
 use Rattle.season_log.specs.declared.Next.{Next}
 use Rattle.season_log.specs.declared.Next.the-variants.{Step as NextStep, Refused as NextRefused}
 use Rattle.season_log.specs.Log.{Logged, steps, fault, ahead, stepText, listOf, follows, readLines, headed, readTable, readLog, readAnswer, readList}
-use Rattle.season_log.specs.Inner.{Begins, refusalIn, firstLine, FirstIs, StepsIn, ReadInto}
+use Rattle.season_log.specs.Inner.{Begins, lineRefusal, firstLine, FirstIs, StepsIn, ReadInto}
 use Rattle.season_log.proofs.Lines.{split-first, lineOf, step-line, line-lacks, no-step as refused-no-step, step-written, step-reads}
 use Rattle.season_log.proofs.OneText.{length-list}
 
@@ -234,7 +234,7 @@ none-left text at n h = rw (drop-of-length-le text {i = at} h)
 abbrev pub NoStep : Line → Type 0
 NoStep l = (s : Step) → l ≡ StepLine s → ⊥
 
-no-step : (l : Line) (rest : Logged) → NoStep l → follows l rest ≡ fault (refusalIn l)
+no-step : (l : Line) (rest : Logged) → NoStep l → follows l rest ≡ fault (lineRefusal l)
 no-step (StepLine s) rest h = absurd (h s refl)
 no-step (Refused r) rest h = refl
 no-step (Sizes k w) rest h = refl
@@ -282,7 +282,7 @@ module _ (n : ℕ) (s : List ℕ) (m : ℕ) (e : m ≡ length (before 10 s)) whe
         rw (lt-ltb (length (before 10 s)) (length s) (omega arith))
         (sym (is ∙ ap (λ (t : List ℕ). lineIn 2 0 (fieldsOf t) n) (piece-is 10 s 0 m e)))
 
-    pub first-refused : (r : Refusal) → NoStep l → r ≡ refusalIn l → FirstIs (firstLine n s) s (NextRefused r)
+    pub first-refused : (r : Refusal) → NoStep l → r ≡ lineRefusal l → FirstIs (firstLine n s) s (NextRefused r)
     first-refused r h q rest = ap (λ (v : Line). follows v rest) first-fed ∙ no-step l rest h ∙ ap fault (sym q)
 
     pub first-step : (t : Step) → l ≡ StepLine t → FirstIs (firstLine n s) s (NextStep t (m + 1))
@@ -401,9 +401,9 @@ pub record ReadSoFar (text old : List ℕ) (at line count : ℕ) (list : List �
   pub spent : 6 * count ≤ at
   pub within : at ≤ length text
 
-pub read-begins : (text old : List ℕ) → ReadSoFar text old 0 2 0 old
+pub reading-begins : (text old : List ℕ) → ReadSoFar text old 0 2 0 old
 unfolding listOf
-read-begins text old =
+reading-begins text old =
     record {
       read = [];
       left = onward-none (readLines 2 (split 10 text));

@@ -24,7 +24,7 @@ use Rattle.landlord.proofs.Ranges.{range-read, range-write, range-wide, range-f
 use Rattle.season_lines.specs.Lines.{headings}
 use Rattle.season_log.specs.declared.LogAnswer.{LogAnswer}
 use Rattle.season_log.specs.declared.LogAnswer.the-variants.{Count, Refused as Not}
-use Rattle.season_log.specs.Log.{Logged, steps, fault, ahead, stepText, stepLines, logText, numberAt, toldLine, listedFrom, listed, writeAnswer, writtenPage}
+use Rattle.season_log.specs.Log.{Logged, steps, fault, ahead, stepText, stepLines, logText, listNumber, toldLine, listedFrom, listed, writeAnswer, writtenPage}
 use Rattle.season_log.specs.Inner.{rangedAt, stepAt, lineBytes, textBytes, FaultOn, LineFits, LinesFit, LinesOn}
 
 -- ## The line of a step
@@ -121,9 +121,9 @@ rest-start list = let e : length list - 0 ≡ length list = omega arith in ap (�
 
 first-step :
     (w n : ℕ) (l : List ℕ) (k i m : ℕ) →
-    numberAt 0 l ≡ k →
-    numberAt 4 l ≡ i →
-    numberAt 8 l ≡ m →
+    listNumber 0 l ≡ k →
+    listNumber 4 l ≡ i →
+    listNumber 8 l ≡ m →
     listedFrom (suc w) n l
     ≡ cond (inRange k i m) (ahead (stepOf k i m) (listedFrom w (suc n) (drop 12 l))) (fault (OutOfRange (toldLine n)))
 unfolding listedFrom
@@ -134,11 +134,11 @@ module _ (list : List ℕ) (at : ℕ) (more : at + 12 ≤ length list) where
   step-here =
       let count : (length list - at) / 12 ≡ suc ((length list - (at + 12)) / 12) = omega arith in
       let line : suc (at / 12 + 2) ≡ (at + 12) / 12 + 2 = omega arith in
-      let number : (n : ℕ) → numberAt n (drop at list) ≡ numberAt (at + n) list = λ n. ap (λ (l : List ℕ). un (take 4 l)) (drop-drop n at list) in
+      let number : (n : ℕ) → listNumber n (drop at list) ≡ listNumber (at + n) list = λ n. ap (λ (l : List ℕ). un (take 4 l)) (drop-drop n at list) in
       let rest : listedFrom ((length list - (at + 12)) / 12) (suc (at / 12 + 2)) (drop 12 (drop at list)) ≡ restAt (at + 12) list =
       λ j. listedFrom ((length list - (at + 12)) / 12) (line j) (drop-drop 12 at list j) in
       ap (λ (w : ℕ). listedFrom w (at / 12 + 2) (drop at list)) count
-      ∙ first-step ((length list - (at + 12)) / 12) (at / 12 + 2) (drop at list) (numberAt at list) (numberAt (at + 4) list) (numberAt (at + 8) list) refl (number 4) (number 8)
+      ∙ first-step ((length list - (at + 12)) / 12) (at / 12 + 2) (drop at list) (listNumber at list) (listNumber (at + 4) list) (listNumber (at + 8) list) refl (number 4) (number 8)
       ∙ ap (λ (x : Logged). cond (rangedAt at list) (ahead (stepAt at list) x) (faultAt at)) rest
 
   rest-next : rangedAt at list ≡ true → restAt at list ≡ ahead (stepAt at list) (restAt (at + 12) list)
@@ -276,7 +276,7 @@ odd-fault zero n list h k = rw (ne-eqb (length list) 0 (λ e. omega arith))
 odd-fault (suc m) n list h k =
     let rest = listedFrom m (suc n) (drop 12 list) in
     let e : isWhole rest ≡ false = odd-fault m (suc n) (drop 12 list) (omega (arith, length-drop 12 list)) (omega (arith, length-drop 12 list)) in
-    go (inRange (numberAt 0 list) (numberAt 4 list) (numberAt 8 list)) (stepOf (numberAt 0 list) (numberAt 4 list) (numberAt 8 list)) rest e
+    go (inRange (listNumber 0 list) (listNumber 4 list) (listNumber 8 list)) (stepOf (listNumber 0 list) (listNumber 4 list) (listNumber 8 list)) rest e
   where
     go : (t : Bool) (s : Step) (x : Logged) → isWhole x ≡ false → isWhole (cond t (ahead s x) (fault (OutOfRange (toldLine n)))) ≡ false
     go true s x e = whole-ahead s x ∙ e

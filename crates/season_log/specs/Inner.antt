@@ -8,16 +8,16 @@ use Rattle.landlord.specs.{Types.{stepKind, stepItem, stepMinutes}, Calls.{inRa
 use Rattle.season_lines.specs.declared.Line.{Line, the-variants.{Sizes, Item as ItemLine, Step as StepLine, Act as ActLine, Refused}}
 use Rattle.season_lines.specs.{Lines.{fieldsOf, lineIn}, Inner.before}
 use Rattle.season_log.specs.declared.{LogAnswer.{LogAnswer, the-variants.{Count, Refused as Not}}, Found.Found, Next.{Next, the-variants.{Step as NextStep, Refused as NextRefused}}}
-use Rattle.season_log.specs.Log.{Logged, steps, fault, stepText, stepLines, logText, numberAt, listed, listOf, follows}
+use Rattle.season_log.specs.Log.{Logged, steps, fault, stepText, stepLines, logText, listNumber, listed, listOf, follows}
 
 -- ## Writing
 
 -- the step at a place of a list, whether it is in range, and its line
 abbrev pub rangedAt : ℕ → List ℕ → Bool
-rangedAt at list = inRange (numberAt at list) (numberAt (at + 4) list) (numberAt (at + 8) list)
+rangedAt at list = inRange (listNumber at list) (listNumber (at + 4) list) (listNumber (at + 8) list)
 
 abbrev pub stepAt : ℕ → List ℕ → Step
-stepAt at list = stepOf (numberAt at list) (numberAt (at + 4) list) (numberAt (at + 8) list)
+stepAt at list = stepOf (listNumber at list) (listNumber (at + 4) list) (listNumber (at + 8) list)
 
 -- how many bytes its line has; 0 if it is out of range
 abbrev pub lineBytes : ℕ → List ℕ → ℕ
@@ -81,12 +81,12 @@ abbrev pub FoundIn : List ℕ → Found → Type 0
 FoundIn text r = 0 < r .bytes → Begins text (r .step) (r .bytes)
 
 -- what a line that is no step is refused with
-abbrev pub refusalIn : Line → Refusal
-refusalIn (StepLine s) = Malformed 0
-refusalIn (Refused r) = r
-refusalIn (Sizes k h) = Malformed 0
-refusalIn (ItemLine i b l w) = Malformed 0
-refusalIn (ActLine place act) = Malformed 0
+abbrev pub lineRefusal : Line → Refusal
+lineRefusal (StepLine s) = Malformed 0
+lineRefusal (Refused r) = r
+lineRefusal (Sizes k h) = Malformed 0
+lineRefusal (ItemLine i b l w) = Malformed 0
+lineRefusal (ActLine place act) = Malformed 0
 
 -- what the first line of a text says on line n
 unfoldable pub firstLine : ℕ → List ℕ → Line

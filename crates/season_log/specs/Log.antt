@@ -39,8 +39,8 @@ logText ss = headingOf 2 0 ++ (10 ∷ stepLines ss)
 -- ## Steps as they are lent: 12 bytes each, kind, item and minutes, four bytes each, the low byte first
 
 -- the number at a place of a list
-abbrev pub numberAt : ℕ → List ℕ → ℕ
-numberAt at list = un (take 4 (drop at list))
+abbrev pub listNumber : ℕ → List ℕ → ℕ
+listNumber at list = un (take 4 (drop at list))
 
 -- a line that does not fit 32 bits is told as the largest that does
 abbrev pub toldLine : ℕ → ℕ
@@ -51,9 +51,9 @@ toldLine n = cond (leb n 4294967295) n 4294967295
 unfoldable pub listedFrom : ℕ → ℕ → List ℕ → Logged
 listedFrom zero n list = cond (eqb (length list) 0) (steps []) (fault (OutOfRange (toldLine n)))
 listedFrom (suc m) n list =
-    let kind = numberAt 0 list in
-    let item = numberAt 4 list in
-    let minutes = numberAt 8 list in
+    let kind = listNumber 0 list in
+    let item = listNumber 4 list in
+    let minutes = listNumber 8 list in
     cond (inRange kind item minutes) (ahead (stepOf kind item minutes) (listedFrom m (suc n) (drop 12 list)))
     (fault (OutOfRange (toldLine n)))
 
@@ -122,13 +122,13 @@ readList (fault r) list = list
 
 -- ## One list, one text (proofs/OneText.antt)
 
-unfoldable pub allInRange : List Step → Bool
-allInRange [] = true
-allInRange (s ∷ rest) = inRange (stepKind s) (stepItem s) (stepMinutes s) && allInRange rest
+unfoldable pub stepsInRange : List Step → Bool
+stepsInRange [] = true
+stepsInRange (s ∷ rest) = inRange (stepKind s) (stepItem s) (stepMinutes s) && stepsInRange rest
 
 -- "the reader gives back those steps, and a text the reader takes is what the writer makes of them"
 pub record OneText : Type 0 where
-  pub writtenReads : (ss : List Step) → allInRange ss ≡ true → length (logText ss) ≤ 65536 → readLog (logText ss) ≡ steps ss
-  pub readsWritten : (s : List ℕ) (ss : List Step) → readLog s ≡ steps ss → (logText ss ≡ s) × (allInRange ss ≡ true)
-  pub listedInRange : (list : List ℕ) (ss : List Step) → listed list ≡ steps ss → allInRange ss ≡ true
-  pub listReads : (ss : List Step) → allInRange ss ≡ true → listed (listOf ss) ≡ steps ss
+  pub writtenReads : (ss : List Step) → stepsInRange ss ≡ true → length (logText ss) ≤ 65536 → readLog (logText ss) ≡ steps ss
+  pub readsWritten : (s : List ℕ) (ss : List Step) → readLog s ≡ steps ss → (logText ss ≡ s) × (stepsInRange ss ≡ true)
+  pub listedInRange : (list : List ℕ) (ss : List Step) → listed list ≡ steps ss → stepsInRange ss ≡ true
+  pub listReads : (ss : List Step) → stepsInRange ss ≡ true → listed (listOf ss) ≡ steps ss

@@ -11,8 +11,8 @@ ghost use Rattle.decimal.specs.Decimal.{textOf};
 ghost use Rattle.decimal.specs.InnerPages.{textOver};
 ghost use Rattle.landlord.specs.declared.Step.the-variants.{Read, Write};
 ghost use Rattle.season_lines.specs.Lines.{split, fieldsOf, lineIn};
-ghost use Rattle.season_log.specs.Log.{stepText, numberAt, toldLine, listed, listOf, readLines, readTable, readLog, writeAnswer, writtenPage, readAnswer, readList};
-ghost use Rattle.season_log.specs.Inner.{stepAt, lineBytes, textBytes, FaultOn, LineFits, LinesFit, LinesOn, DigitsAt, NumberAt, FoundIn, refusalIn, firstLine, FirstIs, ReadInto};
+ghost use Rattle.season_log.specs.Log.{stepText, listNumber, toldLine, listed, listOf, readLines, readTable, readLog, writeAnswer, writtenPage, readAnswer, readList};
+ghost use Rattle.season_log.specs.Inner.{stepAt, lineBytes, textBytes, FaultOn, LineFits, LinesFit, LinesOn, DigitsAt, NumberAt, FoundIn, lineRefusal, firstLine, FirstIs, ReadInto};
 use landlord::Refusal;
 use landlord::Step;
 use season_lines::Line;
@@ -52,14 +52,14 @@ enum Next {
 // sees what is asked of the number (docs/DECISIONS.md).
 fn four_bytes(list: &[u8], at: usize) -> u64
     requires { ⌜ at + 4 ≤ length (now list) ⌝ }
-    ensures { λ r. ⌜ (r ≡ numberAt at (now (list .entry))) × (r < 4294967296) ⌝ }
+    ensures { λ r. ⌜ (r ≡ listNumber at (now (list .entry))) × (r < 4294967296) ⌝ }
 {
     fields::get(list, at, 4)
 }
 
 fn word_at(list: &[u8], at: usize) -> u64
     requires { ⌜ at + 4 ≤ length (now list) ⌝ }
-    ensures { λ r. ⌜ (r ≡ numberAt at (now (list .entry))) × (r < 4294967296) ⌝ }
+    ensures { λ r. ⌜ (r ≡ listNumber at (now (list .entry))) × (r < 4294967296) ⌝ }
 {
     four_bytes(list, at)
 }
@@ -67,7 +67,7 @@ fn word_at(list: &[u8], at: usize) -> u64
 // The number at a place of a list.
 fn number_at(list: &[u8], at: usize) -> u32
     requires { ⌜ at + 4 ≤ length (now list) ⌝ }
-    ensures { λ r. ⌜ r ≡ numberAt at (now (list .entry)) ⌝ }
+    ensures { λ r. ⌜ r ≡ listNumber at (now (list .entry)) ⌝ }
 {
     word_at(list, at) as u32
 }
@@ -369,7 +369,7 @@ fn judge(l: &[u8], line: u32) -> Line
 
 // What a line that is no step is refused with: in this table it is a refusal itself.
 fn refusal_in(line: Line) -> Refusal
-    ensures { λ r. ⌜ r ≡ refusalIn line ⌝ }
+    ensures { λ r. ⌜ r ≡ lineRefusal line ⌝ }
 {
     match line {
         Line::Refused(r) => r,

@@ -24,7 +24,7 @@ use Rattle.season_lines.proofs.Pieces.{no-bytes, empty-malformed, Says, line-sa
 use Rattle.season_tables.specs.Tables.{Sofar, Led, on, atStart, nowNamed, nextTable, withStep, inTurn, takes, mayEnd, mustEnd, namedBy, leads, atEnd, readFrom, readingOf}
 use Rattle.season_tables.specs.Inner.{isBlank}
 use Rattle.season_tables.proofs.Sound.{Leading, goes-on}
-use Rattle.season_log.specs.Log.{Logged, steps, fault, ahead, logText, follows, readLines, headed, readTable, readLog, allInRange}
+use Rattle.season_log.specs.Log.{Logged, steps, fault, ahead, logText, follows, readLines, headed, readTable, readLog, stepsInRange}
 use Rattle.season_log.proofs.Lines.{lacks, split-first, step-written, step-reads}
 use Rattle.season_log.proofs.OneText.{lines-first, table-first, one-text}
 use Rattle.season_log.proofs.Reading.{onward, onward-none, onward-more}
@@ -347,7 +347,7 @@ pub written-is-read :
     (s : List ℕ) (v : Sofar) (ss : List Step) →
     length s ≤ 65536 →
     readingOf s ≡ on v →
-    allInRange ss ≡ true →
+    stepsInRange ss ≡ true →
     thirdTable s ≡ logText ss →
     v .steps ≡ ss
 written-is-read s v ss few e r t =

@@ -9,7 +9,7 @@ use borrow.Author.Tests.{not-true, not-false}
 use lib.ListN.{length}
 use Rattle.decimal.specs.Decimal.{digitsOf}
 use Rattle.landlord.specs.Calls.{inRange}
-use Rattle.season_log.specs.Log.{numberAt}
+use Rattle.season_log.specs.Log.{listNumber}
 use Rattle.season_log.specs.Inner.{rangedAt}
 use Rattle.season_log.proofs.Writing.{item-range, minutes-range, item-digits, minutes-digits, flush-line, read-line, write-line, no-line}
 use Rattle.season_log.proofs.line_bytes.Statement.{statement}
@@ -17,13 +17,13 @@ use Rattle.season_log.proofs.line_bytes.Tie as tie
 
 -- the numbers of the step
 abbrev kind : (s : tie.Start) → ℕ
-kind s = numberAt (s .args .at) (s .args .list .now)
+kind s = listNumber (s .args .at) (s .args .list .now)
 
 abbrev item : (s : tie.Start) → ℕ
-item s = numberAt (s .args .at + 4) (s .args .list .now)
+item s = listNumber (s .args .at + 4) (s .args .list .now)
 
 abbrev minutes : (s : tie.Start) → ℕ
-minutes s = numberAt (s .args .at + 8) (s .args .list .now)
+minutes s = listNumber (s .args .at + 8) (s .args .list .now)
 
 number-at-requires : tie.Need-number-at-requires
 number-at-requires c κs = search needs

@@ -7,7 +7,7 @@ use borrow.Author.Needs.{needs}
 use lib.ListN.{length}
 use Rattle.landlord.specs.declared.Step.{Step}
 use Rattle.landlord.specs.declared.Step.the-variants.{Read, Write, Flush}
-use Rattle.season_log.specs.Log.{stepText, numberAt}
+use Rattle.season_log.specs.Log.{stepText, listNumber}
 use Rattle.season_log.specs.Inner.{stepAt}
 use Rattle.season_log.proofs.Writing.{LineOn, step-flush, step-read, step-write, is-write, item-range, minutes-range}
 use Rattle.season_log.proofs.put_step.Statement.{statement}
@@ -15,13 +15,13 @@ use Rattle.season_log.proofs.put_step.Tie as tie
 
 -- the numbers of the step, and the step
 abbrev kind : (s : tie.Start) → ℕ
-kind s = numberAt (s .args .at) (s .args .list .now)
+kind s = listNumber (s .args .at) (s .args .list .now)
 
 abbrev item : (s : tie.Start) → ℕ
-item s = numberAt (s .args .at + 4) (s .args .list .now)
+item s = listNumber (s .args .at + 4) (s .args .list .now)
 
 abbrev minutes : (s : tie.Start) → ℕ
-minutes s = numberAt (s .args .at + 8) (s .args .list .now)
+minutes s = listNumber (s .args .at + 8) (s .args .list .now)
 
 abbrev step : (s : tie.Start) → Step
 step s = stepAt (s .args .at) (s .args .list .now)

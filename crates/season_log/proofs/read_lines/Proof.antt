@@ -4,7 +4,7 @@ use Prim.Native.Nat.{_-_}
 use native.Mathlib.Omega.{arith}
 use borrow.Author.Needs.{needs}
 use lib.ListN.{length}
-use Rattle.season_log.proofs.Reading.{ReadSoFar, read-begins, read-ends, read-stops, read-long, read-room, read-goes}
+use Rattle.season_log.proofs.Reading.{ReadSoFar, reading-begins, read-ends, read-stops, read-long, read-room, read-goes}
 use Rattle.season_log.proofs.read_lines.Statement.{statement}
 use Rattle.season_log.proofs.read_lines.Tie as tie
 
@@ -15,7 +15,7 @@ abbrev μ-loop : tie.MeasureT-loop
 μ-loop text list₀ at₀ line₀ count₀ list at line count = length text - at
 
 loop-holds : tie.Need-loop-holds Inv-loop μ-loop
-loop-holds c = read-begins (c .before .before .args .text .now) (c .before .before .args .list .now)
+loop-holds c = reading-begins (c .before .before .args .text .now) (c .before .before .args .list .now)
 
 sub-first-line : tie.Need-sub-first-line Inv-loop μ-loop
 sub-first-line c = search needs
