@@ -27,7 +27,7 @@ static void show(const char *call, uint32_t answer, const uint8_t *state) {
 
 int main(void) {
     static uint8_t state[RECORDER_STATE_BYTES];
-    show("open", recorder_open(state, sizeof state, 3, catalog, sizeof catalog), state);
+    show("open", recorder_open(state, sizeof state, 3, RECORDER_WRITE_FIRST, catalog, sizeof catalog), state);
     show("W 0 90", recorder_step(state, sizeof state, RECORDER_WRITE, 0, 90), state);
     show("R 1", recorder_step(state, sizeof state, RECORDER_READ, 1, 0), state);
     show("W 2 45", recorder_step(state, sizeof state, RECORDER_WRITE, 2, 45), state);

@@ -44,7 +44,7 @@ extern "C" {
 #endif
 
 /* The bytes of a state; a state of any other length is RECORDER_INVALID_STATE. */
-#define RECORDER_STATE_BYTES 8792
+#define RECORDER_STATE_BYTES 8796
 
 /*
  * The number of the layout, at the head of every state. It rises with every change of the layout, so that a state stored by
@@ -52,7 +52,7 @@ extern "C" {
  * another number, close the open season and report it with the old one; or keep the steps, and replay them after an
  * opening with the new one.
  */
-#define RECORDER_FORMAT 1
+#define RECORDER_FORMAT 2
 
 /* The bytes of the longest report there can be, here or in the office: a page of this size is never too short. */
 #define RECORDER_REPORT_BYTES 7931
@@ -62,6 +62,16 @@ extern "C" {
 
 /* The most bytes that a log's text may have: a page of this size is never too short, and a longer season has no text. */
 #define RECORDER_LOG_BYTES 65536
+
+/*
+ * The rules of deduction, one of which is chosen at the opening. An eviction takes credit from every item that stays: for each of
+ * its blocks as much as the evicted item had left for each of its own. Write-first takes it from the item's write credit, and what
+ * that lacks from its load credit; load-first the other way round. They part where a dirty item is read again, for a read fills up
+ * the load credit and not the write credit: under load-first it has more credit then, and tends to stay longer. All else is the
+ * same under both: which item is evicted, given the credits, and the bound against every rival too.
+ */
+#define RECORDER_WRITE_FIRST 0
+#define RECORDER_LOAD_FIRST 1
 
 /* The limits of the arguments. */
 #define RECORDER_MAX_K 4096         /* capacity, in blocks: 1 to 4,096 */
@@ -86,7 +96,8 @@ enum recorder_answer {
     RECORDER_CLOSED = 9,         /* 'closed': a step or a close on a closed cache */
     RECORDER_SHORT_PAGE = 15,    /* 'short page': the page is shorter than the report, the sentence or the log's text; or this
                                     has over 65,536 bytes */
-    RECORDER_INVALID_STATE = 17  /* 'foul locker': a state of the wrong length, or damaged */
+    RECORDER_INVALID_STATE = 17, /* 'foul locker': a state of the wrong length, of another layout, or damaged */
+    RECORDER_UNKNOWN_RULE = 18   /* 'odd rule': the rule of deduction is neither 0 nor 1 */
 };
 
 /* The kinds of a step: the letters of the text log. */
@@ -97,7 +108,8 @@ enum recorder_kind {
 };
 
 /*
- * Opens an empty cache of k blocks.
+ * Opens an empty cache of k blocks. The state keeps the rule of deduction, RECORDER_WRITE_FIRST or RECORDER_LOAD_FIRST: no other
+ * call changes it.
  *
  * The catalog has RECORDER_ITEM_BYTES bytes an item, in the order of the item numbers:
  *     byte 0      blocks, 1 to 16
@@ -112,9 +124,10 @@ enum recorder_kind {
  * Answers, the first that holds:
  *     17  state_len is not RECORDER_STATE_BYTES
  *      3  k is not 1 to 4,096; or catalog_len is no multiple of 5 or above 1,280; or an item's blocks are not 1 to 16
+ *     18  rule is neither 0 nor 1
  *      0  taken: the state is that of an open cache in which nothing is held and nothing counted
  */
-uint32_t recorder_open(uint8_t *state, size_t state_len, uint32_t k, const uint8_t *catalog, size_t catalog_len);
+uint32_t recorder_open(uint8_t *state, size_t state_len, uint32_t k, uint32_t rule, const uint8_t *catalog, size_t catalog_len);
 
 /*
  * Takes one step of the log: a read of an item, a write of an item that took some minutes, or a flush.
@@ -269,7 +282,8 @@ enum recorder_place {
     RECORDER_AT_LOAD = 7256,           /* run of u16: load costs of the catalog */
     RECORDER_AT_WRITE = 7768,          /* run of u16: write costs of the catalog */
     RECORDER_AT_BLOCKS = 8280,         /* run of u8: blocks of the catalog */
-    RECORDER_AT_HELD = 8536            /* run of u8: 1 held, 0 not */
+    RECORDER_AT_HELD = 8536,           /* run of u8: 1 held, 0 not */
+    RECORDER_AT_RULE = 8792            /* u32: RECORDER_WRITE_FIRST or RECORDER_LOAD_FIRST */
 };
 
 /*

@@ -7,6 +7,7 @@ unsafe extern "C" {
         state: *mut u8,
         state_len: usize,
         k: u32,
+        rule: u32,
         catalog: *const u8,
         catalog_len: usize,
     ) -> u32;
@@ -38,7 +39,7 @@ unsafe extern "C" {
 
 #[derive(Clone, Copy)]
 pub struct Calls {
-    pub open: fn(&mut [u8], u32, &[u8]) -> u32,
+    pub open: fn(&mut [u8], u32, u32, &[u8]) -> u32,
     pub step: fn(&mut [u8], u32, u32, u32) -> u32,
     pub close: fn(&mut [u8]) -> u32,
     pub report: fn(&[u8], &mut [u8], &mut usize) -> u32,
@@ -47,8 +48,9 @@ pub struct Calls {
 // SAFETY, of each call: the pointer is good for the length beside it, what is written is borrowed alone, and the
 // library has no condition on the values.
 pub const LIBRARY: Calls = Calls {
-    open: |s, k, catalog| unsafe {
-        recorder_open(s.as_mut_ptr(), s.len(), k, catalog.as_ptr(), catalog.len())
+    open: |s, k, rule, catalog| unsafe {
+        let (items, items_len) = (catalog.as_ptr(), catalog.len());
+        recorder_open(s.as_mut_ptr(), s.len(), k, rule, items, items_len)
     },
     step: |s, kind, item, minutes| unsafe {
         recorder_step(s.as_mut_ptr(), s.len(), kind, item, minutes)

@@ -2,8 +2,8 @@
 //! states, and on valid states that no log leads to.
 
 use bench::calls::{LIBRARY, PLAIN};
-use bench::plain::{self, FLUSH, MAX_STEPS, READ, STATE_BYTES, WRITE, at};
-use bench::random::{Random, catalog, some_k, some_n};
+use bench::plain::{self, FLUSH, LOAD_FIRST, MAX_STEPS, READ, STATE_BYTES, WRITE, WRITE_FIRST, at};
+use bench::random::{Random, catalog, odd_rule, some_k, some_n, some_rule};
 use bench::states;
 
 /// One state for each implementation, always with the same bytes.
@@ -16,7 +16,7 @@ struct Pair {
 /// How often each number was answered.
 #[derive(Default)]
 pub struct Tally {
-    pub answers: [u64; 18],
+    pub answers: [u64; 19],
 }
 
 impl Pair {
@@ -62,13 +62,14 @@ impl Pair {
         plain
     }
 
-    fn open(&mut self, tally: &mut Tally, k: u32, catalog: &[u8]) -> u32 {
+    fn open(&mut self, tally: &mut Tally, k: u32, rule: u32, catalog: &[u8]) -> u32 {
         let before = self.plain.clone();
         let answers = [
-            (LIBRARY.open)(&mut self.library, k, catalog),
-            (PLAIN.open)(&mut self.plain, k, catalog),
+            (LIBRARY.open)(&mut self.library, k, rule, catalog),
+            (PLAIN.open)(&mut self.plain, k, rule, catalog),
         ];
-        self.both(tally, &format!("open {k} {catalog:?}"), &before, answers)
+        let what = format!("open {k} {rule} {catalog:?}");
+        self.both(tally, &what, &before, answers)
     }
 
     fn step(&mut self, tally: &mut Tally, [kind, item, minutes]: [u32; 3]) -> u32 {
@@ -126,6 +127,7 @@ fn damage(r: &mut Random, s: &mut Pair) {
         let i = r.pick(&[0, 1, 2, n, r.0 as usize % 256, 255]).min(255);
         let any = r.below(STATE_BYTES as u64) as usize;
         let head = r.below(at::LOAD_CREDIT as u64) as usize;
+        let rule = at::RULE + r.below(4) as usize;
         let place = r.pick(&[
             any,
             head,
@@ -138,6 +140,7 @@ fn damage(r: &mut Random, s: &mut Pair) {
             at::WRITE + 2 * i,
             at::BLOCKS + i,
             at::HELD + i,
+            rule,
         ]);
         let old = s.plain[place];
         let bit = 1 << r.below(8);
@@ -160,7 +163,7 @@ fn random_log(r: &mut Random, tally: &mut Tally) {
     let catalog = catalog(r, n);
     let k = some_k(r, &catalog);
     let mut pair = Pair::of(vec![r.next() as u8; STATE_BYTES]);
-    assert_eq!(pair.open(tally, k, &catalog), 0);
+    assert_eq!(pair.open(tally, k, some_rule(r), &catalog), 0);
     for _ in 0..150 {
         pair.step(tally, arguments(r, n));
         if r.one_in(4) {
@@ -193,7 +196,11 @@ fn random_opening(r: &mut Random, tally: &mut Tally) {
     let right = STATE_BYTES;
     let len = r.pick(&[right, right, right, right, 0, 1, right - 1, right + 1]);
     let mut pair = Pair::of((0..len).map(|_| r.next() as u8).collect());
-    pair.open(tally, k, &bytes);
+    let rule = match r.below(4) {
+        0 => odd_rule(r),
+        _ => some_rule(r),
+    };
+    pair.open(tally, k, rule, &bytes);
     pair.step(tally, [READ, 0, 0]);
     pair.close(tally);
 }
@@ -234,8 +241,8 @@ fn each_byte(r: &mut Random, tally: &mut Tally, n: usize) {
     }
 }
 
-/// A whole log of 1,000,000 steps, and what comes after it.
-fn longest_log(r: &mut Random, tally: &mut Tally) {
+/// A whole log of 1,000,000 steps by a rule, and what comes after it.
+fn longest_log(r: &mut Random, tally: &mut Tally, rule: u32) {
     let mut pair = Pair::of(vec![0; STATE_BYTES]);
     let items = [
         [1, 4, 0, 6, 0],
@@ -243,7 +250,7 @@ fn longest_log(r: &mut Random, tally: &mut Tally) {
         [1, 3, 0, 9, 0],
         [16, 255, 255, 255, 255],
     ];
-    assert_eq!(pair.open(tally, 17, items.as_flattened()), 0);
+    assert_eq!(pair.open(tally, 17, rule, items.as_flattened()), 0);
     for _ in 0..MAX_STEPS {
         let kind = if r.one_in(50) {
             FLUSH
@@ -274,6 +281,8 @@ pub fn compare() -> Tally {
     for n in [0, 3, 30, 256] {
         each_byte(r, tally, n);
     }
-    longest_log(r, tally);
+    for rule in [WRITE_FIRST, LOAD_FIRST] {
+        longest_log(r, tally, rule);
+    }
     std::mem::take(tally)
 }

@@ -4,12 +4,12 @@
 
 use std::fmt::{self, Write};
 
-pub const STATE_BYTES: usize = 8_792;
+pub const STATE_BYTES: usize = 8_796;
 /// One unit of cost in shares: the least common multiple of 1 to 16.
 pub const UNIT: u64 = 720_720;
 pub const MAX_STEPS: u32 = 1_000_000;
 
-// Answers: 0 is taken, the others are paper 01's refusals.
+// Answers: 0 is taken, the others are the papers' refusals.
 pub const TAKEN: u32 = 0;
 pub const OUT_OF_RANGE: u32 = 3; // off the tape
 pub const UNKNOWN_ITEM: u32 = 6; // stranger
@@ -18,13 +18,18 @@ pub const LOG_FULL: u32 = 8; // log full
 pub const CLOSED: u32 = 9; // closed
 pub const SHORT_PAGE: u32 = 15; // short page
 pub const INVALID_STATE: u32 = 17; // foul locker
+pub const UNKNOWN_RULE: u32 = 18; // odd rule
 
 pub const READ: u32 = b'R' as u32;
 pub const WRITE: u32 = b'W' as u32;
 pub const FLUSH: u32 = b'L' as u32; // landing
 
+// The rules of deduction: from which of its credits an item loses first when another is evicted.
+pub const WRITE_FIRST: u32 = 0;
+pub const LOAD_FIRST: u32 = 1;
+
 /// The number of the layout, which stands at the head of the bytes.
-pub const FORMAT: u32 = 1;
+pub const FORMAT: u32 = 2;
 
 /// Where each field stands.
 pub mod at {
@@ -51,6 +56,7 @@ pub mod at {
     pub const WRITE: usize = 7768;
     pub const BLOCKS: usize = 8280;
     pub const HELD: usize = 8536;
+    pub const RULE: usize = 8792;
 }
 
 type Bytes = [u8; STATE_BYTES];
@@ -144,6 +150,7 @@ fn used_if_valid(s: &Bytes) -> Option<u32> {
     let steps = get32(s, at::STEPS);
     let closed = get16(s, at::CLOSED);
     if get32(s, at::FORMAT) != FORMAT
+        || get32(s, at::RULE) > LOAD_FIRST
         || !(1..=4096).contains(&k)
         || n > 256
         || steps > MAX_STEPS
@@ -248,7 +255,7 @@ fn flush(s: &mut Bytes) {
 }
 
 /// Evicts the held item of least credit a block, the lowest number first; each other held item loses as much for each
-/// of its blocks, from its write credit first. Answers the blocks that are free by it.
+/// of its blocks, by the rule of the state. Answers the blocks that are free by it.
 fn evict(s: &mut Bytes, n: usize) -> u32 {
     let mut victim = n;
     let mut least = u64::MAX;
@@ -262,11 +269,16 @@ fn evict(s: &mut Bytes, n: usize) -> u32 {
             }
         }
     }
+    let load_first = get32(s, at::RULE) == LOAD_FIRST;
     for i in 0..n {
         let it = item(s, i);
         if it.held == 1 && least != 0 {
             let loss = u64::from(it.blocks) * least;
-            let from_write = loss.min(it.write_credit);
+            let from_write = if load_first {
+                loss.saturating_sub(it.load_credit)
+            } else {
+                loss.min(it.write_credit)
+            };
             set_write_credit(s, i, it.write_credit - from_write);
             set_load_credit(s, i, it.load_credit - (loss - from_write));
         }
@@ -280,8 +292,8 @@ fn evict(s: &mut Bytes, n: usize) -> u32 {
     u32::from(s[at::BLOCKS + victim])
 }
 
-/// Opens a cache of `k` blocks for a catalog of 5 bytes an item.
-pub fn open(state: &mut [u8], k: u32, catalog: &[u8]) -> u32 {
+/// Opens a cache of `k` blocks, with a rule of deduction, for a catalog of 5 bytes an item.
+pub fn open(state: &mut [u8], k: u32, rule: u32, catalog: &[u8]) -> u32 {
     let Ok(s): Result<&mut Bytes, _> = state.try_into() else {
         return INVALID_STATE;
     };
@@ -293,9 +305,13 @@ pub fn open(state: &mut [u8], k: u32, catalog: &[u8]) -> u32 {
     {
         return OUT_OF_RANGE;
     }
+    if rule > LOAD_FIRST {
+        return UNKNOWN_RULE;
+    }
     s.fill(0);
     add32(s, at::FORMAT, FORMAT);
     add32(s, at::K, k);
+    add32(s, at::RULE, rule);
     s[at::N..at::N + 2].copy_from_slice(&(items.len() as u16).to_le_bytes());
     for (i, &[blocks, load_low, load_high, write_low, write_high]) in items.iter().enumerate() {
         s[at::BLOCKS + i] = blocks;

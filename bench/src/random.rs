@@ -1,4 +1,6 @@
-//! Random numbers from a seed (splitmix64), and random catalogs with a capacity for them.
+//! Random numbers from a seed (splitmix64), and random catalogs with a capacity for them and a rule.
+
+use crate::plain::{LOAD_FIRST, WRITE_FIRST};
 
 pub struct Random(pub u64);
 
@@ -58,6 +60,18 @@ pub fn some_n(r: &mut Random) -> usize {
     let few = r.below(12) as usize;
     let any = r.below(257) as usize;
     r.pick(&[few, few, few, 30, any, 256])
+}
+
+/// A rule of deduction: one of the two.
+pub fn some_rule(r: &mut Random) -> u32 {
+    r.pick(&[WRITE_FIRST, LOAD_FIRST])
+}
+
+/// A number that names no rule: just past them, one of them with a bit more, or any.
+pub fn odd_rule(r: &mut Random) -> u32 {
+    let bit = 1 << r.between(1, 31);
+    let any = r.next() as u32;
+    r.pick(&[2, 3, bit, bit | 1, u32::MAX, any.max(2)])
 }
 
 /// A capacity for a catalog: from one item's blocks to all of them.

@@ -5,7 +5,7 @@ use std::hint::black_box;
 use std::thread;
 
 use bench::calls::{self, LIBRARY};
-use bench::plain::{FLUSH, READ, STATE_BYTES, WRITE};
+use bench::plain::{FLUSH, LOAD_FIRST, READ, STATE_BYTES, WRITE, WRITE_FIRST};
 
 /// How far down is painted, in a thread whose stack is larger; and how far the frame of the painter itself may reach.
 const DEPTH: usize = 256 * 1024;
@@ -40,8 +40,9 @@ fn taken_by(call: &mut dyn FnMut()) -> usize {
     touched()
 }
 
-/// The most that each call takes, over a few states: a catalog of 3 and one of 256 items, little and much held, clean and dirty; and
-/// the sentence of each number that has one, with the longest line and item; and a log with a step of each kind, on a page and on none.
+/// The most that each call takes, over a few states: a catalog of 3 and one of 256 items, the latter by both rules, little and much
+/// held, clean and dirty; and the sentence of each number that has one, with the longest line and item; and a log with a step of each
+/// kind, on a page and on none.
 fn most() -> [usize; 6] {
     let [
         mut open,
@@ -51,14 +52,14 @@ fn most() -> [usize; 6] {
         mut sentence,
         mut log,
     ] = [0; 6];
-    for n in [3u32, 256] {
+    for (n, rule) in [(3u32, WRITE_FIRST), (256, WRITE_FIRST), (256, LOAD_FIRST)] {
         let catalog: Vec<u8> = (0..n)
             .flat_map(|i| [1 + (i % 4) as u8, 9, 0, 7, 0])
             .collect();
         let mut state = vec![0; STATE_BYTES];
         let mut page = vec![0; 8_192];
         open = open.max(taken_by(&mut || {
-            assert_eq!((LIBRARY.open)(&mut state, n, &catalog), 0);
+            assert_eq!((LIBRARY.open)(&mut state, n, rule, &catalog), 0);
         }));
         for kind in [WRITE, READ, WRITE, FLUSH] {
             for i in 0..n {

@@ -1,7 +1,7 @@
 //! Valid states that need not be ones that a log leads to: any items held, any credits, figures at the ends of their ranges.
 
 use crate::plain::{self, MAX_STEPS, STATE_BYTES, UNIT, at};
-use crate::random::{Random, catalog, some_k};
+use crate::random::{Random, catalog, some_k, some_rule};
 
 fn put32(s: &mut [u8], at: usize, value: u32) {
     s[at..at + 4].copy_from_slice(&value.to_le_bytes());
@@ -94,7 +94,7 @@ pub fn valid(r: &mut Random, n: usize) -> Vec<u8> {
     let catalog = catalog(r, n);
     let k = some_k(r, &catalog);
     let mut s = vec![0; STATE_BYTES];
-    assert_eq!(plain::open(&mut s, k, &catalog), 0);
+    assert_eq!(plain::open(&mut s, k, some_rule(r), &catalog), 0);
     let closed = r.one_in(20);
     s[at::CLOSED] = u8::from(closed);
     let (held, dirty) = fill(r, &mut s, k, &catalog, closed);

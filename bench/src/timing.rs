@@ -1,10 +1,10 @@
-//! ns per step: hits, misses, and steps that are refused once the state has been tested.
+//! ns per step: hits, misses under both rules of deduction, and steps that are refused once the state has been tested.
 
 use std::hint::black_box;
 use std::time::Instant;
 
 use bench::calls::{Calls, LIBRARY, PLAIN};
-use bench::plain::{self, OUT_OF_RANGE, READ, STATE_BYTES, WRITE, at};
+use bench::plain::{self, LOAD_FIRST, OUT_OF_RANGE, READ, STATE_BYTES, WRITE, WRITE_FIRST, at};
 use bench::random::Random;
 
 const STEPS: usize = 1_000;
@@ -29,9 +29,9 @@ fn get32(s: &[u8], at: usize) -> u32 {
     u32::from_le_bytes(s[at..at + 4].try_into().unwrap())
 }
 
-/// `n` items of 1 to 4 blocks. For hits the cache has room for all and holds them; for misses it has room for half, is
+/// `n` items of 1 to 4 blocks, under a rule of deduction. For hits the cache has room for all and holds them; for misses it has room for half, is
 /// full, and each step asks for an item that is not held. Half of the steps are writes.
-fn log(kind: Kind, n: u32) -> Log {
+fn log(kind: Kind, rule: u32, n: u32) -> Log {
     let r = &mut Random(u64::from(n));
     let mut catalog = Vec::new();
     let mut all = 0;
@@ -48,7 +48,7 @@ fn log(kind: Kind, n: u32) -> Log {
         all
     };
     let mut state = vec![0; STATE_BYTES];
-    assert_eq!(plain::open(&mut state, k, &catalog), 0);
+    assert_eq!(plain::open(&mut state, k, rule, &catalog), 0);
     for i in 0..n {
         assert_eq!(plain::step(&mut state, WRITE, i, 60), 0);
     }
@@ -96,24 +96,26 @@ fn run(calls: Calls, log: &Log, state: &mut Vec<u8>) -> f64 {
     begun.elapsed().as_nanos() as f64 / log.steps.len() as f64
 }
 
-const KINDS: [(&str, Kind); 3] = [
-    ("hit", Kind::Hit),
-    ("miss", Kind::Miss),
-    ("refused", Kind::Refused),
+/// Only a miss looks at the rule, so that the others are measured under the first alone.
+const KINDS: [(&str, Kind, u32); 4] = [
+    ("hit", Kind::Hit, WRITE_FIRST),
+    ("miss", Kind::Miss, WRITE_FIRST),
+    ("miss-load-first", Kind::Miss, LOAD_FIRST),
+    ("refused", Kind::Refused, WRITE_FIRST),
 ];
 
 /// Takes the steps of one log, once. What is outside the calls of step is not to be counted.
 pub fn take(kind: &str, n: u32, which: &str) {
-    let (_, kind) = KINDS
+    let (_, kind, rule) = KINDS
         .into_iter()
-        .find(|(name, _)| *name == kind)
-        .expect("hit, miss or refused");
+        .find(|(name, _, _)| *name == kind)
+        .expect("hit, miss, miss-load-first or refused");
     let calls = match which {
         "library" => LIBRARY,
         "plain" => PLAIN,
         _ => panic!("library or plain"),
     };
-    run(calls, &log(kind, n), &mut Vec::new());
+    run(calls, &log(kind, rule, n), &mut Vec::new());
     println!("{STEPS}");
 }
 
@@ -121,11 +123,11 @@ pub fn table() {
     println!(
         "ns per step: the least of {ROUNDS} rounds of {STEPS} steps, library and plain Rust in turn"
     );
-    println!("step     items  evictions a step  library ns  plain Rust ns  ratio");
+    println!("step             items  evictions a step  library ns  plain Rust ns  ratio");
     let mut state = Vec::new();
-    for (name, kind) in KINDS {
+    for (name, kind, rule) in KINDS {
         for n in [3, 30, 256] {
-            let log = log(kind, n);
+            let log = log(kind, rule, n);
             let (mut library, mut plain) = (f64::MAX, f64::MAX);
             for _ in 0..ROUNDS {
                 library = library.min(run(LIBRARY, &log, &mut state));
@@ -134,7 +136,7 @@ pub fn table() {
             let evictions = f64::from(log.evictions) / log.steps.len() as f64;
             let ratio = library / plain;
             println!(
-                "{name:<8} {n:>5}  {evictions:>16.2}  {library:>10.0}  {plain:>13.0}  {ratio:>5.2}"
+                "{name:<16} {n:>5}  {evictions:>16.2}  {library:>10.0}  {plain:>13.0}  {ratio:>5.2}"
             );
         }
     }

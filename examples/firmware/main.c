@@ -34,6 +34,13 @@
 #define K 4     /* the cache's blocks (the paper's locker) */
 #define TRIES 3 /* so often one step is tried before the loop gives up */
 
+/*
+ * The rule of deduction is chosen here, once for a season: every opening below takes it, so that a replay comes to the same bytes, and
+ * a stored state keeps it. RECORDER_LOAD_FIRST is the other one. The office has to replay the log by the same rule: the first table of
+ * head.txt names none, which is write-first; by load-first it would be headed `locker rival rule`, with the line `4 4 load-first`.
+ */
+#define RULE RECORDER_WRITE_FIRST
+
 static const uint8_t catalog[] = {
     ITEM(1, 4, 6), ITEM(2, 6, 2), ITEM(1, 3, 9), ITEM(3, 300, 700), ITEM(5, 1, 1), /* the last is larger than the cache */
 };
@@ -274,7 +281,7 @@ static enum outcome take(uint32_t step)
  */
 static bool reopen(uint32_t next)
 {
-    uint32_t answer = recorder_open(state, sizeof state, K, catalog, sizeof catalog);
+    uint32_t answer = recorder_open(state, sizeof state, K, RULE, catalog, sizeof catalog);
     if (answer != RECORDER_TAKEN) {
         printf("  the catalogue is refused");
         say_refusal(answer, 0, 0);

@@ -1,6 +1,6 @@
 /*
- * The exported calls from C: the worked example, every refusal, damaged states, the marks of 256 items, reports, sentences, logs. It
- * prints short lines that tests/c/run compares with expected.txt.
+ * The exported calls from C: the worked example, every refusal, damaged states, both rules of deduction, the marks of 256 items, reports,
+ * sentences, logs. It prints short lines that tests/c/run compares with expected.txt.
  *
  * Every call on a state is made twice on copies of it: at an odd address between guard bytes, and in a heap block of exactly
  * the state's length, so that valgrind sees a byte read or written outside it. Both must give the same answer and bytes. A log is
@@ -20,7 +20,7 @@ enum { OPEN, STEP, CLOSE };
 
 struct call {
     int what;
-    uint32_t k;
+    uint32_t k, rule;
     const uint8_t *catalog;
     size_t catalog_len;
     uint32_t kind, item, minutes;
@@ -43,7 +43,7 @@ static void fault(const char *what)
 static uint32_t make(uint8_t *bytes, size_t len, const struct call *c, const uint8_t *catalog)
 {
     if (c->what == OPEN)
-        return recorder_open(bytes, len, c->k, catalog, c->catalog_len);
+        return recorder_open(bytes, len, c->k, c->rule, catalog, c->catalog_len);
     if (c->what == STEP)
         return recorder_step(bytes, len, c->kind, c->item, c->minutes);
     return recorder_close(bytes, len);
@@ -92,10 +92,15 @@ static uint32_t lend(struct state *s, size_t len, const struct call *c)
     return answer;
 }
 
+static uint32_t open_by(struct state *s, uint32_t rule, uint32_t k, const uint8_t *catalog, size_t catalog_len)
+{
+    struct call c = { .what = OPEN, .k = k, .rule = rule, .catalog = catalog, .catalog_len = catalog_len };
+    return lend(s, BYTES, &c);
+}
+
 static uint32_t open_with(struct state *s, uint32_t k, const uint8_t *catalog, size_t catalog_len)
 {
-    struct call c = { .what = OPEN, .k = k, .catalog = catalog, .catalog_len = catalog_len };
-    return lend(s, BYTES, &c);
+    return open_by(s, RECORDER_WRITE_FIRST, k, catalog, catalog_len);
 }
 
 static uint32_t step(struct state *s, uint32_t kind, uint32_t item, uint32_t minutes)
@@ -220,10 +225,21 @@ static void openings(void)
         printf(", of item 255: %u\n", open_with(&s, 3, many, 1280));
         many[1275] = 1;
     }
-    static const size_t lengths[] = { 0, BYTES - 1, BYTES + 1 };
-    for (size_t i = 0; i < 3; i++) {
+    static const uint32_t odd[] = { 2, 3, 256, 257, 65536, 16777217, 2147483648u, 4294967295u };
+    for (size_t i = 0; i < sizeof odd / sizeof *odd; i++) {
+        printf("rule %u: %u", odd[i], open_by(&s, odd[i], 3, three, sizeof three));
+        printf(", and k 0: %u", open_by(&s, odd[i], 0, three, sizeof three));
+        printf(", and a catalog of 14 bytes: %u", open_by(&s, odd[i], 3, three, 14));
+        many[1275] = 17;
+        printf(", and blocks 17 of item 255: %u\n", open_by(&s, odd[i], 3, many, 1280));
+        many[1275] = 1;
+    }
+    static const size_t lengths[] = { 0, BYTES - 4, BYTES - 1, BYTES + 1 }; /* four bytes less: without the rule */
+    for (size_t i = 0; i < sizeof lengths / sizeof *lengths; i++) {
         struct call c = { .what = OPEN, .k = 3, .catalog = three, .catalog_len = sizeof three };
         printf("length %zu: %u", lengths[i], lend(&s, lengths[i], &c));
+        c.rule = 2;
+        printf(", and rule 2: %u", lend(&s, lengths[i], &c));
         c.k = 0;
         printf(", and k 0: %u\n", lend(&s, lengths[i], &c));
     }
@@ -237,7 +253,7 @@ static void openings(void)
     uint8_t *raw = malloc(BYTES);
     if (raw == NULL)
         abort();
-    uint32_t answer = recorder_open(raw, BYTES, 3, three, sizeof three);
+    uint32_t answer = recorder_open(raw, BYTES, 3, RECORDER_WRITE_FIRST, three, sizeof three);
     say("three items, k 3", open_with(&s, 3, three, sizeof three));
     printf("in bytes never written: %u, %s\n", answer, memcmp(raw, s.bytes, BYTES) == 0 ? "the same" : "OTHER BYTES");
     free(raw);
@@ -250,6 +266,14 @@ static void openings(void)
         memcpy(first.bytes + RECORDER_AT_LOAD + 2 * i, three + 5 * i + 1, 2);
         memcpy(first.bytes + RECORDER_AT_WRITE + 2 * i, three + 5 * i + 3, 2);
     }
+    puts(memcmp(first.bytes, s.bytes, BYTES) == 0 ? "as the layout says" : "NOT AS THE LAYOUT SAYS");
+    put(&first, RECORDER_AT_RULE, 4, RECORDER_LOAD_FIRST);
+    say("load-first", open_by(&s, RECORDER_LOAD_FIRST, 3, three, sizeof three));
+    puts(memcmp(first.bytes, s.bytes, BYTES) == 0 ? "as the layout says" : "NOT AS THE LAYOUT SAYS");
+    say("  rule 2 when open", open_by(&s, 2, 3, three, sizeof three));
+    say("  R 0", step(&s, RECORDER_READ, 0, 0));
+    say("  write-first when open", open_with(&s, 3, three, sizeof three));
+    put(&first, RECORDER_AT_RULE, 4, RECORDER_WRITE_FIRST);
     puts(memcmp(first.bytes, s.bytes, BYTES) == 0 ? "as the layout says" : "NOT AS THE LAYOUT SAYS");
 }
 
@@ -369,7 +393,7 @@ static void arguments(void)
         printf("W 0 %u: %u, tenths %u more\n", minutes[i], answer, get32(&s, RECORDER_AT_TENTHS) - before);
     }
 
-    static const size_t lengths[] = { 0, 1, BYTES - 1, BYTES + 1 };
+    static const size_t lengths[] = { 0, 1, BYTES - 4, BYTES - 1, BYTES + 1 };
     for (size_t i = 0; i < sizeof lengths / sizeof *lengths; i++) {
         struct call c = { .what = STEP, .kind = RECORDER_READ };
         busy(&s);
@@ -398,8 +422,17 @@ static void damaged(const struct damage *d, struct state *s)
 /* One byte (a few rows: two or three fields), so that a single clause of validity is broken where that can be. */
 static const struct damage broken[] = {
     { "no number of a layout", busy, { { 0, 1, 0 } } },
-    { "the number of the next layout", busy, { { 0, 1, 2 } } },
-    { "the number of a layout 2^24 + 1", busy, { { 3, 1, 1 } } },
+    { "the number of the layout before", busy, { { 0, 1, 1 } } },
+    { "the number of the next layout", busy, { { 0, 1, 3 } } },
+    { "the number of a layout 2^24 + 2", busy, { { 3, 1, 1 } } },
+    { "rule 2", busy, { { 8792, 1, 2 } } },
+    { "rule 255", busy, { { 8792, 1, 255 } } },
+    { "rule 256", busy, { { 8793, 1, 1 } } },
+    { "rule 257", busy, { { 8792, 1, 1 }, { 8793, 1, 1 } } },
+    { "rule 65536", busy, { { 8794, 1, 1 } } },
+    { "rule 2^31", busy, { { 8795, 1, 0x80 } } },
+    { "rule 2^32 - 1", busy, { { 8792, 4, 0xFFFFFFFF } } },
+    { "rule 2 in a closed state (17 before 9)", closed_full, { { 8792, 1, 2 } } },
     { "closed flag 2", clean, { { 10, 1, 2 } } },
     { "closed flag 256", clean, { { 11, 1, 1 } } },
     { "closed flag 257", clean, { { 10, 1, 1 }, { 11, 1, 1 } } },
@@ -488,6 +521,7 @@ static const struct damage sound[] = {
     { "the clean state", clean, { { 4, 0, 0 } } },
     { "the state of reads", reads, { { 4, 0, 0 } } },
     { "the wide state", wide, { { 4, 0, 0 } } },
+    { "the other rule", busy, { { 8792, 1, 1 } } },
     { "k 4096", busy, { { 4, 4, 4096 } } },
     { "k 1, 256 items", wide, { { 4, 4, 1 } } },
     { "blocks 16", busy, { { 8284, 1, 16 } } },
@@ -564,9 +598,48 @@ static void marks(void)
     memset(s.bytes + RECORDER_AT_HELD, 1, 256);
     printf("item 255: %d %d, item 256: %d %d, item 4294967295: %d %d\n", held(&s, 255), dirty(&s, 255), held(&s, 256),
            dirty(&s, 256), held(&s, 4294967295u), dirty(&s, 4294967295u));
-    printf("length 8791: %d %d, length 8793: %d %d, no state: %d %d\n", recorder_is_held(s.bytes, BYTES - 1, 0),
+    printf("length 8795: %d %d, length 8797: %d %d, no state: %d %d\n", recorder_is_held(s.bytes, BYTES - 1, 0),
            recorder_is_dirty(s.bytes, BYTES - 1, 0), recorder_is_held(s.bytes, BYTES + 1, 0),
            recorder_is_dirty(s.bytes, BYTES + 1, 0), recorder_is_held(NULL, 0, 0), recorder_is_dirty(NULL, 0, 0));
+}
+
+/*
+ * A season on which the rules part. The write of item 0 makes it dirty; the read of item 2 evicts item 1, at the cost of the one credit
+ * or the other of item 0; the second read of item 0 fills up its load credit alone. So at the last step item 0 goes under one rule and
+ * item 1 under the other.
+ */
+static void season_by(uint32_t rule)
+{
+    static const uint8_t four[] = { 1, 5, 0, 5, 0, 1, 2, 0, 0, 0, 1, 4, 0, 0, 0, 1, 3, 0, 0, 0 };
+    static const struct { const char *name; uint32_t kind, item; } log[] = {
+        { "W 0 0", RECORDER_WRITE, 0 }, { "R 1", RECORDER_READ, 1 }, { "R 2", RECORDER_READ, 2 }, { "R 0", RECORDER_READ, 0 },
+        { "R 3", RECORDER_READ, 3 },    { "R 1", RECORDER_READ, 1 }, { "R 2", RECORDER_READ, 2 },
+    };
+    struct state s, before;
+    memset(&s, 0xA5, sizeof s);
+    say("open 2", open_by(&s, rule, 2, four, sizeof four));
+    for (size_t i = 0; i < sizeof log / sizeof *log; i++) {
+        before = s;
+        say(log[i].name, step(&s, log[i].kind, log[i].item, 0));
+        print_marks(&before, &s);
+        if (get32(&s, RECORDER_AT_RULE) != rule)
+            fault("a step changed the rule");
+    }
+    print_figures(&s);
+    before = s;
+    say("close", close_it(&s));
+    print_marks(&before, &s);
+    print_figures(&s);
+    printf("  total %llu, rule %u\n", (unsigned long long)(get64(&s, RECORDER_AT_LOAD_COST) + get64(&s, RECORDER_AT_WRITE_COST)),
+           get32(&s, RECORDER_AT_RULE));
+}
+
+static void rules(void)
+{
+    puts("a season by write-first");
+    season_by(RECORDER_WRITE_FIRST);
+    puts("a season by load-first");
+    season_by(RECORDER_LOAD_FIRST);
 }
 
 /* One block for 256 items: each write evicts the one before, which is dirty. */
@@ -664,6 +737,16 @@ static void reports(void)
     foul.bytes[RECORDER_AT_HITS]++;
     report("a foul state", &foul, BYTES, RECORDER_REPORT_BYTES);
     report("a foul state and no page", &foul, BYTES, 0);
+    foul = s;
+    foul.bytes[RECORDER_AT_RULE] = 2;
+    report("a state whose rule is 2", &foul, BYTES, RECORDER_REPORT_BYTES);
+    foul = s;
+    foul.bytes[RECORDER_AT_FORMAT] = 1;
+    report("a state of the layout before", &foul, BYTES, RECORDER_REPORT_BYTES);
+    report("and of its length", &foul, BYTES - 4, RECORDER_REPORT_BYTES);
+    foul = s;
+    foul.bytes[RECORDER_AT_RULE] = 1;
+    report("a state of the other rule", &foul, BYTES, RECORDER_REPORT_BYTES);
     report("a state too short", &s, BYTES - 1, RECORDER_REPORT_BYTES);
     report("a state too long", &s, BYTES + 1, RECORDER_REPORT_BYTES);
 }
@@ -967,6 +1050,7 @@ int main(void)
     states();
     marks();
     evictions();
+    rules();
     reports();
     sentences();
     logs();

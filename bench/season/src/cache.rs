@@ -1,12 +1,13 @@
 //! The cache and the step rule (paper 01: the locker).
 
-use crate::{Item, Step};
+use crate::{Deduction, Item, Step};
 
 /// One unit of cost in shares: the least common multiple of 1 to 16, so that credits divide by the blocks with nothing lost.
 const UNIT: u64 = 720_720;
 
 pub struct Cache<'a> {
     k: u32,
+    rule: Deduction,
     catalog: &'a [Item],
     /// The held items, from the lowest number on.
     held: Vec<Held>,
@@ -44,9 +45,10 @@ pub struct ItemCounts {
 }
 
 impl<'a> Cache<'a> {
-    pub fn open(k: u32, catalog: &'a [Item]) -> Self {
+    pub fn open(k: u32, rule: Deduction, catalog: &'a [Item]) -> Self {
         Cache {
             k,
+            rule,
             catalog,
             held: Vec::with_capacity(catalog.len()),
             used: 0,
@@ -138,7 +140,7 @@ impl<'a> Cache<'a> {
             .expect("the blocks in use are those of a held item");
         let victim = self.held.remove(at);
         for held in &mut self.held {
-            held.charge(least);
+            held.charge(least, self.rule);
         }
         let Item { blocks, write, .. } = self.catalog[victim.item];
         self.used -= blocks;
@@ -165,12 +167,16 @@ impl Held {
         (self.load_credit + self.write_credit) / self.blocks
     }
 
-    /// Takes so much for each block, from the write credit first.
-    fn charge(&mut self, rank: u64) {
+    /// Takes so much for each block: from one credit first, and from the other what is lacking.
+    fn charge(&mut self, rank: u64, rule: Deduction) {
+        let (first, second) = match rule {
+            Deduction::WriteFirst => (&mut self.write_credit, &mut self.load_credit),
+            Deduction::LoadFirst => (&mut self.load_credit, &mut self.write_credit),
+        };
         let loss = self.blocks * rank;
-        let from_write = loss.min(self.write_credit);
-        self.write_credit -= from_write;
-        self.load_credit -= loss - from_write;
+        let from_first = loss.min(*first);
+        *first -= from_first;
+        *second -= loss - from_first;
     }
 }
 

@@ -24,6 +24,26 @@ pub struct Item {
     pub write: u64,
 }
 
+/// Which of its credits an item loses from first, when another is evicted (paper 02: the rule of a locker).
+#[derive(Clone, Copy, Debug, PartialEq)]
+pub enum Deduction {
+    WriteFirst,
+    LoadFirst,
+}
+
+impl Deduction {
+    /// In the order of paper 02, by which a call names them 0 and 1.
+    pub const ALL: [Deduction; 2] = [Deduction::WriteFirst, Deduction::LoadFirst];
+
+    /// The word in the text.
+    pub fn word(self) -> &'static str {
+        match self {
+            Deduction::WriteFirst => "write-first",
+            Deduction::LoadFirst => "load-first",
+        }
+    }
+}
+
 #[derive(Clone, Copy)]
 pub enum Step {
     Read {
@@ -46,7 +66,7 @@ pub enum Act {
     Fetch { item: usize },
 }
 
-/// Why a text is refused; with the item of the step or act, where the refusal tells it. The other rows of paper 01's table are of
+/// Why a text is refused; with the item of the step or act, where the refusal tells it. The other rows of the papers' tables are of
 /// calls and never fall due here: a text of 65,536 bytes has no 1,000,000 steps, and the report has all the room that it needs.
 #[derive(Clone, Copy)]
 pub enum Reason {
@@ -63,6 +83,7 @@ pub enum Reason {
     OverCapacity,                   // overstowed
     RequestNotHeld { item: usize }, // missing
     InputTooLong,                   // long roll
+    UnknownRule,                    // odd rule
 }
 
 #[derive(Clone, Copy)]
@@ -93,6 +114,7 @@ impl Reason {
             Reason::OverCapacity => 13,
             Reason::RequestNotHeld { .. } => 14,
             Reason::InputTooLong => 16,
+            Reason::UnknownRule => 18,
         }
     }
 
@@ -117,7 +139,7 @@ pub fn output(text: &[u8]) -> String {
 fn report_on(text: &[u8]) -> Result<String, Refusal> {
     let season = text::parse(text)?;
     let rival = plan::price(&season)?;
-    let mut cache = Cache::open(season.k, &season.catalog);
+    let mut cache = Cache::open(season.k, season.rule, &season.catalog);
     for &step in &season.steps {
         cache.step(step);
     }

@@ -1,6 +1,6 @@
 //! The text input: four tables, read line by line up to the first faulty line.
 
-use crate::{Act, Item, Reason, Refusal, Step};
+use crate::{Act, Deduction, Item, Reason, Refusal, Step};
 
 pub const MAX_BYTES: usize = 65_536;
 
@@ -8,6 +8,7 @@ pub const MAX_BYTES: usize = 65_536;
 pub struct Season {
     pub k: u32,
     pub h: u32,
+    pub rule: Deduction,
     pub catalog: Vec<Item>,
     pub steps: Vec<Step>,
     /// Each act with the step before which it stands, in the order of the steps.
@@ -26,9 +27,13 @@ pub fn parse(text: &[u8]) -> Result<Season, Refusal> {
         return Err(lines.refusal(Reason::InputTooLong));
     }
 
-    lines.heading(b"locker rival")?;
+    let names = lines.due()?;
+    let with_rule = names == b"locker rival rule";
+    if !with_rule && names != b"locker rival" {
+        return Err(lines.refusal(Reason::Heading));
+    }
     let line = lines.due()?;
-    let (k, h) = sizes(line).map_err(|reason| lines.refusal(reason))?;
+    let (k, h, rule) = sizes(line, with_rule).map_err(|reason| lines.refusal(reason))?;
     if lines.value()?.is_some() {
         return Err(lines.refusal(Reason::Malformed));
     }
@@ -62,6 +67,7 @@ pub fn parse(text: &[u8]) -> Result<Season, Refusal> {
     Ok(Season {
         k,
         h,
+        rule,
         catalog,
         steps,
         acts,
@@ -160,14 +166,30 @@ fn require(holds: bool, otherwise: Reason) -> Result<(), Reason> {
     }
 }
 
-/// A line of `locker rival`: k and h.
-fn sizes(line: &[u8]) -> Result<(u32, u32), Reason> {
-    let [k, h] = fields(line)?;
+/// A line of `locker rival`, or of `locker rival rule`: k, h and the rule, which is write-first where none is named.
+fn sizes(line: &[u8], with_rule: bool) -> Result<(u32, u32, Deduction), Reason> {
+    let (k, h, word) = if with_rule {
+        let [k, h, word] = fields(line)?;
+        (k, h, Some(word))
+    } else {
+        let [k, h] = fields(line)?;
+        (k, h, None)
+    };
+    require(word != Some(b""), Reason::Malformed)?;
     let (k, h) = (number(k)?, number(h)?);
     let range = 1..=4096;
     require(range.contains(&k) && range.contains(&h), Reason::OutOfRange)?;
+    let rule = word.map_or(Ok(Deduction::WriteFirst), rule_of_word)?;
     require(h <= k, Reason::PlanTooLarge)?;
-    Ok((k, h))
+    Ok((k, h, rule))
+}
+
+fn rule_of_word(word: &[u8]) -> Result<Deduction, Reason> {
+    match word {
+        b"write-first" => Ok(Deduction::WriteFirst),
+        b"load-first" => Ok(Deduction::LoadFirst),
+        _ => Err(Reason::UnknownRule),
+    }
 }
 
 /// A line of `sail blocks load write`, which has to be that of item `due`.

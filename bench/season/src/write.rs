@@ -1,11 +1,22 @@
-//! A season as text, in the layout of paper 01.
+//! A season as text, in the layout of the papers.
 
 use std::fmt::{self, Write};
 
-use crate::{Act, Item, Step};
+use crate::{Act, Deduction, Item, Step};
 
-pub fn text(k: u32, h: u32, catalog: &[Item], steps: &[Step], acts: &[(usize, Act)]) -> String {
-    let mut out = format!("locker rival\n{k} {h}\n\nsail blocks load write\n");
+/// The first table is headed by its three names if a rule is given, else by the two of paper 01.
+pub fn text(
+    [k, h]: [u32; 2],
+    rule: Option<Deduction>,
+    catalog: &[Item],
+    steps: &[Step],
+    acts: &[(usize, Act)],
+) -> String {
+    let mut out = match rule {
+        None => format!("locker rival\n{k} {h}\n"),
+        Some(rule) => format!("locker rival rule\n{k} {h} {}\n", rule.word()),
+    };
+    out += "\nsail blocks load write\n";
     write_tables(&mut out, catalog, steps, acts).expect("a String takes every write");
     out
 }

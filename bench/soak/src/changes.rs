@@ -44,7 +44,8 @@ fn add(s: &[u8], at: usize, width: usize, more: i64) -> Put {
 pub fn byte(r: &mut Random, s: &[u8]) -> Put {
     let any = r.below(s.len() as u64) as usize;
     let head = r.below(at::LOAD_CREDIT as u64) as usize;
-    let place = r.pick(&[any, any, head]);
+    let rule = at::RULE + r.below(4) as usize;
+    let place = r.pick(&[any, any, any, head, head, rule]);
     let old = u64::from(s[place]);
     let bit = 1 << r.below(8);
     let any = r.next();
@@ -88,7 +89,7 @@ fn limits(state: &State, field: usize, entry: usize) -> Vec<u64> {
     let it = &state.places[entry];
     let rest = |total: u64, own: u64| total.wrapping_sub(own);
     match FIELDS[field].at {
-        at::FORMAT => vec![1],
+        at::FORMAT => vec![2],
         at::K => vec![1, 4096, state.held_blocks()],
         at::N => vec![256, state.n],
         at::CLOSED => vec![1, 256],
@@ -118,6 +119,7 @@ fn limits(state: &State, field: usize, entry: usize) -> Vec<u64> {
             16,
             rest(state.k, rest(state.held_blocks(), it.held * it.blocks)),
         ],
+        at::RULE => vec![1, 1 << 8, 1 << 31],
         _ => vec![1, 255],
     }
 }
@@ -286,12 +288,13 @@ fn item(r: &mut Random, s: &[u8], state: &State, i: usize) -> Vec<Put> {
     }
 }
 
-/// Several fields that go together.
+/// Several fields that go together; or the other rule, which goes with everything else.
 pub fn together(r: &mut Random, s: &[u8], state: &State) -> Vec<Put> {
     let [i, j] = [some_entry(r, state), some_entry(r, state)];
-    match r.below(6) {
-        0 | 1 => figures(r, s, [i, j]),
-        2 => at_limits(r, s, state, i),
+    match r.below(12) {
+        0..=3 => figures(r, s, [i, j]),
+        4 | 5 => at_limits(r, s, state, i),
+        6 => vec![set(at::RULE, 4, state.rule ^ 1)],
         _ => item(r, s, state, i),
     }
 }

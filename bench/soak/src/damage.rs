@@ -64,13 +64,26 @@ const BLOCKS: &[&str] = &["0", "1", "2", "15", "16", "17", "-", "x"];
 const COST: &[&str] = &["0", "1", "65534", "65535", "65536", "-", "065535"];
 const STEP: &[&str] = &["R", "W", "L", "A", "Q", "D", "F", "r", "WW", "1", "-"];
 const MINUTES: &[&str] = &["0", "5", "1439", "1440", "1441", "-", "--", "06"];
+const RULE: &[&str] = &[
+    "write-first",
+    "load-first",
+    "write-firs",
+    "load-firstt",
+    "Load-first",
+    "loadfirst",
+    "load-first\r",
+    "-",
+    "0",
+    "1",
+    "",
+];
 const AT: &[&str] = &["0", "1", "2", "8", "999999", "1000000", "-", "00"];
 const ACT: &[&str] = &["D", "F", "R", "W", "L", "A", "Z", "d", "DF", "0", "-"];
 type Tables = [&'static [&'static [&'static str]]];
 
 /// The tables of a season's text, and of a log alone.
 pub const SEASON: &Tables = &[
-    &[SIZE, SIZE],
+    &[SIZE, SIZE, RULE],
     &[SAIL, BLOCKS, COST, COST],
     &[STEP, SAIL, MINUTES],
     &[AT, ACT, SAIL],
@@ -273,6 +286,44 @@ fn table(r: &mut Random, text: &mut Vec<u8>) {
         _ => tables.swap(i, j),
     }
     *text = tables.join(&b'\n');
+}
+
+/// The heading of the first table and the third field of its line: one of the two headings and one of the rules, whether they go
+/// together or not; an odd word, with any bytes that a field may have; an empty field, a field more or less. At times k and h are out
+/// of range too, or h above k, so that it is seen which refusal comes first.
+pub fn spoil_rule(r: &mut Random, text: &mut Vec<u8>) {
+    let mut lines = lines(text);
+    if lines.len() < 2 {
+        return;
+    }
+    let heading: &[u8] = r.pick(&[b"locker rival rule", b"locker rival rule", b"locker rival"]);
+    let bare = lines[1].strip_suffix(b"\n").unwrap_or(&lines[1]);
+    let mut fields = split(bare);
+    fields.truncate(2);
+    let count = r.pick(&[0, 1, 1, 1, 1, 1, 1, 2]);
+    fields.extend((0..count).map(|_| word(r)));
+    if r.one_in(4) {
+        let i = place(r, fields.len().min(2));
+        fields[i] = r.pick(SIZE).into();
+    }
+    lines[0] = [heading, b"\n"].concat();
+    lines[1] = fields.join(&b' ');
+    lines[1].push(b'\n');
+    *text = lines.concat();
+}
+
+/// A word in the place of a rule: one of the two, one that differs from it by a byte, or any bytes but space and line feed.
+fn word(r: &mut Random) -> Vec<u8> {
+    let mut word = r.pick(RULE).as_bytes().to_vec();
+    if r.one_in(3) {
+        byte(r, &mut word);
+    }
+    if r.one_in(8) {
+        let count = r.pick(&[1, 2, 11, 300]);
+        word = (0..count).map(|_| r.next() as u8).collect();
+    }
+    word.retain(|&byte| byte != b' ' && byte != b'\n');
+    word
 }
 
 /// Damages a text of such tables once.

@@ -2,7 +2,7 @@
 //! of the library, of the plain Rust, and of paper 01's sentences one by one.
 
 use bench::plain::{self, INVALID_STATE, STATE_BYTES, TAKEN};
-use bench::random::{Random, catalog, some_k, some_n};
+use bench::random::{Random, catalog, some_k, some_n, some_rule};
 use bench::states;
 
 use crate::changes::{Put, byte, field, together};
@@ -15,12 +15,22 @@ use crate::seasons::{LONGEST_REPORT, arguments};
 pub const TO_A_START: u64 = 50;
 
 /// How many states were valid, and how many broke each sentence, alone or with others.
-#[derive(Default)]
 pub struct Seen {
     pub states: u64,
     pub valid: u64,
     pub alone: [u64; SENTENCES],
     pub with_others: [u64; SENTENCES],
+}
+
+impl Default for Seen {
+    fn default() -> Seen {
+        Seen {
+            states: 0,
+            valid: 0,
+            alone: [0; SENTENCES],
+            with_others: [0; SENTENCES],
+        }
+    }
 }
 
 impl Seen {
@@ -40,7 +50,7 @@ fn reached(r: &mut Random) -> Vec<u8> {
     let catalog = catalog(r, n);
     let k = some_k(r, &catalog);
     let mut s = vec![0; STATE_BYTES];
-    assert_eq!(plain::open(&mut s, k, &catalog), 0);
+    assert_eq!(plain::open(&mut s, k, some_rule(r), &catalog), 0);
     for _ in 0..r.below(150) {
         let [kind, item, minutes] = arguments(r, n);
         plain::step(&mut s, kind, item, minutes);

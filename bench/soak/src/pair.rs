@@ -17,15 +17,23 @@ const PLAIN: Calls = Calls {
 /// A call that may change a state.
 #[derive(Clone, Copy, Debug)]
 pub enum Call<'a> {
-    Open { k: u32, catalog: &'a [u8] },
-    Step { kind: u32, item: u32, minutes: u32 },
+    Open {
+        k: u32,
+        rule: u32,
+        catalog: &'a [u8],
+    },
+    Step {
+        kind: u32,
+        item: u32,
+        minutes: u32,
+    },
     Close,
 }
 
 impl Call<'_> {
     fn make(&self, calls: Calls, state: &mut [u8]) -> u32 {
         match *self {
-            Call::Open { k, catalog } => (calls.open)(state, k, catalog),
+            Call::Open { k, rule, catalog } => (calls.open)(state, k, rule, catalog),
             Call::Step {
                 kind,
                 item,

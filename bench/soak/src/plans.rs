@@ -1,8 +1,9 @@
-//! The wear bound against the cheapest plan there is: small seasons, run by the library, beside every h from 1 to k.
+//! The wear bound against the cheapest plan there is: small seasons, run by the library under both rules of deduction, beside every h
+//! from 1 to k.
 
 use bench::plain::{STATE_BYTES, UNIT, at};
 use bench::random::Random;
-use plain_season::Item;
+use plain_season::{Deduction, Item, Step};
 
 use crate::cheapest::Problem;
 use crate::layout::get;
@@ -35,17 +36,26 @@ impl Beside {
     }
 }
 
-/// What was seen: how many plans, and the worst of them for each k and h, from 1 on.
+/// What was seen of one rule: the worst beside a cheapest plan for each k and h, from 1 on.
 #[derive(Default)]
-pub struct Worst {
+pub struct OfRule {
     pub by_sizes: [[Option<Beside>; MOST_K]; MOST_K],
     /// The worst of all with the sharper left side: (h − 1) × the load credits held at the close added.
     pub sharpest: f64,
-    pub compared: u64,
-    pub none_legal: u64,
 }
 
-impl Worst {
+/// What was seen: of each rule, and how many plans.
+#[derive(Default)]
+pub struct Worst {
+    pub of_rule: [OfRule; 2],
+    pub compared: u64,
+    pub none_legal: u64,
+    /// Seasons of which the rules make different totals, and different counts of dirty evictions.
+    pub totals_part: u64,
+    pub dirty_evictions_part: u64,
+}
+
+impl OfRule {
     fn note(&mut self, season: &Season, left: u64, right: u64, text: impl FnOnce() -> String) {
         let place = &mut self.by_sizes[season.k as usize - 1][season.h as usize - 1];
         let worse = |other: &Beside| product(left, other.right) > product(other.left, right);
@@ -79,8 +89,34 @@ fn small_season(r: &mut Random) -> Season {
     Season {
         k,
         h: 1,
+        rule: None,
         catalog: items.iter().flat_map(bytes).collect(),
         steps: some_steps(r, &items, k, count),
+        items,
+        acts: Vec::new(),
+    }
+}
+
+/// A season on which the rules can part, which they seldom do by chance: a dirty item loses a part of its credits, and is then read, so
+/// that its load credit is full again and its write credit is not.
+fn parting_season(r: &mut Random) -> Season {
+    let item = |r: &mut Random| Item {
+        blocks: 1,
+        load: r.below(11),
+        write: r.below(11),
+    };
+    let items: Vec<Item> = (0..MOST_ITEMS).map(|_| item(r)).collect();
+    let write = Step::Write {
+        item: 0,
+        minutes: 60,
+    };
+    let reads = [1, 2, 0, 3, 1, 2].map(|item| Step::Read { item });
+    Season {
+        k: 2,
+        h: 1,
+        rule: None,
+        catalog: items.iter().flat_map(bytes).collect(),
+        steps: [write].into_iter().chain(reads).collect(),
         items,
         acts: Vec::new(),
     }
@@ -93,11 +129,17 @@ fn bytes(item: &Item) -> [u8; 5] {
     [item.blocks as u8, a, b, c, d]
 }
 
-/// Runs a season through the calls. Answers the total, and the load credits at the close.
-fn paid(run: &mut Run, r: &mut Random, season: &Season) -> (u64, u64) {
+/// What a season has come to at its close.
+struct Paid {
+    total: u64,
+    load_credits: u64,
+    dirty_evictions: u64,
+}
+
+/// Runs a season through the calls.
+fn paid(run: &mut Run, r: &mut Random, season: &Season) -> Paid {
     let mut pair = Pair::of(r, &[0; STATE_BYTES]);
-    let (k, catalog) = (season.k, &season.catalog);
-    let mut answers = pair.make(run, Call::Open { k, catalog });
+    let mut answers = pair.make(run, season.opening());
     for &step in &season.steps {
         answers |= pair.step(run, arguments(step));
     }
@@ -106,11 +148,11 @@ fn paid(run: &mut Run, r: &mut Random, season: &Season) -> (u64, u64) {
         run.differ("a good season is refused", &[season.text()]);
     }
     let s = pair.state();
-    let credits = (0..256).map(|i| get(s, at::LOAD_CREDIT + 8 * i, 8)).sum();
-    (
-        get(s, at::LOAD_COST, 8) + get(s, at::WRITE_COST, 8),
-        credits,
-    )
+    Paid {
+        total: get(s, at::LOAD_COST, 8) + get(s, at::WRITE_COST, 8),
+        load_credits: (0..256).map(|i| get(s, at::LOAD_CREDIT + 8 * i, 8)).sum(),
+        dirty_evictions: get(s, at::DIRTY_EVICTIONS, 4),
+    }
 }
 
 fn problem(season: &Season) -> Problem<'_> {
@@ -121,18 +163,10 @@ fn problem(season: &Season) -> Problem<'_> {
     }
 }
 
-/// Both lines of the bound for one h. Answers the two sides of the first.
-fn bound(
-    run: &Run,
-    season: &Season,
-    worst: &mut Worst,
-    (total, credits): (u64, u64),
-) -> Option<(u64, u64)> {
-    let Some(cheapest) = problem(season).cost() else {
-        worst.none_legal += 1;
-        return None;
-    };
+/// Both lines of the bound for one h and one rule. Answers the two sides of the first.
+fn bound(run: &Run, season: &Season, worst: &mut OfRule, cheapest: u64, paid: &Paid) -> (u64, u64) {
     let (k, h) = (u64::from(season.k), u64::from(season.h));
+    let (total, credits) = (paid.total, paid.load_credits);
     let (left, right) = (total * (k - h + 1), k * cheapest);
     let sharp = left * UNIT + (h - 1) * credits;
     let with_plan = || with_cheapest(season).text();
@@ -142,12 +176,11 @@ fn bound(
         );
         run.differ(&what, &[with_plan()]);
     }
-    worst.compared += 1;
     worst.note(season, left, right, with_plan);
     if right > 0 {
         worst.sharpest = worst.sharpest.max(sharp as f64 / (right * UNIT) as f64);
     }
-    Some((left, right))
+    (left, right)
 }
 
 /// The season with a cheapest plan as its rival.
@@ -217,21 +250,35 @@ fn neighbour(r: &mut Random, season: &Season) -> Season {
     other
 }
 
-/// The bound of a season for every h. Answers the two sides for the h that is aimed at.
+/// The bound of a season for both rules and every h. Answers the two sides for the rule and the h that are aimed at.
 fn every_h(
     run: &mut Run,
     r: &mut Random,
     season: &mut Season,
     worst: &mut Worst,
-    aim: u32,
+    aim: (Deduction, u32),
 ) -> (u64, u64) {
-    let paid = paid(run, r, season);
+    let paid = Deduction::ALL.map(|rule| {
+        season.rule = Some(rule);
+        paid(run, r, season)
+    });
+    let part = |figure: fn(&Paid) -> u64| u64::from(figure(&paid[0]) != figure(&paid[1]));
+    worst.totals_part += part(|paid| paid.total);
+    worst.dirty_evictions_part += part(|paid| paid.dirty_evictions);
     let mut sides = (0, 0);
     for h in 1..=season.k {
         season.h = h;
-        let found = bound(run, season, worst, paid);
-        if h == aim {
-            sides = found.unwrap_or_default();
+        let Some(cheapest) = problem(season).cost() else {
+            worst.none_legal += 1;
+            continue;
+        };
+        worst.compared += 1;
+        for (i, rule) in Deduction::ALL.into_iter().enumerate() {
+            season.rule = Some(rule);
+            let found = bound(run, season, &mut worst.of_rule[i], cheapest, &paid[i]);
+            if (rule, h) == aim {
+                sides = found;
+            }
         }
     }
     sides
@@ -240,13 +287,21 @@ fn every_h(
 /// One case: a small season, and neighbours of it, each of which is taken in its place if the bound is as close or closer.
 pub fn case(run: &mut Run, program: &Program, worst: &mut Worst) {
     let r = &mut run.random();
-    let mut best = small_season(r);
-    let aim = r.between(2.min(best.k.into()), best.k.into()) as u32;
+    let mut best = if r.one_in(3) {
+        parting_season(r)
+    } else {
+        small_season(r)
+    };
+    let aim = (
+        r.pick(&Deduction::ALL),
+        r.between(2.min(best.k.into()), best.k.into()) as u32,
+    );
     let mut sides = every_h(run, r, &mut best, worst, aim);
     for _ in 1..TO_A_CLIMB {
         let mut season = neighbour(r, &best);
         let found = every_h(run, r, &mut season, worst, aim);
         season.h = r.between(1, season.k.into()) as u32;
+        season.rule = r.pick(&[None, Some(aim.0)]);
         price(run, r, &season, program);
         if product(found.0, sides.1) >= product(sides.0, found.1) {
             (best, sides) = (season, found);

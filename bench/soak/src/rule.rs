@@ -1,4 +1,4 @@
-//! Paper 01's rule of a foul locker, sentence by sentence, on a state of the right length: slow, and with no care for anything
+//! The papers' rule of a foul locker, sentence by sentence, on a state of the right length: slow, and with no care for anything
 //! but the words. It says which sentences a state breaks.
 
 use bench::plain::at;
@@ -36,6 +36,7 @@ pub struct State {
     pub flushes: u64,
     pub load_cost: u64,
     pub write_cost: u64,
+    pub rule: u64,
     /// All 256 places.
     pub places: Vec<Item>,
 }
@@ -71,6 +72,7 @@ impl State {
             flushes: get(s, at::FLUSHES, 4),
             load_cost: get(s, at::LOAD_COST, 8),
             write_cost: get(s, at::WRITE_COST, 8),
+            rule: get(s, at::RULE, 4),
             places: (0..256).map(|i| place(s, i)).collect(),
         }
     }
@@ -160,8 +162,9 @@ const OF_PLACES: [Sentence; 15] = [
 ];
 
 /// Sentences that speak of the state as a whole.
-const OF_THE_WHOLE: [Sentence; 17] = [
-    ("the number of the layout is 1", |s| s.format == 1),
+const OF_THE_WHOLE: [Sentence; 18] = [
+    ("the number of the layout is 2", |s| s.format == 2),
+    ("the rule is 0 or 1", |s| s.rule <= 1),
     ("closed is 0 or 1", |s| s.closed <= 1),
     ("k is 1 to 4,096", |s| (1..=4096).contains(&s.k)),
     ("n is at most 256", |s| s.n <= 256),

@@ -3,11 +3,11 @@
 
 use bench::plain::{
     CLOSED, FLUSH, INVALID_STATE, ITEM_TOO_LARGE, LOG_FULL, MAX_STEPS, OUT_OF_RANGE, READ,
-    SHORT_PAGE, STATE_BYTES, TAKEN, UNKNOWN_ITEM, WRITE,
+    SHORT_PAGE, STATE_BYTES, TAKEN, UNKNOWN_ITEM, UNKNOWN_RULE, WRITE,
 };
-use bench::random::{Random, catalog, some_k, some_n};
+use bench::random::{Random, catalog, odd_rule, some_k, some_n, some_rule};
 use plain_season::cache::Cache;
-use plain_season::{Item, Step, report};
+use plain_season::{Deduction, Item, Step, report};
 
 use crate::pair::{Call, Pair};
 use crate::run::Run;
@@ -25,13 +25,13 @@ pub struct Model<'a> {
 }
 
 impl<'a> Model<'a> {
-    pub fn open(k: u32, catalog: &'a [Item]) -> Model<'a> {
+    pub fn open(k: u32, rule: Deduction, catalog: &'a [Item]) -> Model<'a> {
         Model {
             k,
             catalog,
             steps: 0,
             closed: false,
-            cache: Cache::open(k, catalog),
+            cache: Cache::open(k, rule, catalog),
         }
     }
 
@@ -101,7 +101,7 @@ fn any_bytes(r: &mut Random, len: usize) -> Vec<u8> {
     (0..len).map(|_| r.next() as u8).collect()
 }
 
-/// Whether paper 01 has an opening of a state of the right length taken.
+/// Whether capacity and catalog are what paper 01 has for an opening.
 fn in_range(k: u32, catalog: &[u8]) -> bool {
     let (items, rest) = catalog.as_chunks::<5>();
     let blocks = |item: &[u8; 5]| (1..=16).contains(&item[0]);
@@ -122,7 +122,7 @@ fn twisted(r: &mut Random, mut catalog: Vec<u8>) -> Vec<u8> {
     catalog
 }
 
-/// An opening that is refused: for the capacity, for the catalog, for the state's length, or for several of these.
+/// An opening that is refused: for the capacity, for the catalog, for the rule, for the state's length, or for several of these.
 fn refused_opening(run: &mut Run, r: &mut Random, pair: &mut Pair) {
     let n = some_n(r);
     let mut bytes = catalog(r, n);
@@ -130,20 +130,32 @@ fn refused_opening(run: &mut Run, r: &mut Random, pair: &mut Pair) {
     if r.one_in(2) {
         bytes = twisted(r, bytes);
     }
-    if in_range(k, &bytes) || r.one_in(4) {
+    let odd = r.one_in(2);
+    let rule = if odd { odd_rule(r) } else { some_rule(r) };
+    if in_range(k, &bytes) && !odd || r.one_in(4) {
         let any = r.next() as u32;
         k = r.pick(&[0, 4097, 4098, 65_537, 1 << 31, u32::MAX, any | 8192]);
     }
-    let call = Call::Open { k, catalog: &bytes };
-    agree(pair.make(run, call), OUT_OF_RANGE, run);
+    let call = Call::Open {
+        k,
+        rule,
+        catalog: &bytes,
+    };
+    let expected = if in_range(k, &bytes) {
+        UNKNOWN_RULE
+    } else {
+        OUT_OF_RANGE
+    };
+    agree(pair.make(run, call), expected, run);
     if r.one_in(4) {
         wrong_length(run, r, call);
     }
 }
 
-/// All calls on a state that is too short or too long.
+/// All calls on a state that is too short or too long, at times by the four bytes of a field.
 fn wrong_length(run: &mut Run, r: &mut Random, opening: Call) {
-    let len = r.pick(&[0, 1, STATE_BYTES - 1, STATE_BYTES + 1, 2 * STATE_BYTES]);
+    let right = STATE_BYTES;
+    let len = r.pick(&[0, 1, right - 4, right - 1, right + 1, right + 4, 2 * right]);
     let bytes = any_bytes(r, len);
     let mut pair = Pair::of(r, &bytes);
     agree(pair.make(run, opening), INVALID_STATE, run);
@@ -215,12 +227,17 @@ fn season(run: &mut Run, r: &mut Random, pair: &mut Pair, full: bool) {
     let n = if full { 4 } else { some_n(r) };
     let bytes = catalog(r, n);
     let k = some_k(r, &bytes);
-    let opening = Call::Open { k, catalog: &bytes };
+    let rule = some_rule(r);
+    let opening = Call::Open {
+        k,
+        rule,
+        catalog: &bytes,
+    };
     if r.one_in(8) {
         wrong_length(run, r, opening);
     }
     let items = items(&bytes);
-    let mut model = Model::open(k, &items);
+    let mut model = Model::open(k, Deduction::ALL[rule as usize], &items);
     agree(pair.make(run, opening), TAKEN, run);
     let mut left = some_calls(r);
     while left > 0 || full && model.steps < MAX_STEPS {

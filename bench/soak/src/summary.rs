@@ -1,8 +1,10 @@
 //! What is printed at the end of a run without a difference.
 
+use plain_season::Deduction;
+
 use crate::Soak;
 use crate::hostile::Seen;
-use crate::plans::{Beside, Worst};
+use crate::plans::{Beside, OfRule, Worst};
 use crate::rule;
 use crate::run::{ASKED, Tally};
 
@@ -35,12 +37,23 @@ fn worst(worst: &Worst) {
     let Worst {
         compared,
         none_legal,
+        totals_part,
+        dirty_evictions_part,
         ..
     } = worst;
     println!(
-        "the bound holds beside {compared} cheapest plans; {none_legal} times no plan was legal"
+        "the bound holds under both rules beside {compared} cheapest plans; {none_legal} times no plan was legal"
     );
-    println!("the worst total × (k − h + 1) / (k × cheapest), for h from 1 to k:");
+    println!(
+        "the rules make different totals of {totals_part} small seasons, and different counts of dirty evictions of {dirty_evictions_part}"
+    );
+    for (rule, worst) in Deduction::ALL.into_iter().zip(&worst.of_rule) {
+        worst_of_rule(rule.word(), worst);
+    }
+}
+
+fn worst_of_rule(rule: &str, worst: &OfRule) {
+    println!("the worst total × (k − h + 1) / (k × cheapest) of {rule}, for h from 1 to k:");
     for (k, row) in worst.by_sizes.iter().enumerate() {
         let ratio = |beside: &Option<Beside>| match beside {
             Some(beside) => format!("{:.3}", beside.ratio()),

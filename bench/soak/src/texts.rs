@@ -2,9 +2,9 @@
 
 use bench::plain::STATE_BYTES;
 use bench::random::{Random, catalog, some_k, some_n};
-use plain_season::{Act, Item, MAX_BYTES, Step, text};
+use plain_season::{Act, Deduction, Item, MAX_BYTES, Step, text};
 
-use crate::damage::{SEASON, damage};
+use crate::damage::{SEASON, damage, spoil_rule};
 use crate::pair::{Call, Pair};
 use crate::program::{Program, figures, number};
 use crate::run::Run;
@@ -16,6 +16,8 @@ pub const TO_A_SEASON: u64 = 4;
 pub struct Season {
     pub k: u32,
     pub h: u32,
+    /// None is write-first too, and the text has the heading without a rule.
+    pub rule: Option<Deduction>,
     pub catalog: Vec<u8>,
     pub items: Vec<Item>,
     pub steps: Vec<Step>,
@@ -24,7 +26,17 @@ pub struct Season {
 
 impl Season {
     pub fn text(&self) -> String {
-        text(self.k, self.h, &self.items, &self.steps, &self.acts)
+        let sizes = [self.k, self.h];
+        text(sizes, self.rule, &self.items, &self.steps, &self.acts)
+    }
+
+    /// The opening as a call.
+    pub fn opening(&self) -> Call<'_> {
+        Call::Open {
+            k: self.k,
+            rule: self.rule.unwrap_or(Deduction::WriteFirst) as u32,
+            catalog: &self.catalog,
+        }
     }
 }
 
@@ -136,9 +148,11 @@ fn some_season(r: &mut Random) -> Season {
     };
     let steps = some_steps(r, &items, most, count);
     let acts = some_plan(r, &items, h, &steps);
+    let [write_first, load_first] = Deduction::ALL.map(Some);
     Season {
         k,
         h,
+        rule: r.pick(&[None, write_first, load_first, load_first]),
         catalog,
         items,
         steps,
@@ -197,8 +211,7 @@ fn beside_rival(alone: &str, figures: &[u64]) -> String {
 /// The steps of an accepted text, and its closing, as calls: the report of the state is the text's but for the rival.
 fn compare_calls(run: &mut Run, r: &mut Random, season: &Season, output: &str) {
     let mut pair = Pair::of(r, &[0; STATE_BYTES]);
-    let (k, catalog) = (season.k, &season.catalog);
-    let mut answers = pair.make(run, Call::Open { k, catalog });
+    let mut answers = pair.make(run, season.opening());
     for &step in &season.steps {
         answers |= pair.step(run, arguments(step));
     }
@@ -236,7 +249,12 @@ pub fn case(run: &mut Run, program: &Program) {
             continue;
         }
         let mut text = whole.clone().into_bytes();
-        for _ in 0..r.pick(&[1, 1, 1, 2, 4]) {
+        let mut times = r.pick(&[1, 1, 1, 2, 4]);
+        if r.one_in(6) {
+            spoil_rule(r, &mut text);
+            times -= 1;
+        }
+        for _ in 0..times {
             damage(r, &mut text, SEASON);
         }
         program.compare(run, &text);

@@ -1,6 +1,8 @@
-// The cache by value at work: paper 01's unmarked rows and its whole example, through the methods, each with what it answers.
+// The cache by value at work: paper 01's unmarked rows and its whole example, then paper 02's two rules of deduction, through the
+// methods, each with what it answers.
 ghost use Prim.Native.Nat.{_<_};
 use cache_value::Answer;
+use cache_value::Answered;
 use cache_value::Cache;
 use landlord::Step;
 
@@ -23,7 +25,7 @@ fn print_count(words: &[u8], value: u32) {
 
 // Opens a cache of `k` blocks for one item of so many.
 fn one_item(k: u32, blocks: u8) -> Cache {
-    let opened = Cache::open(k, 1, [blocks; 256], [4; 256], [6; 256]);
+    let opened = Cache::open(k, 0, 1, [blocks; 256], [4; 256], [6; 256]);
     let answer = opened.answer;
     print_count(b"open k ", k);
     print_count(b": ", number(answer));
@@ -90,7 +92,7 @@ fn whole_example() {
     write[0] = 6;
     write[1] = 2;
     write[2] = 9;
-    let a = Cache::open(3, 3, blocks, load, write).cache;
+    let a = Cache::open(3, 0, 3, blocks, load, write).cache;
     let b = a.step(Step::Write {
             item: 0,
             minutes: 90,
@@ -119,6 +121,54 @@ fn whole_example() {
     io::write_all(1, b"\n");
 }
 
+// Load cost and write cost together. They are far from the end of 64 bits.
+fn total(c: Cache) -> u64 {
+    std::num::wrapping_add_u64(c.loadcost, c.writecost)
+}
+
+fn read(c: Cache, item: u32) -> Cache {
+    c.step(Step::Read { item: item }).cache
+}
+
+// A cache of 2 blocks for four items of one block, of which one is dear to write back.
+fn four_items(rule: u32) -> Answered {
+    let mut load = [0; 256];
+    let mut write = [0; 256];
+    load[0] = 5;
+    load[1] = 2;
+    load[2] = 4;
+    load[3] = 3;
+    write[0] = 5;
+    Cache::open(2, rule, 4, [1; 256], load, write)
+}
+
+// The season where the two rules part: by write-first item 0 is evicted dirty, by load-first it stays till the closing.
+fn parting(rule: u32) {
+    let opened = four_items(rule).cache;
+    let a = opened
+        .step(Step::Write {
+            item: 0,
+            minutes: 0,
+        })
+        .cache;
+    let b = read(read(read(a, 1), 2), 0);
+    let c = read(read(read(b, 3), 1), 2);
+    let end = c.close().cache;
+    print_count(b"rule ", rule);
+    print_count(b": ", end.evictions);
+    print_count(b" ", end.dirtyevictions);
+    print(b" ", total(end));
+    io::write_all(1, b"\n");
+}
+
+// A number that is no rule's.
+fn odd_rule(rule: u32) {
+    let answer = four_items(rule).answer;
+    print_count(b"open rule ", rule);
+    print_count(b": ", number(answer));
+    io::write_all(1, b"\n");
+}
+
 fn main() {
     read_row(16);
     read_row(15);
@@ -129,4 +179,7 @@ fn main() {
     one_item(4096, 1);
     one_item(4097, 1);
     whole_example();
+    parting(0);
+    parting(1);
+    odd_rule(2);
 }

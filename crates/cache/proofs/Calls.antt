@@ -6,12 +6,11 @@ use mathlib.Core.List.{List}
 use Prim.Native.Nat.{ℕ}
 use native.Mathlib.Omega.{arith}
 use borrow.Author.Tests.{ne-eqb}
-use Rattle.landlord.specs.Slot.{writeFirst}
 use Rattle.landlord.specs.Rule.{flush}
 use Rattle.landlord.specs.Figures.{Standing, moved, took, closes}
 use Rattle.landlord.specs.Calls.{Call, stepCall, close, stepOf, refusalAt, refusalNow, accepted, after}
 use Rattle.landlord.specs.Valid.{StandingOk}
-use Rattle.landlord.proofs.Slots.{write-first-ok}
+use Rattle.landlord.proofs.Slots.{deduction-ok}
 use Rattle.landlord.proofs.Valid.{ok-after}
 use Rattle.cache_state.specs.Cache.{Cache, catalogOf, slotsOf, usesOf, view, Normal}
 use Rattle.cache_state.specs.InnerView.{stateOf, countsOf}
@@ -43,7 +42,7 @@ pub refused-answers :
 unfolding after
 refused-answers kind c call n ok e d = record { answer = e; valid = ok; stands = sym stays; refused = λ z. refl }
   where
-    stays : after writeFirst (kind .view c) call ≡ kind .view c
+    stays : after (kind .view c) call ≡ kind .view c
     stays = rw (sym e, ne-eqb n 0 d)
 
 -- ---- lent bytes
@@ -53,25 +52,25 @@ taken-answers :
     (b left : List ℕ) (call : Call) →
     ValidBytes b →
     0 ≡ refusalNow (view (cacheOf b)) call →
-    BecomesAt (accepted writeFirst (view (cacheOf b)) call) left →
+    BecomesAt (accepted (view (cacheOf b)) call) left →
     Answers lent b call 0 left
 unfolding after
 taken-answers b left call ok e h =
     record {
       answer = e;
-      valid = becomes-valid (subst StandingOk goes (ok-after writeFirst (view (cacheOf b)) call write-first-ok (ok .cache .rule))) h;
+      valid = becomes-valid (subst StandingOk goes (ok-after (view (cacheOf b)) call (deduction-ok (cacheOf b .rule)) (ok .cache .rule))) h;
       stands = h .cache .stands ∙ sym goes;
       refused = λ z. absurd (z refl);
     }
   where
-    goes : after writeFirst (view (cacheOf b)) call ≡ accepted writeFirst (view (cacheOf b)) call
+    goes : after (view (cacheOf b)) call ≡ accepted (view (cacheOf b)) call
     goes = rw (sym e)
 
 pub step-answers :
     (b left : List ℕ) (kind i m : ℕ) →
     ValidBytes b →
     0 ≡ refusalNow (view (cacheOf b)) (stepCall kind i m) →
-    BecomesAt (took writeFirst (view (cacheOf b)) (stepOf kind i m)) left →
+    BecomesAt (took (view (cacheOf b)) (stepOf kind i m)) left →
     Answers lent b (stepCall kind i m) 0 left
 step-answers b left kind i m ok e h = taken-answers b left (stepCall kind i m) ok e h
 
@@ -87,7 +86,7 @@ closed-becomes : (c q : Cache) → Becomes (moved (view c) (flush (stateOf c)) (
 closed-becomes c q h = record { stands = ended ∙ ap shut (h .stands) ∙ same; fields = closed-normal q (h .fields) }
   where
     shut : Standing → Standing
-    shut v = record { k = v .k; state = v .state; figures = v .figures; closed = true }
+    shut v = record { k = v .k; state = v .state; figures = v .figures; closed = true; split = v .split }
 
     same : shut (moved (view c) (flush (stateOf c)) (c .closed)) ≡ closes (view c)
     same = unfold closes in refl

@@ -7,9 +7,10 @@ use native.Mathlib.Nat.{zero-div}
 use native.Mathlib.Omega.{arith}
 use lib.Dec.{eqb}
 use lib.ListN.{length, replicate, getD-replicate}
+use Rattle.landlord.specs.declared.Deduction.{Deduction}
 use Rattle.landlord.specs.Fold.{tab}
 use Rattle.landlord.specs.Catalog.{Catalog, Item}
-use Rattle.landlord.specs.Slot.{absent}
+use Rattle.landlord.specs.Slot.{absent, splitOf}
 use Rattle.landlord.specs.Rule.{emptied}
 use Rattle.landlord.specs.Figures.{Standing, nothing, noUse, totalsOf}
 use Rattle.landlord.proofs.Folds.{tab-length, tab-eq}
@@ -25,8 +26,8 @@ unfolding marked bit
 unmarked i l =
     ap (λ (w : ℕ). eqb (w / 2 ^ (i % 64) % 2) 1) (getD-replicate 4 (i / 64) 0 0 (omega arith)) ∙ ap (λ (w : ℕ). eqb (w % 2) 1) (zero-div (2 ^ (i % 64)))
 
-pub empty-place : (k n : ℕ) (blocks load write : List ℕ) (isClosed : Bool) (i : ℕ) → i < 256 → EmptyPlace (emptyWith k n blocks load write isClosed) i
-empty-place k n blocks load write isClosed i l =
+pub empty-place : (k n : ℕ) (blocks load write : List ℕ) (isClosed : Bool) (r : Deduction) (i : ℕ) → i < 256 → EmptyPlace (emptyWith k n blocks load write isClosed r) i
+empty-place k n blocks load write isClosed r i l =
     record {
       held = getD-replicate 256 i false false l;
       slot = record { dirty = unmarked i l; loadCredit = getD-replicate 256 i 0 0 l; writeCredit = getD-replicate 256 i 0 0 l };
@@ -36,16 +37,16 @@ empty-place k n blocks load write isClosed i l =
     }
 
 -- where the rule starts, and a closed cache as empty
-abbrev pub started : ℕ → Catalog → Bool → Standing
-started k cat isClosed = record { k = k; state = emptied cat; figures = nothing cat; closed = isClosed }
+abbrev pub started : ℕ → Catalog → Bool → Deduction → Standing
+started k cat isClosed r = record { k = k; state = emptied cat; figures = nothing cat; closed = isClosed; split = splitOf r }
 
 -- the empty cache with n items stands where the rule starts with their catalog
-module _ (k n : ℕ) (item : ℕ → Item) (isClosed : Bool) (blocks load write : List ℕ) (few : n ≤ 256) (b : Column n (λ i. item i .blocks) blocks) (l : Column n (λ i. item i .load) load) (w : Column n (λ i. item i .write) write) where
+module _ (k n : ℕ) (item : ℕ → Item) (isClosed : Bool) (r : Deduction) (blocks load write : List ℕ) (few : n ≤ 256) (b : Column n (λ i. item i .blocks) blocks) (l : Column n (λ i. item i .load) load) (w : Column n (λ i. item i .write) write) where
   abbrev new : Cache
-  new = emptyWith k n blocks load write isClosed
+  new = emptyWith k n blocks load write isClosed r
 
   place : (i : ℕ) → i < 256 → EmptyPlace new i
-  place = empty-place k n blocks load write isClosed
+  place = empty-place k n blocks load write isClosed r
 
   same-catalog : catalogOf new ≡ tab n item
   unfolding catalogOf
@@ -67,7 +68,7 @@ module _ (k n : ℕ) (item : ℕ → Item) (isClosed : Bool) (blocks load write 
   past : (i : ℕ) → n ≤ i → i < 256 → Blank new i
   past i m u = record { place = place i u; blocks = b .rest i m u; load = l .rest i m u; write = w .rest i m u }
 
-  pub empty-becomes : Becomes (started k (tab n item) isClosed) (emptyWith k n blocks load write isClosed)
+  pub empty-becomes : Becomes (started k (tab n item) isClosed r) (emptyWith k n blocks load write isClosed r)
   unfolding slotsOf usesOf
   empty-becomes =
       record {
@@ -76,6 +77,7 @@ module _ (k n : ℕ) (item : ℕ → Item) (isClosed : Bool) (blocks load write 
           state = record { catalog = same-catalog z; slots = (slots ∙ ap (λ (m : ℕ). tab m (λ i. absent)) same-length) z };
           figures = record { totals = totalsOf 0 0 0 0 0 0 0 0 0; uses = (uses ∙ ap (λ (m : ℕ). tab m (λ i. noUse)) same-length) z };
           closed = isClosed;
+          split = splitOf r;
         };
         fields = record { few = few; past = past; absent = λ i m e. place i (omega (arith, few)) .slot; clean = λ i m e. place i (omega (arith, few)) .slot .writeCredit };
       }

@@ -8,19 +8,22 @@ use native.Mathlib.Omega.{arith}
 use lib.Dec.{eqb, leb}
 use lib.ListN.{length, set, replicate, getD-replicate, length-replicate}
 use borrow.Author.Tests.{eq-eqb, ne-eqb, le-leb, lt-leb, eqb-true, leb-true}
+use Rattle.landlord.specs.declared.Deduction.{Deduction}
+use Rattle.landlord.specs.Types.{deductionOf}
 use Rattle.landlord.specs.Catalog.{CatalogOk}
+use Rattle.landlord.specs.Slot.{splitOf}
 use Rattle.landlord.specs.Figures.{opened}
 use Rattle.landlord.specs.Calls.{openingRefusal}
 use Rattle.landlord.specs.Inner.{CapacityFacts}
 use Rattle.landlord.proofs.Valid.{ok-opened}
-use Rattle.landlord.proofs.Ranges.{capacity-facts, capacity-ok, opening-taken, opening-accepts, range-refused}
+use Rattle.landlord.proofs.Ranges.{capacity-facts, capacity-ok, opening-taken, opening-accepts, range-refused, rule-refused}
 use Rattle.fields.specs.Inner.{Below}
 use Rattle.catalog_bytes.specs.Catalogs.{itemIn, catalogIn}
 use Rattle.catalog_bytes.specs.Inner.{HasItem}
 use Rattle.catalog_bytes.proofs.Laws.{load-lt, write-lt}
 use Rattle.cache_state.specs.Cache.{Cache, EmptyPlace}
 use Rattle.cache_state.specs.InnerBecomes.{Becomes}
-use Rattle.cache_state.specs.InnerWith.{withCapacity, withCount, withCatalog, withBlocks, withItemLoadCost, withItemWriteCost}
+use Rattle.cache_state.specs.InnerWith.{withCapacity, withCount, withRule, withCatalog, withBlocks, withItemLoadCost, withItemWriteCost}
 use Rattle.layout.specs.Layout.{stateBytes, cacheOf}
 use Rattle.layout.specs.Inner.{Stands, cleared}
 use Rattle.layout.proofs.Places.{stands-as, stands-become, becomes-valid}
@@ -43,57 +46,62 @@ pub record Lengths (size : ℕ) (xs : List ℕ) : Type 0 where
   pub whole : length xs % 5 ≡ 0
   pub few : length xs ≤ 1280
 
-module _ (size k : ℕ) (xs : List ℕ) where
-  pub wrong-size : size ≢ stateBytes → 17 ≡ openingNumber size k xs
+module _ (size k rule : ℕ) (xs : List ℕ) where
+  pub wrong-size : size ≢ stateBytes → 17 ≡ openingNumber size k rule xs
   unfolding openingNumber
   wrong-size e = rw (ne-eqb size stateBytes e)
 
-  pub ragged : size ≡ stateBytes → length xs % 5 ≢ 0 → 3 ≡ openingNumber size k xs
+  pub ragged : size ≡ stateBytes → length xs % 5 ≢ 0 → 3 ≡ openingNumber size k rule xs
   unfolding openingNumber
   ragged e d = rw (eq-eqb size stateBytes e, ne-eqb (length xs % 5) 0 d)
 
-  pub too-long : size ≡ stateBytes → length xs % 5 ≡ 0 → 1280 < length xs → 3 ≡ openingNumber size k xs
+  pub too-long : size ≡ stateBytes → length xs % 5 ≡ 0 → 1280 < length xs → 3 ≡ openingNumber size k rule xs
   unfolding openingNumber
   too-long e d l = rw (eq-eqb size stateBytes e, eq-eqb (length xs % 5) 0 d, lt-leb (length xs) 1280 l)
 
-  pub asks : Lengths size xs → openingNumber size k xs ≡ openingRefusal k (catalogIn xs)
+  pub asks : Lengths size xs → openingNumber size k rule xs ≡ openingRefusal k rule (catalogIn xs)
   unfolding openingNumber
   asks s = rw (eq-eqb size stateBytes (s .state), eq-eqb (length xs % 5) 0 (s .whole), le-leb (length xs) 1280 (s .few))
 
-  pub no-capacity : Lengths size xs → (CapacityFacts k → ⊥) → 3 ≡ openingNumber size k xs
-  no-capacity s bad = range-refused k (catalogIn xs) (λ f. bad (capacity-facts k (f .0))) ∙ sym (asks s)
+  pub no-capacity : Lengths size xs → (CapacityFacts k → ⊥) → 3 ≡ openingNumber size k rule xs
+  no-capacity s bad = range-refused k rule (catalogIn xs) (λ f. bad (capacity-facts k (f .0))) ∙ sym (asks s)
 
   -- the blocks of the catalog's items
   abbrev blocks : ℕ → ℕ
   blocks i = itemIn xs i .blocks
 
-  pub blocks-refused : Lengths size xs → (BlocksOk (length xs / 5) blocks → ⊥) → 3 ≡ openingNumber size k xs
+  pub blocks-refused : Lengths size xs → (BlocksOk (length xs / 5) blocks → ⊥) → 3 ≡ openingNumber size k rule xs
   unfolding catalogIn
-  blocks-refused s bad = range-refused k (catalogIn xs) (λ f. bad (catalog-blocks (length xs / 5) (itemIn xs) (f .1))) ∙ sym (asks s)
+  blocks-refused s bad = range-refused k rule (catalogIn xs) (λ f. bad (catalog-blocks (length xs / 5) (itemIn xs) (f .1))) ∙ sym (asks s)
 
-  -- costs of two bytes are in range
-  pub blocks-taken : Lengths size xs → CapacityFacts k → Below 256 xs → BlocksOk (length xs / 5) blocks → 0 ≡ openingNumber size k xs
-  unfolding catalogIn
-  blocks-taken s room bytes ok =
-      let good : CatalogOk (catalogIn xs) = blocks-catalog (length xs / 5) (itemIn xs) (omega (arith, s .few)) ok (λ i. omega (arith, load-lt xs i bytes)) (λ i. omega (arith, write-lt xs i bytes)) in
-      sym (asks s ∙ opening-accepts k (catalogIn xs) (capacity-ok k room) good)
+  -- costs of two bytes are in range, so what is left is the rule's number
+  module _ (s : Lengths size xs) (room : CapacityFacts k) (bytes : Below 256 xs) (ok : BlocksOk (length xs / 5) blocks) where
+    good : CatalogOk (catalogIn xs)
+    unfolding catalogIn
+    good = blocks-catalog (length xs / 5) (itemIn xs) (omega (arith, s .few)) ok (λ i. omega (arith, load-lt xs i bytes)) (λ i. omega (arith, write-lt xs i bytes))
+
+    pub rule-odd : 1 < rule → 18 ≡ openingNumber size k rule xs
+    rule-odd l = rule-refused k rule (catalogIn xs) (capacity-ok k room) good (lt-leb rule 1 l) ∙ sym (asks s)
+
+    pub all-taken : rule ≤ 1 → 0 ≡ openingNumber size k rule xs
+    all-taken l = sym (asks s ∙ opening-accepts k rule (catalogIn xs) (capacity-ok k room) good (le-leb rule 1 l))
 
 -- an opening that was not refused has passed them all
-pub record Right (size k : ℕ) (xs : List ℕ) : Type 0 where
+pub record Right (size k rule : ℕ) (xs : List ℕ) : Type 0 where
   pub lengths : Lengths size xs
-  pub accepted : openingRefusal k (catalogIn xs) ≡ 0
+  pub accepted : openingRefusal k rule (catalogIn xs) ≡ 0
 
-pub right : {size k n : ℕ} {xs : List ℕ} → n ≡ openingNumber size k xs → n ≡ 0 → Right size k xs
+pub right : {size k rule n : ℕ} {xs : List ℕ} → n ≡ openingNumber size k rule xs → n ≡ 0 → Right size k rule xs
 unfolding openingNumber
-right {size = size} {k = k} {xs = xs} asked none = go (eqb size stateBytes) (eqb (length xs % 5) 0) (leb (length xs) 1280) refl refl refl (sym asked ∙ none)
+right {size = size} {k = k} {rule = rule} {xs = xs} asked none = go (eqb size stateBytes) (eqb (length xs % 5) 0) (leb (length xs) 1280) refl refl refl (sym asked ∙ none)
   where
     go :
         (a b c : Bool) →
         eqb size stateBytes ≡ a →
         eqb (length xs % 5) 0 ≡ b →
         leb (length xs) 1280 ≡ c →
-        cond a (cond (b && c) (openingRefusal k (catalogIn xs)) 3) 17 ≡ 0 →
-        Right size k xs
+        cond a (cond (b && c) (openingRefusal k rule (catalogIn xs)) 3) 17 ≡ 0 →
+        Right size k rule xs
     go true true true p q r e =
         record { lengths = record { state = eqb-true size stateBytes p; whole = eqb-true (length xs % 5) 0 q; few = leb-true (length xs) 1280 r }; accepted = e }
     go true true false p q r e = absurd (let y : _≡_ {A = ℕ} 3 0 = e in omega arith)
@@ -128,9 +136,9 @@ entered-more c xs i {x = x} {y = y} {z = z} s ex ey ez p q r =
 
 -- ---- the whole opening
 
--- capacity, count and items stored in a cleared state
-abbrev openedOf : ℕ → List ℕ → Cache
-openedOf k xs = enteredOf (withCount (withCapacity cleared k) (length xs / 5)) xs (length xs / 5)
+-- capacity, count, rule and items stored in a cleared state
+abbrev openedOf : ℕ → Deduction → List ℕ → Cache
+openedOf k r xs = enteredOf (withRule (withCount (withCapacity cleared k) (length xs / 5)) r) xs (length xs / 5)
 
 stored-column : (n : ℕ) (f : ℕ → ℕ) → n ≤ 256 → Column n f (storeTo n f (replicate 256 0))
 stored-column n f few =
@@ -139,39 +147,43 @@ stored-column n f few =
       rest = λ i m u. store-past n f (replicate 256 0) i m ∙ getD-replicate 256 i 0 0 u;
     }
 
-opened-becomes : (k : ℕ) (xs : List ℕ) → length xs / 5 ≤ 256 → Becomes (opened k (catalogIn xs)) (openedOf k xs)
+opened-becomes : (k : ℕ) (r : Deduction) (xs : List ℕ) → length xs / 5 ≤ 256 → Becomes (opened (splitOf r) k (catalogIn xs)) (openedOf k r xs)
 unfolding catalogIn
-opened-becomes k xs few =
-    empty-becomes k (length xs / 5) (itemIn xs) false _ _ _ few (stored-column (length xs / 5) (λ i. itemIn xs i .blocks) few)
+opened-becomes k r xs few =
+    empty-becomes k (length xs / 5) (itemIn xs) false r _ _ _ few (stored-column (length xs / 5) (λ i. itemIn xs i .blocks) few)
     (stored-column (length xs / 5) (λ i. itemIn xs i .load) few) (stored-column (length xs / 5) (λ i. itemIn xs i .write) few)
 
--- refused, every byte stays; else the bytes were cleared and capacity, count and items stored
-pub opening-refused : (b xs : List ℕ) (k n : ℕ) → n ≡ openingNumber (length b) k xs → n ≢ 0 → OpenedLent b k xs n b
-opening-refused b xs k n e d = record { answer = e; valid = λ z. absurd (d z); stands = λ z. absurd (d z); empty = λ z. absurd (d z); refused = λ z. refl }
+-- refused, every byte stays; else the bytes were cleared and capacity, count, rule and items stored
+pub opening-refused : (b xs : List ℕ) (k rule n : ℕ) → n ≡ openingNumber (length b) k rule xs → n ≢ 0 → OpenedLent b k rule xs n b
+opening-refused b xs k rule n e d = record { answer = e; valid = λ z. absurd (d z); stands = λ z. absurd (d z); empty = λ z. absurd (d z); refused = λ z. refl }
 
 pub opening-done :
-    (b xs : List ℕ) (k n : ℕ) {one two three left : List ℕ} →
-    n ≡ openingNumber (length b) k xs →
+    (b xs : List ℕ) (k rule n : ℕ) {r : Deduction} {one two three four left : List ℕ} →
+    n ≡ openingNumber (length b) k rule xs →
     n ≡ 0 →
     Stands one cleared →
     Stands two (withCapacity (cacheOf one) k) →
     Stands three (withCount (cacheOf two) (length xs / 5)) →
-    Stands left (enteredOf (cacheOf three) xs (length xs / 5)) →
-    OpenedLent b k xs 0 left
-opening-done b xs k n {left = left} e z p q r s =
+    r ≡ deductionOf rule →
+    Stands four (withRule (cacheOf three) r) →
+    Stands left (enteredOf (cacheOf four) xs (length xs / 5)) →
+    OpenedLent b k rule xs 0 left
+opening-done b xs k rule n {r = r} {left = left} e z p q u is t s =
     let ranges = right e z in
-    let good = opening-taken k (catalogIn xs) (ranges .accepted) in
-    let so : Stands left (openedOf k xs) =
+    let good = opening-taken k rule (catalogIn xs) (ranges .accepted) .0 in
+    let so : Stands left (openedOf k (deductionOf rule) xs) =
     stands-as s
-    (ap (λ (d : Cache). enteredOf d xs (length xs / 5)) (r .cache)
-    ∙ ap (λ (d : Cache). enteredOf (withCount d (length xs / 5)) xs (length xs / 5)) (q .cache)
-    ∙ ap (λ (d : Cache). enteredOf (withCount (withCapacity d k) (length xs / 5)) xs (length xs / 5)) (p .cache))
+    (ap (λ (d : Cache). enteredOf d xs (length xs / 5)) (t .cache)
+    ∙ ap (λ (d : Cache). enteredOf (withRule d r) xs (length xs / 5)) (u .cache)
+    ∙ ap (λ (d : Cache). enteredOf (withRule (withCount d (length xs / 5)) r) xs (length xs / 5)) (q .cache)
+    ∙ ap (λ (d : Cache). enteredOf (withRule (withCount (withCapacity d k) (length xs / 5)) r) xs (length xs / 5)) (p .cache)
+    ∙ ap (λ (d : Deduction). openedOf k d xs) is)
     in
-    let stood = stands-become so (opened-becomes k xs (omega (arith, ranges .lengths .few))) in
+    let stood = stands-become so (opened-becomes k (deductionOf rule) xs (omega (arith, ranges .lengths .few))) in
     record {
       answer = sym z ∙ e;
-      valid = λ w. becomes-valid (ok-opened k (catalogIn xs) (good .0) (good .1)) stood;
+      valid = λ w. becomes-valid (ok-opened (splitOf (deductionOf rule)) k (catalogIn xs) (good .0) (good .1)) stood;
       stands = λ w. stood .cache .stands;
-      empty = λ w i l. subst (λ (c : Cache). EmptyPlace c i) (sym (so .cache)) (empty-place k (length xs / 5) _ _ _ false i l);
+      empty = λ w i l. subst (λ (c : Cache). EmptyPlace c i) (sym (so .cache)) (empty-place k (length xs / 5) _ _ _ false (deductionOf rule) i l);
       refused = λ w. absurd (w refl);
     }

@@ -87,23 +87,23 @@ going-ends kind c q calls before out i l g =
     }
 
 -- the whole list: a refused opening, and an accepted one, of which the season theorem holds
-pub run-refused : (b xs : List ℕ) (k : ℕ) (calls : List Call) (before left : List ℕ) (n : ℕ) → OpenedLent b k xs n left → n ≢ 0 → RanLent b k xs calls before before n left
-run-refused b xs k calls before left n o e =
+pub run-refused : (b xs : List ℕ) (k rule : ℕ) (calls : List Call) (before left : List ℕ) (n : ℕ) → OpenedLent b k rule xs n left → n ≢ 0 → RanLent b k rule xs calls before before n left
+run-refused b xs k rule calls before left n o e =
     record { answer = o .answer; refused = λ z. (o .refused z, refl); numbers = []; season = λ z. absurd (e z) }
 
 pub run-taken :
-    (b xs first : List ℕ) (k : ℕ) (calls : List Call) (before after left : List ℕ) (n : ℕ) →
-    OpenedLent b k xs n first →
+    (b xs first : List ℕ) (k rule : ℕ) (calls : List Call) (before after left : List ℕ) (n : ℕ) →
+    OpenedLent b k rule xs n first →
     n ≡ 0 →
     RanCalls lent first calls before after left →
-    RanLent b k xs calls before after 0 left
-run-taken b xs first k calls before after left n o e ran =
+    RanLent b k rule xs calls before after 0 left
+run-taken b xs first k rule calls before after left n o e ran =
     record {
       answer = sym e ∙ o .answer;
       refused = λ z. absurd (z refl);
       numbers = ran .numbers;
       season = λ z. (
-        season-lent k xs calls (ran .numbers) left (record { before = b; first = first; opening = subst (λ (m : ℕ). OpenedLent b k xs m first) e o; follows = ran .follows }),
+        season-lent k rule xs calls (ran .numbers) left (record { before = b; first = first; opening = subst (λ (m : ℕ). OpenedLent b k rule xs m first) e o; follows = ran .follows }),
         ran .noted,
       );
     }

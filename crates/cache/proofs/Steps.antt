@@ -11,11 +11,11 @@ use lib.ListN.{getD}
 use borrow.Author.Tests.{eq-eqb, ne-eqb, ltb-true, leb-true, leb-false}
 use Rattle.landlord.specs.declared.Step.the-variants.{Flush}
 use Rattle.landlord.specs.Catalog.{itemAt}
-use Rattle.landlord.specs.Slot.{writeFirst}
+use Rattle.landlord.specs.Slot.{splitOf}
 use Rattle.landlord.specs.Rule.{State, Moved, size, blocksAt, makeRoom, serveRead, serveWrite, step, joined}
 use Rattle.landlord.specs.Figures.{Standing, moved, took}
 use Rattle.landlord.specs.Calls.{stepOf, inRange, refusalAt}
-use Rattle.landlord.proofs.Slots.{write-first-ok}
+use Rattle.landlord.proofs.Slots.{deduction-ok}
 use Rattle.landlord.proofs.Keeps.{make-room}
 use Rattle.landlord.proofs.Valid.{CanServe, room-ready, moved-joined}
 use Rattle.cache_state.specs.Cache.{Cache, catalogOf, view, Valid}
@@ -73,8 +73,8 @@ module _ (c : Cache) (kind i m : ℕ) (free : answer c kind i m ≡ 0) where
       go true false d e f = absurd (false≢true f)
       go false b d e f = absurd (false≢true f)
 
-  free-flush : kind ≡ 76 → moved (view c) (step writeFirst (c .k) Flush (stateOf c)) (c .closed) ≡ took writeFirst (view c) (stepOf kind i m)
-  free-flush e = unfold took stepOf in rw e
+  free-flush : kind ≡ 76 → took (view c) Flush ≡ took (view c) (stepOf kind i m)
+  free-flush e = unfold stepOf in rw e
 
   -- the room that was made: the item can be served there
   module _ (n : kind ≢ 76) (ok : Valid c) where
@@ -84,21 +84,21 @@ module _ (c : Cache) (kind i m : ℕ) (free : answer c kind i m ≡ 0) where
     small : blocksAt (stateOf c) i ≤ c .k
     small = subst (λ (z : ℕ). z ≤ c .k) (sym (blocks-is c i (free-item n .0))) (free-item n .1)
 
-    free-ready : CanServe (moved (view c) (makeRoom writeFirst (c .k) i (stateOf c)) (c .closed)) i
+    free-ready : CanServe (moved (view c) (makeRoom (splitOf (c .rule)) (c .k) i (stateOf c)) (c .closed)) i
     free-ready =
-        room-ready writeFirst (view c) i write-first-ok (record { standing = ok .rule; few = free-ranged .few; isOpen = free-ranged .isOpen }) below small
+        room-ready (splitOf (c .rule)) (view c) i (deduction-ok (c .rule)) (record { standing = ok .rule; few = free-ranged .few; isOpen = free-ranged .isOpen }) below small
 
-    module _ (room : Cache) (made : view room ≡ moved (view c) (makeRoom writeFirst (c .k) i (stateOf c)) (c .closed)) where
-      together : (b : State → Moved) → moved (view room) (b (stateOf room)) (room .closed) ≡ moved (view c) (joined (makeRoom writeFirst (c .k) i (stateOf c)) (b (makeRoom writeFirst (c .k) i (stateOf c) .state))) (c .closed)
+    module _ (room : Cache) (made : view room ≡ moved (view c) (makeRoom (splitOf (c .rule)) (c .k) i (stateOf c)) (c .closed)) where
+      together : (b : State → Moved) → moved (view room) (b (stateOf room)) (room .closed) ≡ moved (view c) (joined (makeRoom (splitOf (c .rule)) (c .k) i (stateOf c)) (b (makeRoom (splitOf (c .rule)) (c .k) i (stateOf c) .state))) (c .closed)
       together b =
           ap (λ (z : Standing). moved z (b (z .state)) (z .closed)) made
-          ∙ sym (moved-joined (view c) (makeRoom writeFirst (c .k) i (stateOf c)) (b (makeRoom writeFirst (c .k) i (stateOf c) .state)) (c .closed)
-          (make-room writeFirst (c .k) i (stateOf c) write-first-ok below small .catalog))
+          ∙ sym (moved-joined (view c) (makeRoom (splitOf (c .rule)) (c .k) i (stateOf c)) (b (makeRoom (splitOf (c .rule)) (c .k) i (stateOf c) .state)) (c .closed)
+          (make-room (splitOf (c .rule)) (c .k) i (stateOf c) (deduction-ok (c .rule)) below small .catalog))
 
-      free-read : kind ≡ 82 → moved (view room) (serveRead i (stateOf room)) (room .closed) ≡ took writeFirst (view c) (stepOf kind i m)
+      free-read : kind ≡ 82 → moved (view room) (serveRead i (stateOf room)) (room .closed) ≡ took (view c) (stepOf kind i m)
       free-read e = together (serveRead i) ∙ (unfold took stepOf step in rw (eq-eqb kind 82 e))
 
-      free-write : kind ≢ 82 → moved (view room) (serveWrite i m (stateOf room)) (room .closed) ≡ took writeFirst (view c) (stepOf kind i m)
+      free-write : kind ≢ 82 → moved (view room) (serveWrite i m (stateOf room)) (room .closed) ≡ took (view c) (stepOf kind i m)
       free-write e = together (serveWrite i m) ∙ told
         where
           isWrite : eqb kind 87 ≡ true
@@ -108,7 +108,7 @@ module _ (c : Cache) (kind i m : ℕ) (free : answer c kind i m ≡ 0) where
               go true f = refl
               go false f = absurd (false≢true f)
 
-          told : moved (view c) (joined (makeRoom writeFirst (c .k) i (stateOf c)) (serveWrite i m (makeRoom writeFirst (c .k) i (stateOf c) .state))) (c .closed) ≡ took writeFirst (view c) (stepOf kind i m)
+          told : moved (view c) (joined (makeRoom (splitOf (c .rule)) (c .k) i (stateOf c)) (serveWrite i m (makeRoom (splitOf (c .rule)) (c .k) i (stateOf c) .state))) (c .closed) ≡ took (view c) (stepOf kind i m)
           told = unfold took stepOf step in rw (ne-eqb kind 82 e, isWrite)
 
 -- the same of the bytes of a state
@@ -122,8 +122,8 @@ module _ (b : List ℕ) (kind i m : ℕ) (p : TablePasses b kind i m) where
   pub passed-flush :
       (left : List ℕ) →
       kind ≡ 76 →
-      BecomesAt (moved (view (cacheOf b)) (step writeFirst (cacheOf b .k) Flush (stateOf (cacheOf b))) (cacheOf b .closed)) left →
-      BecomesAt (took writeFirst (view (cacheOf b)) (stepOf kind i m)) left
+      BecomesAt (took (view (cacheOf b)) Flush) left →
+      BecomesAt (took (view (cacheOf b)) (stepOf kind i m)) left
   passed-flush left e h = so (free-flush (cacheOf b) kind i m (p .free) e) h
 
   pub passed-minutes : kind ≢ 76 → kind ≢ 82 → m ≤ 1440
@@ -134,7 +134,7 @@ module _ (b : List ℕ) (kind i m : ℕ) (p : TablePasses b kind i m) where
       let f = free-item (cacheOf b) kind i m (p .free) n in
       record { valid = p .valid; known = f .0; fits = f .1 }
 
-  module _ (n : kind ≢ 76) (room : List ℕ) (made : BecomesAt (moved (view (cacheOf b)) (makeRoom writeFirst (cacheOf b .k) i (stateOf (cacheOf b))) (cacheOf b .closed)) room) where
+  module _ (n : kind ≢ 76) (room : List ℕ) (made : BecomesAt (moved (view (cacheOf b)) (makeRoom (splitOf (cacheOf b .rule)) (cacheOf b .k) i (stateOf (cacheOf b))) (cacheOf b .closed)) room) where
     pub room-servable : ServableAt room i
     room-servable =
         let ready = free-ready (cacheOf b) kind i m (p .free) n (p .valid .cache) in
@@ -149,12 +149,12 @@ module _ (b : List ℕ) (kind i m : ℕ) (p : TablePasses b kind i m) where
         (left : List ℕ) →
         kind ≡ 82 →
         BecomesAt (moved (view (cacheOf room)) (serveRead i (stateOf (cacheOf room))) (cacheOf room .closed)) left →
-        BecomesAt (took writeFirst (view (cacheOf b)) (stepOf kind i m)) left
+        BecomesAt (took (view (cacheOf b)) (stepOf kind i m)) left
     read-took left e h = so (free-read (cacheOf b) kind i m (p .free) n (p .valid .cache) (cacheOf room) (made .cache .stands) e) h
 
     pub write-took :
         (left : List ℕ) →
         kind ≢ 82 →
         BecomesAt (moved (view (cacheOf room)) (serveWrite i m (stateOf (cacheOf room))) (cacheOf room .closed)) left →
-        BecomesAt (took writeFirst (view (cacheOf b)) (stepOf kind i m)) left
+        BecomesAt (took (view (cacheOf b)) (stepOf kind i m)) left
     write-took left e h = so (free-write (cacheOf b) kind i m (p .free) n (p .valid .cache) (cacheOf room) (made .cache .stands) e) h

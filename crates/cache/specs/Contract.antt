@@ -3,7 +3,8 @@
 use mathlib.Core.{Path._≡_, Logic._≢_, Bool.{cond, _&&_}, List.{List, [], _∷_}}
 use Prim.Native.Nat.{ℕ, _%_, _<_, _+_, _*_, _/_}
 use lib.{Dec.{eqb, leb}, ListN.{length, getD, take, drop}, Seq.sets}
-use Rattle.landlord.specs.{Slot.writeFirst, Figures.{Standing, opened, season, totalCost}, Calls.{Call, openingRefusal, refusalNow, after, close, logOf, refusal, ruleOver, stepCall}, Catalog.Catalog, Claims.WithinBound, Fold.tab}
+use Rattle.landlord.specs.declared.Deduction.{Deduction}
+use Rattle.landlord.specs.{Types.deductionOf, Slot.splitOf, Figures.{Standing, opened, season, totalCost}, Calls.{Call, openingRefusal, refusalNow, after, close, logOf, refusal, ruleOver, stepCall}, Catalog.Catalog, Claims.WithinBound, Fold.tab}
 use Rattle.catalog_bytes.specs.Catalogs.{catalogIn}
 use Rattle.cache_state.specs.Cache.{view, EmptyPlace}
 use Rattle.layout.specs.Layout.{stateBytes, cacheOf, ValidBytes, numberAt}
@@ -22,7 +23,7 @@ lent = record { view = λ b. view (cacheOf b); Valid = ValidBytes }
 pub record Answers {C : Type 0} (kind : Kind C) (c : C) (call : Call) (number : ℕ) (d : C) : Type 0 where
   pub answer : number ≡ refusalNow (kind .view c) call
   pub valid : kind .Valid d
-  pub stands : kind .view d ≡ after writeFirst (kind .view c) call
+  pub stands : kind .view d ≡ after (kind .view c) call
   pub refused : number ≢ 0 → d ≡ c
 
 -- a call on any state: an invalid one is refused with 17 and left as it is
@@ -31,15 +32,15 @@ pub record Called {C : Type 0} (kind : Kind C) (c : C) (call : Call) (number : �
   pub invalid : (kind .Valid c → ⊥) → (number ≡ 17) × (d ≡ c)
 
 -- The opening in lent bytes checks the state's length (17), then k and the catalog (3), whose length is a multiple of 5 and at most
--- 1,280. It looks at how many bytes the state has, and at none of them.
-unfoldable pub openingNumber : ℕ → ℕ → List ℕ → ℕ
-openingNumber size k xs =
-    cond (eqb size stateBytes) (cond (eqb (length xs % 5) 0 && leb (length xs) 1280) (openingRefusal k (catalogIn xs)) 3) 17
+-- 1,280, then the rule's number (18). It looks at how many bytes the state has, and at none of them.
+unfoldable pub openingNumber : ℕ → ℕ → ℕ → List ℕ → ℕ
+openingNumber size k rule xs =
+    cond (eqb size stateBytes) (cond (eqb (length xs % 5) 0 && leb (length xs) 1280) (openingRefusal k rule (catalogIn xs)) 3) 17
 
-pub record OpenedLent (b : List ℕ) (k : ℕ) (xs : List ℕ) (number : ℕ) (left : List ℕ) : Type 0 where
-  pub answer : number ≡ openingNumber (length b) k xs
+pub record OpenedLent (b : List ℕ) (k rule : ℕ) (xs : List ℕ) (number : ℕ) (left : List ℕ) : Type 0 where
+  pub answer : number ≡ openingNumber (length b) k rule xs
   pub valid : number ≡ 0 → ValidBytes left
-  pub stands : number ≡ 0 → view (cacheOf left) ≡ opened k (catalogIn xs)
+  pub stands : number ≡ 0 → view (cacheOf left) ≡ opened (splitOf (deductionOf rule)) k (catalogIn xs)
   -- "It has 256 places, one for each sail number, empty at opening"
   pub empty : number ≡ 0 → (i : ℕ) → i < 256 → EmptyPlace (cacheOf left) i
   pub refused : number ≢ 0 → left ≡ b
@@ -67,38 +68,38 @@ pub record Closing (calls : List Call) (numbers : List ℕ) : Type 0 where
   pub isClose : getD calls place close ≡ close
   pub answered : getD numbers place 0 ≡ 0
 
--- The cost of a closed season: exactly the rule's total over the log and its closing, and within the bound: for every h from 1 to k
+-- The cost of a closed season: exactly the total by the opening's rule over the log and its closing, and within the bound: for every h from 1 to k
 -- and every plan of h blocks that is legal over the same steps at cost c, total × (k - h + 1) ≤ k × c.
-pub record Bounded (k : ℕ) (cat : Catalog) (calls : List Call) (total : ℕ) : Type 0 where
-  pub exact : total ≡ totalCost (season writeFirst k cat (logOf k cat calls .steps) .figures)
+pub record Bounded (k : ℕ) (r : Deduction) (cat : Catalog) (calls : List Call) (total : ℕ) : Type 0 where
+  pub exact : total ≡ totalCost (season (splitOf r) k cat (logOf k cat calls .steps) .figures)
   pub bound : WithinBound k cat (logOf k cat calls .steps) total
 
 -- the three conclusions, after the whole list, refused calls after the closing included
-pub record Season {C : Type 0} (kind : Kind C) (k : ℕ) (cat : Catalog) (calls : List Call) (numbers : List ℕ) (d : C) : Type 0 where
+pub record Season {C : Type 0} (kind : Kind C) (k : ℕ) (r : Deduction) (cat : Catalog) (calls : List Call) (numbers : List ℕ) (d : C) : Type 0 where
   pub answers : TableAnswers k cat calls numbers
   pub valid : kind .Valid d
-  pub stands : kind .view d ≡ ruleOver writeFirst k cat (logOf k cat calls)
-  pub cost : Closing calls numbers → Bounded k cat calls (totalCost (kind .view d .figures))
+  pub stands : kind .view d ≡ ruleOver (splitOf r) k cat (logOf k cat calls)
+  pub cost : Closing calls numbers → Bounded k r cat calls (totalCost (kind .view d .figures))
 
 -- The state after the first i calls of a list: it is on the way, valid, and stands where the rule stands over the log of those calls.
-pub record Prefix {C : Type 0} (kind : Kind C) (k : ℕ) (cat : Catalog) (first : C) (calls : List Call) (numbers : List ℕ) (d : C) (i : ℕ) : Type 0 where
+pub record Prefix {C : Type 0} (kind : Kind C) (k : ℕ) (r : Deduction) (cat : Catalog) (first : C) (calls : List Call) (numbers : List ℕ) (d : C) (i : ℕ) : Type 0 where
   pub state : C
   pub reached : Follows kind first (take i calls) (take i numbers) state
   pub rest : Follows kind state (drop i calls) (drop i numbers) d
   pub valid : kind .Valid state
-  pub stands : kind .view state ≡ ruleOver writeFirst k cat (logOf k cat (take i calls))
+  pub stands : kind .view state ≡ ruleOver (splitOf r) k cat (logOf k cat (take i calls))
 
 -- the list starts from an opening that was not refused; nothing else writes the bytes meanwhile
-pub record ChainLent (k : ℕ) (xs : List ℕ) (calls : List Call) (numbers d : List ℕ) : Type 0 where
+pub record ChainLent (k rule : ℕ) (xs : List ℕ) (calls : List Call) (numbers d : List ℕ) : Type 0 where
   pub before : List ℕ
   pub first : List ℕ
-  pub opening : OpenedLent before k xs 0 first
+  pub opening : OpenedLent before k rule xs 0 first
   pub follows : Follows lent first calls numbers d
 
 -- the three conclusions; the total is that of the two numbers at the layout's places of load cost and write cost
-pub record SeasonLent (k : ℕ) (cat : Catalog) (calls : List Call) (numbers d : List ℕ) : Type 0 where
-  pub season : Season lent k cat calls numbers d
-  pub cost : Closing calls numbers → Bounded k cat calls (numberAt d 40 8 + numberAt d 48 8)
+pub record SeasonLent (k : ℕ) (r : Deduction) (cat : Catalog) (calls : List Call) (numbers d : List ℕ) : Type 0 where
+  pub season : Season lent k r cat calls numbers d
+  pub cost : Closing calls numbers → Bounded k r cat calls (numberAt d 40 8 + numberAt d 48 8)
 
 -- ---- a list of calls as one slice of numbers, and what running it gives
 
@@ -111,8 +112,8 @@ callsOf xs =
 
 -- The season theorem of the arguments alone: a refused opening leaves every byte and every answer as it was; else the three
 -- conclusions hold of the answers noted and of the bytes left.
-pub record RanLent (b : List ℕ) (k : ℕ) (xs : List ℕ) (calls : List Call) (before after : List ℕ) (number : ℕ) (left : List ℕ) : Type 0 where
-  pub answer : number ≡ openingNumber (length b) k xs
+pub record RanLent (b : List ℕ) (k rule : ℕ) (xs : List ℕ) (calls : List Call) (before after : List ℕ) (number : ℕ) (left : List ℕ) : Type 0 where
+  pub answer : number ≡ openingNumber (length b) k rule xs
   pub refused : number ≢ 0 → (left ≡ b) × (after ≡ before)
   pub numbers : List ℕ
-  pub season : number ≡ 0 → SeasonLent k (catalogIn xs) calls numbers left × (after ≡ sets before 0 numbers)
+  pub season : number ≡ 0 → SeasonLent k (deductionOf rule) (catalogIn xs) calls numbers left × (after ≡ sets before 0 numbers)

@@ -1,11 +1,12 @@
 -- What the functions of an opening in lent bytes give, and what is said of calls made one after another. Assumes nothing.
 use Prim.Native.Nat.{_+_, _*_, _%_, ℕ, _/_, _≤_, _<_}
-use Rattle.landlord.specs.{Catalog.{Catalog, blocksInRange}, Figures.opened, Calls.{openingRefusal, Call, close, stepCall, refusalNow}}
+use Rattle.landlord.specs.declared.Deduction.{Deduction}
+use Rattle.landlord.specs.{Types.deductionOf, Slot.splitOf, Catalog.{Catalog, blocksInRange}, Figures.opened, Calls.{openingRefusal, Call, close, stepCall, refusalNow}}
 use mathlib.Core.{Bool.{_&&_, cond, Bool, true}, Path._≡_, List.List}
 use lib.{Dec.{leb, eqb}, Seq.sets, ListN.{length, getD}}
 use Rattle.cache.specs.Contract.{Kind, Follows}
 use Rattle.catalog_bytes.specs.Catalogs.{itemIn}
-use Rattle.cache_state.specs.{Cache.{Cache, view}, InnerWith.{withCatalog, withClosed}}
+use Rattle.cache_state.specs.{Cache.{Cache, view}, InnerWith.{withCatalog, withMode}}
 use Rattle.cache_room.specs.InnerStores.{storeTo}
 use Rattle.layout.specs.{Inner.{Readable, cleared}, Layout.{cacheOf, ValidBytes}}
 
@@ -26,9 +27,9 @@ enteredOf c xs n =
     (storeTo n (λ i. itemIn xs i .load) (c .load))
     (storeTo n (λ i. itemIn xs i .write) (c .write))
 
--- a cache of these capacity and catalog, in which nothing is held and nothing counted
-abbrev pub emptyWith : ℕ → ℕ → List ℕ → List ℕ → List ℕ → Bool → Cache
-emptyWith k n blocks load write isClosed = withClosed (withCatalog cleared k n blocks load write) isClosed
+-- a cache of these capacity, catalog and rule, in which nothing is held and nothing counted
+abbrev pub emptyWith : ℕ → ℕ → List ℕ → List ℕ → List ℕ → Bool → Deduction → Cache
+emptyWith k n blocks load write isClosed r = withMode (withCatalog cleared k n blocks load write) isClosed r
 
 -- a number of each of n items, and 0 past them
 pub record Column (n : ℕ) (f : ℕ → ℕ) (r : List ℕ) : Type 0 where
@@ -64,7 +65,7 @@ abbrev pub sized : List ℕ → Bool
 sized xs = eqb (length xs % 5) 0 && leb (length xs) 1280
 
 -- what an opening that was not refused gives
-pub record BeginsAt {C : Type 0} (kind : Kind C) (k : ℕ) (cat : Catalog) (first : C) : Type 0 where
-  pub accepted : openingRefusal k cat ≡ 0
+pub record BeginsAt {C : Type 0} (kind : Kind C) (k rule : ℕ) (cat : Catalog) (first : C) : Type 0 where
+  pub accepted : openingRefusal k rule cat ≡ 0
   pub valid : kind .Valid first
-  pub stands : kind .view first ≡ opened k cat
+  pub stands : kind .view first ≡ opened (splitOf (deductionOf rule)) k cat

@@ -2,7 +2,6 @@
 // store, so a refused call leaves every byte as it was.
 ghost use mathlib.Core.Path.{_≡_};
 ghost use lib.ListN.{set};
-ghost use Rattle.landlord.specs.Slot.{writeFirst};
 ghost use Rattle.landlord.specs.Figures.{took};
 ghost use Rattle.landlord.specs.Calls.{refusalNow, stepOf, stepCall, close};
 ghost use Rattle.validity.specs.InnerDecided.{Decided};
@@ -46,7 +45,7 @@ fn refused(b: &[u8], kind: u32, item: u32, minutes: u32) -> u32
 // A step that the table does not refuse: room is made for its item, and it is served.
 fn serve(b: &mut [u8], kind: u32, item: u32, minutes: u32)
     requires { ⌜ TablePasses (now b) kind item minutes ⌝ }
-    ensures { λ _. ⌜ BecomesAt (took writeFirst (view (cacheOf (now (b .entry)))) (stepOf kind item minutes)) (now (b .exit)) ⌝ }
+    ensures { λ _. ⌜ BecomesAt (took (view (cacheOf (now (b .entry)))) (stepOf kind item minutes)) (now (b .exit)) ⌝ }
 {
     if kind == 76 {
         cache_serve::flush_step(b);
@@ -131,10 +130,10 @@ fn blocks_ok(catalog: &[u8], n: usize) -> bool
     true
 }
 
-// The refusal of an opening: the state's length comes first (17), then the catalog's, the capacity and the blocks (3); 0 if all are
-// right. The costs are in range by their width.
-fn opening_refused(size: usize, k: u32, catalog: &[u8]) -> u32
-    ensures { λ r. ⌜ r ≡ openingNumber size k (now (catalog .entry)) ⌝ }
+// The refusal of an opening: the state's length comes first (17), then the catalog's, the capacity and the blocks (3), then the rule's
+// number (18); 0 if all are right. The costs are in range by their width.
+fn opening_refused(size: usize, k: u32, rule: u32, catalog: &[u8]) -> u32
+    ensures { λ r. ⌜ r ≡ openingNumber size k rule (now (catalog .entry)) ⌝ }
 {
     if size != layout::STATE_BYTES {
         return 17;
@@ -151,11 +150,13 @@ fn opening_refused(size: usize, k: u32, catalog: &[u8]) -> u32
     if 4096 < k {
         return 3;
     }
-    if blocks_ok(catalog, catalog.len() / 5) {
-        0
-    } else {
-        3
+    if !blocks_ok(catalog, catalog.len() / 5) {
+        return 3;
     }
+    if 1 < rule {
+        return 18;
+    }
+    0
 }
 
 // Stores the first `n` items of a catalog in their places.
@@ -172,11 +173,12 @@ fn put_items(b: &mut [u8], catalog: &[u8], n: usize)
     }
 }
 
-// Opens the state for a cache of `k` blocks and the items of the catalog, five bytes each; what the bytes held is not looked at.
-pub fn open(b: &mut [u8], k: u32, catalog: &[u8]) -> u32
-    ensures { λ r. ⌜ OpenedLent (now (b .entry)) k (now (catalog .entry)) r (now (b .exit)) ⌝ }
+// Opens the state for a cache of `k` blocks, a rule of deduction by its number, and the items of the catalog, five bytes each; what the
+// bytes held is not looked at.
+pub fn open(b: &mut [u8], k: u32, rule: u32, catalog: &[u8]) -> u32
+    ensures { λ r. ⌜ OpenedLent (now (b .entry)) k rule (now (catalog .entry)) r (now (b .exit)) ⌝ }
 {
-    let number = opening_refused(b.len(), k, catalog);
+    let number = opening_refused(b.len(), k, rule, catalog);
     if number != 0 {
         return number;
     }
@@ -184,6 +186,7 @@ pub fn open(b: &mut [u8], k: u32, catalog: &[u8]) -> u32
     layout::clear(b);
     layout::put_capacity(b, k);
     layout::put_count(b, n);
+    layout::put_rule(b, landlord::deduction_of(rule));
     put_items(b, catalog, n);
     0
 }
@@ -229,10 +232,17 @@ pub fn run_calls(b: &mut [u8], calls: &[u32], answers: &mut [u32])
 }
 
 // A whole list of calls on lent bytes, from an opening on; it answers the opening's number.
-pub fn run(b: &mut [u8], k: u32, catalog: &[u8], calls: &[u32], answers: &mut [u32]) -> u32
-    ensures { λ r. ⌜ RanLent (now (b .entry)) k (now (catalog .entry)) (callsOf (now (calls .entry))) (now (answers .entry)) (now (answers .exit)) r (now (b .exit)) ⌝ }
+pub fn run(
+    b: &mut [u8],
+    k: u32,
+    rule: u32,
+    catalog: &[u8],
+    calls: &[u32],
+    answers: &mut [u32],
+) -> u32
+    ensures { λ r. ⌜ RanLent (now (b .entry)) k rule (now (catalog .entry)) (callsOf (now (calls .entry))) (now (answers .entry)) (now (answers .exit)) r (now (b .exit)) ⌝ }
 {
-    let number = open(b, k, catalog);
+    let number = open(b, k, rule, catalog);
     if number != 0 {
         return number;
     }

@@ -1,26 +1,30 @@
 -- The laws of an eviction for the bytes that it is made on: which cache they are after each store. Assumes nothing.
-use mathlib.Core.Path.{_≡_, sym, ap, _∙_}
+use mathlib.Core.Path.{_≡_, sym, ap, subst, _∙_}
 use mathlib.Core.Bool.{Bool, true, false}
 use mathlib.Core.List.{List}
 use Prim.Native.Nat.{ℕ, _+_, _*_, _-_, _/_, _≤_, _<_}
 use native.Mathlib.Nat.{le-refl}
 use native.Mathlib.Omega.{arith}
 use lib.ListN.{getD, set}
-use Rattle.landlord.specs.Slot.{writeFirst}
-use Rattle.landlord.specs.Rule.{victim, evict}
+use Rattle.landlord.specs.declared.Deduction.{Deduction}
+use Rattle.landlord.specs.Slot.{splitOf}
+use Rattle.landlord.specs.Rule.{size, victim, evict}
 use Rattle.landlord.specs.Figures.{moved}
+use Rattle.landlord.specs.Claims.{Least}
+use Rattle.landlord.proofs.Keeps.{victim-least, bears-rank}
 use Rattle.marks.specs.Inner.{marks}
-use Rattle.cache_state.specs.Cache.{Cache, dirtyAt, view, Normal}
+use Rattle.cache_state.specs.Cache.{Cache, dirtyAt, view, Normal, Valid}
 use Rattle.cache_state.specs.InnerView.{stateOf}
 use Rattle.cache_state.specs.InnerWith.{withHeld, withLoadCredit, withWriteCredit, withDirty, withEvictions, withDirtyEvictions, withWritebacks, withWriteCost, withItemWritebacks}
+use Rattle.cache_state.proofs.Views.{size-is, blocks-is, held-is}
 use Rattle.layout.specs.Layout.{cacheOf}
 use Rattle.layout.specs.Inner.{Stands, Readable, ValidAt, BecomesAt}
 use Rattle.layout.proofs.Rounds.{whole}
 use Rattle.layout.proofs.Places.{readable, stands-as, valid-reads}
-use Rattle.cache_room.specs.Inner.{mostCredit, Ranked, withCounts, loadLeft, writeLeft, chargedOf, droppedOf, countedOf, ChargeableAt, DroppedAt, CountableAt, CrowdedAt}
+use Rattle.cache_room.specs.Inner.{mostCredit, Ranked, withCounts, lossAt, borneAt, loadLeft, writeLeft, chargedOf, droppedOf, countedOf, ChargeableAt, DroppedAt, CountableAt, CrowdedAt}
 use Rattle.cache_room.proofs.Laws.{store-past}
-use Rattle.cache_room.proofs.Views.{rankOf, ranked, rank-bound, Choosing, Turn}
-use Rattle.cache_room.proofs.Stores.{EvictionSizes, charge-starts, charge-more, charge-skip}
+use Rattle.cache_room.proofs.Views.{rankOf, load-is, write-is, rank-is, ranked, rank-bound, Choosing, Turn}
+use Rattle.cache_room.proofs.Stores.{EvictionSizes, Borne, split-borne, charge-starts, charge-more, charge-skip}
 use Rattle.cache_room.proofs.Evicts.{Leaving, victim-known, countable, evict-becomes}
 
 -- ---- the search: an item that is held, with its rank from what is read
@@ -51,36 +55,50 @@ turn-at b n ok so l eh h el ew eb is =
 pub charge-begun : {b : List ℕ} (m : ℕ) → Readable b → Stands b (chargedOf (cacheOf b) m 0)
 charge-begun {b} m s = stands-as s (charge-starts (cacheOf b) m)
 
--- one item more: its numbers are read before they are stored, so they are those that came in
-pub charge-stored :
-    (c : Cache) (m i : ℕ) (b b1 b2 : List ℕ) {blocks write load x y z : ℕ} →
-    Stands b (chargedOf c m i) →
-    blocks ≡ getD (cacheOf b .blocks) i 0 →
-    write ≡ getD (cacheOf b .writecredit) i 0 →
-    load ≡ getD (cacheOf b .loadcredit) i 0 →
-    x ≡ write - blocks * m →
-    y ≡ blocks * m - write →
-    z ≡ load - y →
-    Stands b1 (withWriteCredit (cacheOf b) i x) →
-    Stands b2 (withLoadCredit (cacheOf b1) i z) →
-    Stands b2 (chargedOf c m (i + 1))
-charge-stored c m i b b1 b2 {blocks} {write} {load} {x} {y} {z} s eb ew el ex ey ez s1 s2 =
-    stands-as s2 (ap (λ (q : Cache). withLoadCredit q i z) (s1 .cache) ∙ charge-more c (cacheOf b) m i (s .cache) is-load is-write)
-  where
-    b-is : blocks ≡ getD (c .blocks) i 0
-    b-is = eb ∙ ap (λ (q : Cache). getD (q .blocks) i 0) (s .cache)
+-- one item more: its numbers are read before they are stored, so they are those that came in; t is what its write credit bears
+module _
+    (c : Cache) (m i : ℕ) (b : List ℕ) {rule : Deduction} {blocks write load t : ℕ} (s : Stands b (chargedOf c m i)) (er : rule ≡ c .rule)
+    (eb : blocks ≡ getD (cacheOf b .blocks) i 0) (ew : write ≡ getD (cacheOf b .writecredit) i 0) (el : load ≡ getD (cacheOf b .loadcredit) i 0)
+    (et : (s : ℕ) → t ≡ splitOf rule s (blocks * m) load write) where
+  b-is : blocks ≡ getD (c .blocks) i 0
+  b-is = eb ∙ ap (λ (q : Cache). getD (q .blocks) i 0) (s .cache)
 
-    w-is : write ≡ getD (c .writecredit) i 0
-    w-is = ew ∙ ap (λ (q : Cache). getD (q .writecredit) i 0) (s .cache) ∙ store-past i (writeLeft c m) (c .writecredit) i (le-refl i)
+  w-is : write ≡ getD (c .writecredit) i 0
+  w-is = ew ∙ ap (λ (q : Cache). getD (q .writecredit) i 0) (s .cache) ∙ store-past i (writeLeft c m) (c .writecredit) i (le-refl i)
 
-    l-is : load ≡ getD (c .loadcredit) i 0
-    l-is = el ∙ ap (λ (q : Cache). getD (q .loadcredit) i 0) (s .cache) ∙ store-past i (loadLeft c m) (c .loadcredit) i (le-refl i)
+  l-is : load ≡ getD (c .loadcredit) i 0
+  l-is = el ∙ ap (λ (q : Cache). getD (q .loadcredit) i 0) (s .cache) ∙ store-past i (loadLeft c m) (c .loadcredit) i (le-refl i)
 
-    is-write : x ≡ writeLeft c m i
-    is-write = ex ∙ (λ t. w-is t - b-is t * m)
+  t-is : t ≡ borneAt c m i
+  t-is = et blocks ∙ (λ j. splitOf (er j) (b-is j) (b-is j * m) (l-is j) (w-is j))
 
-    is-load : z ≡ loadLeft c m i
-    is-load = ez ∙ ap (λ (v : ℕ). load - v) ey ∙ (λ t. l-is t - (b-is t * m - w-is t))
+  -- a held item can bear it
+  pub charge-fits :
+      {h : Bool} →
+      h ≡ getD (cacheOf b .held) i false →
+      h ≡ true →
+      (getD (c .held) i false ≡ true → lossAt c m i ≤ getD (c .loadcredit) i 0 + getD (c .writecredit) i 0) →
+      Borne (blocks * m) load write t
+  charge-fits eh is bears =
+      let own : getD (c .held) i false ≡ true = sym (ap (λ (q : Cache). getD (q .held) i false) (s .cache)) ∙ sym eh ∙ is in
+      subst (Borne (blocks * m) load write) (sym (et 0)) (split-borne rule 0 (blocks * m) load write (rw (b-is, l-is, w-is) (bears own)))
+
+  pub charge-stored :
+      (b1 b2 : List ℕ) {x y z : ℕ} →
+      x ≡ write - t →
+      y ≡ blocks * m - t →
+      z ≡ load - y →
+      Stands b1 (withWriteCredit (cacheOf b) i x) →
+      Stands b2 (withLoadCredit (cacheOf b1) i z) →
+      Stands b2 (chargedOf c m (i + 1))
+  charge-stored b1 b2 {x} {y} {z} ex ey ez s1 s2 =
+      stands-as s2 (ap (λ (q : Cache). withLoadCredit q i z) (s1 .cache) ∙ charge-more c (cacheOf b) m i (s .cache) is-load is-write)
+    where
+      is-write : x ≡ writeLeft c m i
+      is-write = ex ∙ (λ j. w-is j - t-is j)
+
+      is-load : z ≡ loadLeft c m i
+      is-load = ez ∙ ap (λ (v : ℕ). load - v) ey ∙ (λ j. l-is j - (b-is j * m - t-is j))
 
 -- one item more that is not held
 pub charge-passed :
@@ -159,9 +177,6 @@ counted-clean b left v ee s was =
 
 -- ---- the eviction of the victim v, of rank m
 
-pub chargeable : {b : List ℕ} {n m : ℕ} → ValidAt b n → m ≤ mostCredit + mostCredit → ChargeableAt b n m
-chargeable ok l = record { reads = valid-reads (ok .valid); count = ok .count; fields = ok .valid .cache .fields; rank = l }
-
 module _ (b : List ℕ) (n : ℕ) {v : ℕ} (p : CrowdedAt b n) (is : v ≡ victim (stateOf (cacheOf b))) where
   known : v < cacheOf b .n
   known = victim-known (cacheOf b) (p .some) is
@@ -172,8 +187,26 @@ module _ (b : List ℕ) (n : ℕ) {v : ℕ} (p : CrowdedAt b n) (is : v ≡ vict
   pub victim-ranked : Ranked (getD (cacheOf b .loadcredit) v 0) (getD (cacheOf b .writecredit) v 0) (getD (cacheOf b .blocks) v 0)
   victim-ranked = ranked (cacheOf b) (p .valid .valid .cache) v known
 
-  pub victim-bound : rankOf (cacheOf b) v ≤ mostCredit + mostCredit
-  victim-bound = rank-bound (cacheOf b) (p .valid .valid .cache) v known
+  -- no item has a lower rank, so each that is held can bear the victim's
+  victim-bears : (i : ℕ) → i < n → getD (cacheOf b .held) i false ≡ true → lossAt (cacheOf b) (rankOf (cacheOf b) v) i ≤ getD (cacheOf b .loadcredit) i 0 + getD (cacheOf b .writecredit) i 0
+  victim-bears i l h =
+      let q : Cache = cacheOf b in
+      let ok : Valid q = p .valid .valid .cache in
+      let m : i < q .n = omega (arith, p .valid .count) in
+      let k : i < size (stateOf q) = omega (arith, size-is q) in
+      let low : Least (stateOf q) (victim (stateOf q)) = victim-least (stateOf q) (p .some) in
+      rw (← rank-is q (ok .fields) v known, ← load-is q (ok .fields) i m, ← write-is q (ok .fields) i m, ← blocks-is q i m, is)
+      (bears-rank (q .k) (stateOf q) (victim (stateOf q)) i (ok .rule .kept) k (low .least i k (held-is q i m ∙ h)))
+
+  pub chargeable : {m : ℕ} → m ≡ rankOf (cacheOf b) v → ChargeableAt b n m
+  chargeable e =
+      record {
+        reads = valid-reads (p .valid .valid);
+        count = p .valid .count;
+        fields = p .valid .valid .cache .fields;
+        rank = rw e (rank-bound (cacheOf b) (p .valid .valid .cache) v known);
+        bears = λ i l h. rw e (victim-bears i l h);
+      }
 
   -- what the eviction leaves when the others are charged, and then when v is dropped
   module _ (m : ℕ) (b1 b2 : List ℕ) (s1 : Stands b1 (chargedOf (cacheOf b) m n)) (s2 : DroppedAt b1 v b2) where
@@ -188,7 +221,7 @@ module _ (b : List ℕ) (n : ℕ) {v : ℕ} (p : CrowdedAt b n) (is : v ≡ vict
         m ≡ rankOf (cacheOf b) v →
         d ≡ dirtyAt (cacheOf b) v →
         Stands left (countedOf (cacheOf b2) v d) →
-        BecomesAt (moved (view (cacheOf b)) (evict writeFirst (stateOf (cacheOf b))) (cacheOf b .closed)) left
+        BecomesAt (moved (view (cacheOf b)) (evict (splitOf (cacheOf b .rule)) (stateOf (cacheOf b))) (cacheOf b .closed)) left
     evicted-at left worth was s3 =
         record {
           reads = readable s3;

@@ -7,7 +7,7 @@ use native.Mathlib.Omega.{arith}
 use lib.Dec.{eqb}
 use lib.ListN.{set}
 use Rattle.landlord.specs.Fold.{tab, fold}
-use Rattle.landlord.specs.Slot.{Slot, absent, isDirty, writeFirst, lose}
+use Rattle.landlord.specs.Slot.{Slot, absent, isDirty, splitOf, lose}
 use Rattle.landlord.specs.Rule.{size, slotAt, blocksAt, rank, used, victim, evict, evictItem, evicted}
 use Rattle.landlord.specs.Figures.{Use, tally, moved}
 use Rattle.landlord.proofs.Folds.{tab-eq}
@@ -32,16 +32,16 @@ module _
   abbrev slotAfter : ℕ → Slot
   slotAfter i =
       cond (eqb i v) absent
-      (lose writeFirst (blocksAt (stateOf c) i) (blocksAt (stateOf c) i * rank (stateOf c) v) (slotAt (stateOf c) i))
+      (lose (splitOf (c .rule)) (blocksAt (stateOf c) i) (blocksAt (stateOf c) i * rank (stateOf c) v) (slotAt (stateOf c) i))
 
   slot-after : (i : ℕ) → i < c .n → slotOf left i ≡ slotAfter i
   slot-after i b =
       dropped-slot (chargedOf c m (c .n)) v ws (charged-sizes c m sizes ok) (charged-normal c m sizes ok) l un i b
       ∙ ap (λ (s : Slot). cond (eqb i v) absent s)
       (charged-slot c m sizes ok i b
-      ∙ (λ z. lose writeFirst (sym (blocks-is c i b) z) (sym (blocks-is c i b) z * is z) (sym (slot-is c i b) z)))
+      ∙ (λ z. lose (splitOf (c .rule)) (sym (blocks-is c i b) z) (sym (blocks-is c i b) z * is z) (sym (slot-is c i b) z)))
 
-  state-after : stateOf left ≡ evictItem writeFirst v (stateOf c)
+  state-after : stateOf left ≡ evictItem (splitOf (c .rule)) v (stateOf c)
   unfolding catalogOf slotsOf evictItem
   state-after =
       λ z.
@@ -58,7 +58,7 @@ module _
 
   view-after :
       view (countedOf left v d)
-      ≡ moved (view c) (record { state = evictItem writeFirst v (stateOf c); events = evicted v (isDirty (slotAt (stateOf c) v)) ∷ [] }) (c .closed)
+      ≡ moved (view c) (record { state = evictItem (splitOf (c .rule)) v (stateOf c); events = evicted v (isDirty (slotAt (stateOf c) v)) ∷ [] }) (c .closed)
   unfolding fold catalogOf usesOf
   view-after =
       counted-view left v left-sizes left-normal l d
@@ -68,6 +68,7 @@ module _
         state = state-after z;
         figures = tally (catalogOf c) (figuresOf c) (evicted v ((was ∙ sym (dirty-is c ok v l)) z));
         closed = c .closed;
+        split = splitOf (c .rule);
       })
 
 -- the victim of a cache that holds something
@@ -114,15 +115,15 @@ pub evict-becomes :
     d ≡ dirtyAt c v →
     Leaving c v m ch e →
     r ≡ countedOf e v d →
-    Becomes (moved (view c) (evict writeFirst (stateOf c)) (c .closed)) r
+    Becomes (moved (view c) (evict (splitOf (c .rule)) (stateOf c)) (c .closed)) r
 evict-becomes c {v} {m} ch e {d} r sizes ok some least is was so counts =
-    subst (Becomes (moved (view c) (evict writeFirst (stateOf c)) (c .closed)))
+    subst (Becomes (moved (view c) (evict (splitOf (c .rule)) (stateOf c)) (c .closed)))
     (sym (counts ∙ ap (λ (q : Cache). countedOf q v d) (leaving c ch e so)))
     (record {
       stands =
           view-after c v m (e .dirty) d sizes ok l worth un was
           ∙ ap (λ (u : ℕ).
-          moved (view c) (record { state = evictItem writeFirst u (stateOf c); events = evicted u (isDirty (slotAt (stateOf c) u)) ∷ [] }) (c .closed))
+          moved (view c) (record { state = evictItem (splitOf (c .rule)) u (stateOf c); events = evicted u (isDirty (slotAt (stateOf c) u)) ∷ [] }) (c .closed))
           least;
       fields =
           counted-normal (droppedOf (chargedOf c m (c .n)) v (e .dirty)) v (left-sizes c v m (e .dirty) d sizes ok l worth un was)

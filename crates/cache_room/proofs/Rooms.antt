@@ -6,12 +6,12 @@ use native.Mathlib.Omega.{arith}
 use borrow.Author.Tests.{le-leb, lt-leb}
 use lib.ListN.{length, getD}
 use Rattle.landlord.specs.Fold.{fold}
-use Rattle.landlord.specs.Slot.{Split, held, writeFirst}
+use Rattle.landlord.specs.Slot.{Split, held, splitOf}
 use Rattle.landlord.specs.Rule.{State, Moved, stay, joined, size, blocksAt, used, heldCount, victim, evict, evictFor, makeRoom}
 use Rattle.landlord.specs.Figures.{Standing, moved}
 use Rattle.landlord.specs.Claims.{Least}
 use Rattle.landlord.specs.Valid.{StandingOk}
-use Rattle.landlord.proofs.Slots.{write-first-ok}
+use Rattle.landlord.proofs.Slots.{deduction-ok}
 use Rattle.landlord.proofs.Keeps.{victim-least, evict-used, evict-count, evict-catalog}
 use Rattle.landlord.proofs.Valid.{ok-evict, moved-joined}
 use Rattle.cache_state.specs.Cache.{Cache, view, Normal, Valid}
@@ -38,25 +38,25 @@ room-more split k blocks (suc t) x e l =
 
 -- where the rule stands when room for `blocks` is made
 abbrev pub roomFor : ℕ → ℕ → Standing → Standing
-roomFor k blocks v = moved v (evictFor (heldCount (v .state)) writeFirst k blocks (v .state)) (v .closed)
+roomFor k blocks v = moved v (evictFor (heldCount (v .state)) (v .split) k blocks (v .state)) (v .closed)
 
 -- where it stands after one eviction
 abbrev pub evictedFrom : Standing → Standing
-evictedFrom v = moved v (evict writeFirst (v .state)) (v .closed)
+evictedFrom v = moved v (evict (v .split) (v .state)) (v .closed)
 
 for-enough : (k blocks : ℕ) (v : Standing) → used (v .state) + blocks ≤ k → roomFor k blocks v ≡ v
 unfolding fold
 for-enough k blocks v l =
-    ap (λ (m : Moved). moved v m (v .closed)) (room-enough writeFirst k blocks (heldCount (v .state)) (v .state) l)
+    ap (λ (m : Moved). moved v m (v .closed)) (room-enough (v .split) k blocks (heldCount (v .state)) (v .state) l)
 
 for-more : (k blocks : ℕ) (v : Standing) → blocks ≤ k → k < used (v .state) + blocks → roomFor k blocks (evictedFrom v) ≡ roomFor k blocks v
 for-more k blocks v fits l =
     let x : State = v .state in
     let low : Least x (victim x) = victim-least x (omega arith) in
     sym (ap (λ (m : Moved). moved v m (v .closed))
-    (room-more writeFirst k blocks (heldCount x) x (evict-count writeFirst (victim x) x (low .below) (low .isHeld)) l)
-    ∙ moved-joined v (evict writeFirst x) (evictFor (heldCount (evict writeFirst x .state)) writeFirst k blocks (evict writeFirst x .state)) (v .closed)
-    (evict-catalog writeFirst (victim x) x))
+    (room-more (v .split) k blocks (heldCount x) x (evict-count (v .split) (victim x) x (low .below) (low .isHeld)) l)
+    ∙ moved-joined v (evict (v .split) x) (evictFor (heldCount (evict (v .split) x .state)) (v .split) k blocks (evict (v .split) x .state)) (v .closed)
+    (evict-catalog (v .split) (victim x) x))
 
 -- The loop, on its way from q₀ to room for `blocks` in k; u are the blocks held.
 pub record RoomGoing (k blocks : ℕ) (q₀ q : Cache) (u : ℕ) : Type 0 where
@@ -90,7 +90,7 @@ going-on {k} {blocks} q₀ q r {u} {f} so fits l is out =
             valid =
                 record {
                   fields = out .fields;
-                  rule = subst StandingOk (sym (out .stands)) (ok-evict writeFirst (view q) write-first-ok (so .valid .rule) low);
+                  rule = subst StandingOk (sym (out .stands)) (ok-evict (splitOf (q .rule)) (view q) (deduction-ok (q .rule)) (so .valid .rule) low);
                 };
             count = same-count ∙ so .count;
             taken = omega (arith, freed);
@@ -100,7 +100,7 @@ going-on {k} {blocks} q₀ q r {u} {f} so fits l is out =
           omega (
             arith,
             ap (λ (v : Standing). heldCount (v .state)) (out .stands),
-            evict-count writeFirst (victim (stateOf q)) (stateOf q) (low .below) (low .isHeld),
+            evict-count (splitOf (q .rule)) (victim (stateOf q)) (stateOf q) (low .below) (low .isHeld),
           );
     }
   where
@@ -114,7 +114,7 @@ going-on {k} {blocks} q₀ q r {u} {f} so fits l is out =
         omega (
           arith,
           ap (λ (v : Standing). used (v .state)) (out .stands),
-          evict-used writeFirst (victim (stateOf q)) (stateOf q) (low .below) (low .isHeld),
+          evict-used (splitOf (q .rule)) (victim (stateOf q)) (stateOf q) (low .below) (low .isHeld),
           blocks-is q (victim (stateOf q)) known,
         )
 
@@ -122,7 +122,7 @@ going-on {k} {blocks} q₀ q r {u} {f} so fits l is out =
     same-count =
         sym (size-is r)
         ∙ ap (λ (v : Standing). size (v .state)) (out .stands)
-        ∙ ap length (evict-catalog writeFirst (victim (stateOf q)) (stateOf q))
+        ∙ ap length (evict-catalog (splitOf (q .rule)) (victim (stateOf q)) (stateOf q))
         ∙ size-is q
 
 -- a hit: nothing is to be done
@@ -131,13 +131,13 @@ pub room-hit :
     Normal c →
     i < c .n →
     getD (c .held) i false ≡ true →
-    Becomes (moved (view c) (makeRoom writeFirst (c .k) i (stateOf c)) (c .closed)) c
+    Becomes (moved (view c) (makeRoom (splitOf (c .rule)) (c .k) i (stateOf c)) (c .closed)) c
 unfolding makeRoom fold
 room-hit c i ok l h =
     record {
       stands =
           sym (ap (λ (t : Bool).
-          moved (view c) (cond t (stay (stateOf c)) (evictFor (heldCount (stateOf c)) writeFirst (c .k) (blocksAt (stateOf c) i) (stateOf c))) (c .closed))
+          moved (view c) (cond t (stay (stateOf c)) (evictFor (heldCount (stateOf c)) (splitOf (c .rule)) (c .k) (blocksAt (stateOf c) i) (stateOf c))) (c .closed))
           (held-is c i l ∙ h));
       fields = ok;
     }
@@ -151,7 +151,7 @@ pub room-miss :
     getD (c .held) i false ≡ false →
     RoomGoing k blocks c q u →
     u + blocks ≤ k →
-    Becomes (moved (view c) (makeRoom writeFirst (c .k) i (stateOf c)) (c .closed)) q
+    Becomes (moved (view c) (makeRoom (splitOf (c .rule)) (c .k) i (stateOf c)) (c .closed)) q
 unfolding makeRoom
 room-miss c q i {k} {blocks} ek eb l h so enough =
     record {
@@ -160,7 +160,7 @@ room-miss c q i {k} {blocks} ek eb l h so enough =
           ∙ so .goal
           ∙ (λ z. roomFor (ek z) ((eb ∙ sym (blocks-is c i l)) z) (view c))
           ∙ sym (ap (λ (t : Bool).
-          moved (view c) (cond t (stay (stateOf c)) (evictFor (heldCount (stateOf c)) writeFirst (c .k) (blocksAt (stateOf c) i) (stateOf c))) (c .closed))
+          moved (view c) (cond t (stay (stateOf c)) (evictFor (heldCount (stateOf c)) (splitOf (c .rule)) (c .k) (blocksAt (stateOf c) i) (stateOf c))) (c .closed))
           (held-is c i l ∙ h));
       fields = so .valid .fields;
     }

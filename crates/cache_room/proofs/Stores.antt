@@ -4,7 +4,7 @@ use mathlib.Core.Path.{_≡_, refl, sym, ap, subst, _∙_}
 use mathlib.Core.Logic.{_≢_}
 use mathlib.Core.Bool.{Bool, true, false, cond}
 use mathlib.Core.List.{List}
-use Prim.Native.Nat.{ℕ, _+_, _*_, _-_, _≤_, _<_, min, _^_}
+use Prim.Native.Nat.{ℕ, _+_, _*_, _-_, _≤_, _<_, _^_}
 use native.Mathlib.Nat.{add-zero, mul-le-mul, lt-of-le-of-lt}
 use native.Mathlib.Decide.{ℕ-discrete}
 use native.Mathlib.Omega.{arith}
@@ -12,8 +12,10 @@ use lib.Dec.{eqb, lit<}
 use borrow.Author.Tests.{eq-eqb, ne-eqb}
 use lib.ListN.{length, getD, set, length-set}
 use lib.Seq.{getD-set-same, getD-set-other}
+use Rattle.landlord.specs.declared.Deduction.{Deduction}
+use Rattle.landlord.specs.declared.Deduction.the-variants.{WriteFirst, LoadFirst}
 use Rattle.landlord.specs.Fold.{tab}
-use Rattle.landlord.specs.Slot.{absent, clean, dirty, writeFirst, lose}
+use Rattle.landlord.specs.Slot.{absent, clean, dirty, splitOf, lose}
 use Rattle.landlord.specs.Rule.{size, evicted}
 use Rattle.landlord.specs.Figures.{totalsOf, plusTotals, adds, Use, useOf, plusUse, noUse, usage, useAt, tally}
 use Rattle.landlord.proofs.Folds.{tab-eq}
@@ -58,20 +60,30 @@ slots-normal c h a b d ok past unheld unmarked =
       clean = unmarked;
     }
 
+-- a part of a loss that the write credit can bear, and the load credit the rest
+pub record Borne (loss a b t : ℕ) : Type 0 where
+  pub part : t ≤ loss
+  pub write : t ≤ b
+  pub load : loss - t ≤ a
+
+-- each rule finds one where the two credits together can bear the loss
+pub split-borne : (r : Deduction) (s loss a b : ℕ) → loss ≤ a + b → Borne loss a b (splitOf r s loss a b)
+split-borne WriteFirst s loss a b l = record { part = omega arith; write = omega arith; load = omega arith }
+split-borne LoadFirst s loss a b l = record { part = omega arith; write = omega arith; load = omega arith }
+
+-- where there is no write credit, the load credit bears it all
+clean-bears : (r : Deduction) (s loss a b : ℕ) → b ≡ 0 → a - (loss - splitOf r s loss a b) ≡ a - loss
+clean-bears WriteFirst s loss a b e = omega arith
+clean-bears LoadFirst s loss a b e = omega arith
+
 -- a slot that loses, from what it was made of
 lose-from :
-    (h d : Bool) (a b s loss : ℕ) →
+    (r : Deduction) (h d : Bool) (a b s loss : ℕ) →
     (d ≡ false → b ≡ 0) →
-    slotFrom h d (a - (loss - b)) (b - loss) ≡ lose writeFirst s loss (slotFrom h d a b)
-lose-from true true a b s loss f =
-    let x : loss - b ≡ loss - min loss b = omega arith in
-    let y : b - loss ≡ b - min loss b = omega arith in
-    λ z. dirty (a - x z) (y z)
-lose-from true false a b s loss f =
-    let e : b ≡ 0 = f refl in
-    let x : a - (loss - b) ≡ a - loss = omega arith in
-    ap clean x
-lose-from false d a b s loss f = refl
+    slotFrom h d (a - (loss - splitOf r s loss a b)) (b - splitOf r s loss a b) ≡ lose (splitOf r) s loss (slotFrom h d a b)
+lose-from r true true a b s loss f = refl
+lose-from r true false a b s loss f = ap clean (clean-bears r s loss a b (f refl))
+lose-from r false d a b s loss f = refl
 
 -- a loss fits its 64 bits
 pub loss-fits : {s m : ℕ} → s < 256 → m ≤ mostCredit + mostCredit → s * m < 2 ^ 64
@@ -109,10 +121,10 @@ module _ (c : Cache) (m : ℕ) (sizes : EvictionSizes c) (ok : Normal c) where
   write-left : (i : ℕ) → i < c .n → getD (charged .writecredit) i 0 ≡ writeLeft c m i
   write-left i l = store-at (c .n) (writeLeft c m) (c .writecredit) i (let e : length (c .writecredit) ≡ 256 = sizes .write in omega (arith, ok .few)) l
 
-  pub charged-slot : (i : ℕ) → i < c .n → slotOf charged i ≡ lose writeFirst (getD (c .blocks) i 0) (getD (c .blocks) i 0 * m) (slotOf c i)
+  pub charged-slot : (i : ℕ) → i < c .n → slotOf charged i ≡ lose (splitOf (c .rule)) (getD (c .blocks) i 0) (getD (c .blocks) i 0 * m) (slotOf c i)
   charged-slot i l =
       (λ z. slotFrom (getD (c .held) i false) (dirtyAt c i) (load-left i l z) (write-left i l z))
-      ∙ lose-from (getD (c .held) i false) (dirtyAt c i) (getD (c .loadcredit) i 0) (getD (c .writecredit) i 0) (getD (c .blocks) i 0)
+      ∙ lose-from (c .rule) (getD (c .held) i false) (dirtyAt c i) (getD (c .loadcredit) i 0) (getD (c .writecredit) i 0) (getD (c .blocks) i 0)
       (getD (c .blocks) i 0 * m) (λ d. ok .clean i l d)
 
   pub charged-sizes : EvictionSizes charged
@@ -287,9 +299,9 @@ module _ (c : Cache) (v : ℕ) (sizes : EvictionSizes c) (ok : Normal c) (l : v 
 
   pub counted-view :
       (d : Bool) →
-      view (counted d) ≡ record { k = c .k; state = stateOf c; figures = tally (catalogOf c) (figuresOf c) (evicted v d); closed = c .closed }
+      view (counted d) ≡ record { k = c .k; state = stateOf c; figures = tally (catalogOf c) (figuresOf c) (evicted v d); closed = c .closed; split = splitOf (c .rule) }
   unfolding catalogOf slotsOf usesOf
   counted-view false =
-      λ z. record { k = c .k; state = stateOf c; figures = record { totals = totals-more false z; uses = uses-more false z }; closed = c .closed }
+      λ z. record { k = c .k; state = stateOf c; figures = record { totals = totals-more false z; uses = uses-more false z }; closed = c .closed; split = splitOf (c .rule) }
   counted-view true =
-      λ z. record { k = c .k; state = stateOf c; figures = record { totals = totals-more true z; uses = uses-more true z }; closed = c .closed }
+      λ z. record { k = c .k; state = stateOf c; figures = record { totals = totals-more true z; uses = uses-more true z }; closed = c .closed; split = splitOf (c .rule) }

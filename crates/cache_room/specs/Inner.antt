@@ -2,7 +2,7 @@
 use mathlib.Core.{Path._≡_, Bool.{Bool, true, false}, List.List}
 use Prim.Native.Nat.{ℕ, _+_, _*_, _-_, _≤_, _<_}
 use lib.ListN.{getD, set}
-use Rattle.landlord.specs.{Catalog.full, Rule.used, Figures.totalsOf}
+use Rattle.landlord.specs.{Catalog.full, Slot.splitOf, Rule.used, Figures.totalsOf}
 use Rattle.marks.specs.Inner.{marks}
 use Rattle.cache_state.specs.{Cache.{Cache, Normal}, InnerView.stateOf}
 use Rattle.layout.specs.{Layout.{cacheOf, ValidBytes}, Inner.{Readable, ValidAt}}
@@ -28,12 +28,16 @@ withCounts c e de w wc ws =
 abbrev pub lossAt : Cache → ℕ → ℕ → ℕ
 lossAt c m i = getD (c .blocks) i 0 * m
 
--- its credits after that: the write credit bears what it can, and the load credit the rest
+-- the part of it that the write credit bears
+abbrev pub borneAt : Cache → ℕ → ℕ → ℕ
+borneAt c m i = splitOf (c .rule) (getD (c .blocks) i 0) (lossAt c m i) (getD (c .loadcredit) i 0) (getD (c .writecredit) i 0)
+
+-- its credits after that: the load credit bears the rest
 abbrev pub writeLeft : Cache → ℕ → ℕ → ℕ
-writeLeft c m i = getD (c .writecredit) i 0 - lossAt c m i
+writeLeft c m i = getD (c .writecredit) i 0 - borneAt c m i
 
 abbrev pub loadLeft : Cache → ℕ → ℕ → ℕ
-loadLeft c m i = getD (c .loadcredit) i 0 - (lossAt c m i - getD (c .writecredit) i 0)
+loadLeft c m i = getD (c .loadcredit) i 0 - (lossAt c m i - borneAt c m i)
 
 -- the items below n have lost m for each block
 abbrev pub chargedOf : Cache → ℕ → ℕ → Cache
@@ -65,12 +69,15 @@ pub record Countable (c : Cache) (v : ℕ) : Type 0 where
 
 -- ---- of the bytes of a state
 
--- bytes of n items that can be charged: what is not held has no credit, and a rank is at most the two credits
+-- bytes of n items that can be charged: what is not held has no credit, a rank is at most the two credits, and what is held can bear it
 pub record ChargeableAt (b : List ℕ) (n m : ℕ) : Type 0 where
   pub reads : Readable b
   pub count : n ≡ cacheOf b .n
   pub fields : Normal (cacheOf b)
   pub rank : m ≤ mostCredit + mostCredit
+  pub bears :
+      (i : ℕ) → i < n → getD (cacheOf b .held) i false ≡ true →
+      lossAt (cacheOf b) m i ≤ getD (cacheOf b .loadcredit) i 0 + getD (cacheOf b .writecredit) i 0
 
 -- item v is dropped
 pub record DroppedAt (b : List ℕ) (v : ℕ) (left : List ℕ) : Type 0 where

@@ -2,7 +2,7 @@
 ghost use Prim.Native.Nat.{_+_, _-_, _/_, _<_};
 ghost use mathlib.Core.Path.{_≡_};
 ghost use lib.ListN.{getD};
-ghost use Rattle.landlord.specs.Slot.{writeFirst};
+ghost use Rattle.landlord.specs.Slot.{splitOf};
 ghost use Rattle.landlord.specs.Rule.{victim, evict, makeRoom};
 ghost use Rattle.landlord.specs.Figures.{moved};
 ghost use Rattle.cache_state.specs.Cache.{view};
@@ -46,27 +46,22 @@ pub fn victim(b: &[u8], n: usize) -> usize
     best
 }
 
-// What is left of a credit after a loss; a credit does not fall below 0.
-fn left(credit: u64, loss: u64) -> u64
-    ensures { λ r. ⌜ r ≡ credit - loss ⌝ }
-{
-    if credit > loss { credit - loss } else { 0 }
-}
-
-// Each held item loses `rank` for each of its blocks, from its write credit first and from its load credit when that is used up.
-// An item that is not held has no credit to lose.
+// Each held item loses `rank` for each of its blocks, from its two credits as the cache's rule of deduction splits it. No rank is less, so
+// the two credits can bear it. An item that is not held has no credit to lose.
 fn charge(b: &mut [u8], n: usize, rank: u64)
     requires { ⌜ ChargeableAt (now b) n rank ⌝ }
     ensures { λ _. ⌜ Stands (now (b .exit)) (chargedOf (cacheOf (now (b .entry))) rank n) ⌝ }
 {
+    let rule = layout::rule(b);
     let mut i = 0;
     while i < n {
         if layout::held(b, i) {
             let loss = (layout::blocks(b, i) as u64) * rank;
             let write = layout::write_credit(b, i);
             let load = layout::load_credit(b, i);
-            layout::put_write_credit(b, i, left(write, loss));
-            layout::put_load_credit(b, i, left(load, left(loss, write)));
+            let borne = rule.split(loss, load, write);
+            layout::put_write_credit(b, i, write - borne);
+            layout::put_load_credit(b, i, load - (loss - borne));
         }
         i += 1;
     }
@@ -110,7 +105,7 @@ fn count(b: &mut [u8], v: usize, dirty: bool)
 pub fn evict(b: &mut [u8], n: usize) -> u8
     requires { ⌜ CrowdedAt (now b) n ⌝ }
     ensures { λ r. ⌜ r ≡ getD (cacheOf (now (b .entry)) .blocks) (victim (stateOf (cacheOf (now (b .entry))))) 0 ⌝ }
-    ensures { λ _. ⌜ BecomesAt (moved (view (cacheOf (now (b .entry)))) (evict writeFirst (stateOf (cacheOf (now (b .entry))))) (cacheOf (now (b .entry)) .closed)) (now (b .exit)) ⌝ }
+    ensures { λ _. ⌜ BecomesAt (moved (view (cacheOf (now (b .entry)))) (evict (splitOf (cacheOf (now (b .entry)) .rule)) (stateOf (cacheOf (now (b .entry))))) (cacheOf (now (b .entry)) .closed)) (now (b .exit)) ⌝ }
 {
     let v = victim(b, n);
     let blocks = layout::blocks(b, v);
@@ -129,7 +124,7 @@ pub fn evict(b: &mut [u8], n: usize) -> u8
 // Makes room for item `i`, if it is not held: the item of least rank goes, until the free blocks are enough.
 pub fn make_room(b: &mut [u8], i: usize)
     requires { ⌜ WantedAt (now b) i ⌝ }
-    ensures { λ _. ⌜ BecomesAt (moved (view (cacheOf (now (b .entry)))) (makeRoom writeFirst (cacheOf (now (b .entry)) .k) i (stateOf (cacheOf (now (b .entry))))) (cacheOf (now (b .entry)) .closed)) (now (b .exit)) ⌝ }
+    ensures { λ _. ⌜ BecomesAt (moved (view (cacheOf (now (b .entry)))) (makeRoom (splitOf (cacheOf (now (b .entry)) .rule)) (cacheOf (now (b .entry)) .k) i (stateOf (cacheOf (now (b .entry))))) (cacheOf (now (b .entry)) .closed)) (now (b .exit)) ⌝ }
 {
     if layout::held(b, i) {
         return;

@@ -11,7 +11,9 @@ use native.Mathlib.Omega.{arith}
 use lib.ListN.{getD, set}
 use lib.Dec.{eqb}
 use borrow.Author.Tests.{eq-eqb, ne-eqb}
+use Rattle.landlord.specs.declared.Deduction.{Deduction}
 use Rattle.landlord.specs.Fold.{tab, fold}
+use Rattle.landlord.specs.Slot.{splitOf}
 use Rattle.landlord.specs.Rule.{Event, size, putSlot}
 use Rattle.landlord.specs.Figures.{Use, useOf, usage, isAbout, plusTotals, plusUse, noUse, adds, tally, moved}
 use Rattle.landlord.proofs.Folds.{tab-set, tab-eq}
@@ -37,9 +39,10 @@ pub record Fixed : Type 0 where
   pub load : List ℕ
   pub write : List ℕ
   pub closed : Bool
+  pub rule : Deduction
 
 abbrev pub fixedOf : Cache → Fixed
-fixedOf c = record { k = c .k; n = c .n; blocks = c .blocks; load = c .load; write = c .write; closed = c .closed }
+fixedOf c = record { k = c .k; n = c .n; blocks = c .blocks; load = c .load; write = c .write; closed = c .closed; rule = c .rule }
 
 -- nothing has changed but item i, and the totals
 pub record OnlyAt (c r : Cache) (i : ℕ) : Type 0 where
@@ -122,6 +125,7 @@ stands-but c r i e o few l about total here =
       state = record { catalog = catalog-same c r i o z; slots = slots-but c r i o few l z };
       figures = record { totals = total z; uses = uses-but c r i e o few about here z };
       closed = o .fixed z .closed;
+      split = splitOf (o .fixed z .rule);
     }
 
 -- The fields stay normal, if they are at item i.

@@ -8,9 +8,8 @@ use Prim.Native.Nat.{ℕ, _+_, _≤_, _<_}
 use native.Mathlib.Omega.{arith}
 use lib.ListN.{getD, drop}
 use Rattle.landlord.specs.declared.Step.the-variants.{Flush}
-use Rattle.landlord.specs.Slot.{writeFirst}
-use Rattle.landlord.specs.Rule.{State, Moved, serveRead, serveWrite, flush, step}
-use Rattle.landlord.specs.Figures.{Standing, moved}
+use Rattle.landlord.specs.Rule.{State, Moved, serveRead, serveWrite, flush}
+use Rattle.landlord.specs.Figures.{Standing, moved, took}
 use Rattle.marks.specs.Inner.{marks, firstSet}
 use Rattle.cache_state.specs.Cache.{Cache, view, Valid}
 use Rattle.cache_state.specs.InnerView.{stateOf}
@@ -146,7 +145,7 @@ module _ (b b1 : List ℕ) (p : SteppableAt b) (s : Stands b1 (flushedOf (cacheO
   pub flush-step-at :
       (left : List ℕ) →
       MovesTo b1 flush left →
-      MovesTo b (step writeFirst (cacheOf b .k) Flush) left
+      BecomesAt (took (view (cacheOf b)) Flush) left
   flush-step-at left r =
       record {
         reads = r .reads;

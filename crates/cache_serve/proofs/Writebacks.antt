@@ -10,9 +10,9 @@ use lib.ListN.{getD, set, drop}
 use lib.Seq.{getD-set-same, getD-set-other}
 use Rattle.landlord.specs.declared.Step.the-variants.{Flush}
 use Rattle.landlord.specs.Fold.{fold}
-use Rattle.landlord.specs.Slot.{isDirty, flushed, writeFirst}
+use Rattle.landlord.specs.Slot.{isDirty, flushed, splitOf}
 use Rattle.landlord.specs.Rule.{State, wroteBack, flushStep, Moved, joined, stay, slotAt, putSlot, flush, step}
-use Rattle.landlord.specs.Figures.{Standing, plusTotals, adds, moved}
+use Rattle.landlord.specs.Figures.{Standing, plusTotals, adds, moved, took}
 use Rattle.landlord.specs.Valid.{StandingOk}
 use Rattle.marks.specs.Inner.{marks, firstSet}
 use Rattle.marks.proofs.Laws.{marked-set-same, marked-set-other, NextMark, next-is}
@@ -239,6 +239,7 @@ flushed-stands c =
       state = stateOf c;
       figures = record { totals = total z; uses = uses-by c (flushedOf c) flushStep refl (λ j l. plus-none (usageOf c j)) z };
       closed = c .closed;
+      split = splitOf (c .rule);
     }
   where
     total : countsOf (flushedOf c) ≡ plusTotals (countsOf c) (adds (catalogOf c) flushStep)
@@ -247,8 +248,8 @@ flushed-stands c =
 pub flush-step-becomes :
     (c r : Cache) →
     Becomes (moved (view (flushedOf c)) (flush (stateOf (flushedOf c))) (c .closed)) r →
-    Becomes (moved (view c) (step writeFirst (c .k) Flush (stateOf c)) (c .closed)) r
-unfolding fold step
+    Becomes (took (view c) Flush) r
+unfolding fold step took
 flush-step-becomes c r b =
     record {
       stands = b .stands ∙ ap (λ (v : Standing). moved v (flush (v .state)) (c .closed)) (flushed-stands c);

@@ -5,9 +5,8 @@ ghost use Prim.Native.Nat.{_<_, _≤_};
 ghost use mathlib.Core.Path.{_≡_};
 ghost use Rattle.landlord.specs.declared.Step.the-variants.{Flush};
 ghost use Rattle.landlord.specs.Catalog.{full};
-ghost use Rattle.landlord.specs.Slot.{writeFirst};
-ghost use Rattle.landlord.specs.Rule.{serveRead, serveWrite, flush, step};
-ghost use Rattle.landlord.specs.Figures.{tenthsOf, moved};
+ghost use Rattle.landlord.specs.Rule.{serveRead, serveWrite, flush};
+ghost use Rattle.landlord.specs.Figures.{tenthsOf, moved, took};
 ghost use Rattle.cache_state.specs.Cache.{view};
 ghost use Rattle.cache_state.specs.InnerView.{stateOf};
 ghost use Rattle.layout.specs.Layout.{cacheOf, ValidBytes};
@@ -158,7 +157,7 @@ pub fn flush(b: &mut [u8])
 // A flush in the log: counted as a step, then done.
 pub fn flush_step(b: &mut [u8])
     requires { ⌜ SteppableAt (now b) ⌝ }
-    ensures { λ _. ⌜ BecomesAt (moved (view (cacheOf (now (b .entry)))) (step writeFirst (cacheOf (now (b .entry)) .k) Flush (stateOf (cacheOf (now (b .entry))))) (cacheOf (now (b .entry)) .closed)) (now (b .exit)) ⌝ }
+    ensures { λ _. ⌜ BecomesAt (took (view (cacheOf (now (b .entry)))) Flush) (now (b .exit)) ⌝ }
 {
     count_flush(b);
     flush(b);

@@ -12,6 +12,7 @@ use Rattle.landlord.specs.Catalog.{Item, itemAt}
 use Rattle.landlord.specs.Slot.{held, isDirty, loadCredit, writeCredit}
 use Rattle.landlord.specs.Rule.{size, slotAt}
 use Rattle.landlord.specs.Figures.{Standing, Use, useAt}
+use Rattle.landlord.proofs.Slots.{deduction-one}
 use Rattle.marks.specs.Inner.{marks}
 use Rattle.marks.proofs.Laws.{length-marks, marked-at, marks-tell}
 use Rattle.cache_state.specs.Cache.{Cache, view, Normal, Valid}
@@ -112,6 +113,9 @@ module _ (c d : Cache) (sc : Sizes c) (sd : Sizes d) (nc : Normal c) (nd : Norma
   same-dirty : c .dirty ≡ d .dirty
   same-dirty = marks-tell (c .dirty) (d .dirty) (sc .dirty) (sd .dirty) (sc .words) (sd .words) same-marks
 
+  same-rule : c .rule ≡ d .rule
+  same-rule = deduction-one (c .rule) (d .rule) (ap (λ (v : Standing). v .split) e)
+
   pub tells : c ≡ d
   tells =
       λ j.
@@ -138,6 +142,7 @@ module _ (c d : Cache) (sc : Sizes c) (sd : Sizes d) (nc : Normal c) (nd : Norma
         writecost = e j .figures .totals .writeCost;
         flushes = e j .figures .totals .flushes;
         closed = e j .closed;
+        rule = same-rule j;
       }
 
 -- there is one cache that stands where the rule stands

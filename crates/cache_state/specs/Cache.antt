@@ -3,7 +3,8 @@
 use mathlib.Core.{Bool.{Bool, false, cond}, List.List, Path._≡_}
 use Prim.Native.Nat.{ℕ, _≤_, _<_}
 use lib.ListN.{getD}
-use Rattle.landlord.specs.{Fold.tab, Catalog.Catalog, Slot.{Slot, absent, clean, dirty}, Figures.{Use, Standing, totalsOf, useOf}, Valid.StandingOk}
+use Rattle.landlord.specs.declared.Deduction.{Deduction}
+use Rattle.landlord.specs.{Fold.tab, Catalog.Catalog, Slot.{Slot, absent, clean, dirty, splitOf}, Figures.{Use, Standing, totalsOf, useOf}, Valid.StandingOk}
 use Rattle.marks.specs.Marks.{marked}
 
 -- The recorder's cache, with what it has counted. Every list has a place for each of the 256 item numbers, the marks in four words.
@@ -33,6 +34,8 @@ pub record Cache : Type 0 where
   pub writecost : ℕ
   pub flushes : ℕ
   pub closed : Bool
+  -- which credit an item loses from first, as the opening said
+  pub rule : Deduction
 
 -- whether item i is marked dirty
 abbrev pub dirtyAt : Cache → ℕ → Bool
@@ -62,6 +65,7 @@ view c =
       state = record { catalog = catalogOf c; slots = slotsOf c };
       figures = record { totals = totals; uses = usesOf c };
       closed = c .closed;
+      split = splitOf (c .rule);
     }
 
 -- ---- validity: the rule of paper 01 for a foul locker (refusal 17), a named field for each of its sentences

@@ -3,6 +3,7 @@
 use mathlib.Core.{Bool.Bool, List.List}
 use Prim.Native.Nat.{ℕ}
 use lib.ListN.{set}
+use Rattle.landlord.specs.declared.Deduction.{Deduction}
 use Rattle.landlord.specs.Figures.{Totals, totalsOf}
 use Rattle.cache_state.specs.{Cache.Cache, InnerView.countsOf}
 
@@ -32,6 +33,7 @@ withCatalog c capacity count sizes loads writes =
       writecost = c .writecost;
       flushes = c .flushes;
       closed = c .closed;
+      rule = c .rule;
     }
 
 -- a cache with other slots: which items are held, the two credits, and the marks of the dirty ones
@@ -60,6 +62,7 @@ withSlots c holds loads writes marked =
       writecost = c .writecost;
       flushes = c .flushes;
       closed = c .closed;
+      rule = c .rule;
     }
 
 -- a cache with other figures: tenths, loads and writebacks of each item, and the totals
@@ -88,11 +91,12 @@ withFigures c tenthsNow loads writes t =
       writecost = t .writeCost;
       flushes = t .flushes;
       closed = c .closed;
+      rule = c .rule;
     }
 
--- a cache closed or not
-abbrev pub withClosed : Cache → Bool → Cache
-withClosed c isClosed =
+-- a cache closed or not, and of a rule of deduction
+abbrev pub withMode : Cache → Bool → Deduction → Cache
+withMode c isClosed r =
     record {
       k = c .k;
       n = c .n;
@@ -116,7 +120,14 @@ withClosed c isClosed =
       writecost = c .writecost;
       flushes = c .flushes;
       closed = isClosed;
+      rule = r;
     }
+
+abbrev pub withClosed : Cache → Bool → Cache
+withClosed c isClosed = withMode c isClosed (c .rule)
+
+abbrev pub withRule : Cache → Deduction → Cache
+withRule c r = withMode c (c .closed) r
 
 -- ---- capacity and catalog
 

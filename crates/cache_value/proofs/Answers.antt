@@ -1,30 +1,31 @@
--- A reply's number as an answer: it is at most 17, and the answer tells it and no line. Assumes nothing.
+-- A reply's number as an answer: it is at most 18, and the answer tells it and no line. Assumes nothing.
 use mathlib.Core.Path.{_≡_, sym, ap, subst, _∙_}
 use mathlib.Core.Bool.{Bool, true, false, cond, _&&_}
 use Prim.Native.Nat.{ℕ, _≤_, _<_}
 use native.Mathlib.Omega.{arith}
 use lib.ListN.{length}
-use lib.Dec.{eqb, leb, ltb}
+use lib.Dec.{leb, ltb}
 use Rattle.landlord.specs.declared.Step.{Step}
 use Rattle.landlord.specs.declared.Step.the-variants.{Read, Write, Flush}
-use Rattle.landlord.specs.Types.{Told, telling}
+use Rattle.landlord.specs.Types.{Told, telling, isDeduction}
 use Rattle.landlord.specs.Catalog.{Catalog, itemAt, capacityInRange, catalogInRange}
-use Rattle.landlord.specs.Figures.{Standing, opened}
+use Rattle.landlord.specs.Figures.{Standing}
 use Rattle.landlord.specs.Calls.{Call, stepCall, close, callItem, stepOf, inRange, itemRefusal, refusalAt, refusalNow, openingRefusal}
 use Rattle.cache.specs.Contract.{Called}
 use Rattle.cache_value.specs.declared.Cache.{Cache}
 use Rattle.cache_value.specs.declared.Answered.{Answered}
-use Rattle.cache_value.specs.Contract.{byValue, refusedOpening, answerTold, answerNumber, CalledBy, OpenedBy}
+use Rattle.cache_value.specs.Contract.{byValue, answerTold, answerNumber, CalledBy, OpenedBy}
 use Rattle.cache_value.specs.Inner.{Opened}
+use Rattle.cache_value.proofs.Openings.{atOpening}
 
--- ---- the number is at most 17
+-- ---- the number is at most 18
 
-chosen : (t : Bool) {a b : ℕ} → a ≤ 17 → b ≤ 17 → cond t a b ≤ 17
+chosen : (t : Bool) {a b : ℕ} → a ≤ 18 → b ≤ 18 → cond t a b ≤ 18
 chosen true p q = p
 chosen false p q = q
 
 -- each number of the table is, whatever its tests say: a law of the rule's table alone
-table-number : (v : Standing) (call : Call) → refusalNow v call ≤ 17
+table-number : (v : Standing) (call : Call) → refusalNow v call ≤ 18
 unfolding refusalAt
 table-number v close = chosen (v .closed) (omega arith) (omega arith)
 table-number v (stepCall kind i m) =
@@ -34,27 +35,27 @@ table-number v (stepCall kind i m) =
     cat : Catalog
     cat = v .state .catalog
 
-    known : (j : ℕ) → cond (ltb j (length cat)) (cond (leb (itemAt cat j .blocks) (v .k)) 0 7) 6 ≤ 17
+    known : (j : ℕ) → cond (ltb j (length cat)) (cond (leb (itemAt cat j .blocks) (v .k)) 0 7) 6 ≤ 18
     known j = chosen (ltb j (length cat)) (chosen (leb (itemAt cat j .blocks) (v .k)) (omega arith) (omega arith)) (omega arith)
 
-    asks : (s : Step) → itemRefusal (v .k) cat s ≤ 17
+    asks : (s : Step) → itemRefusal (v .k) cat s ≤ 18
     asks (Read j) = known j
     asks (Write j minutes) = known j
     asks Flush = omega arith
 
 -- so a call's is: on a valid cache it is the table's, else 17
-pub call-number : {c d : Cache} {call : Call} {n : ℕ} → Called byValue c call n d → n ≤ 17
+pub call-number : {c d : Cache} {call : Call} {n : ℕ} → Called byValue c call n d → n ≤ 18
 call-number {c = c} {call = call} {n = n} h = omega (arith, above)
   where
-    above : 17 < n → ⊥
+    above : 18 < n → ⊥
     above l =
         let seventeen = h .invalid (λ ok. omega (arith, h .fine ok .answer, table-number (byValue .view c) call)) .0 in
         omega (arith, seventeen)
 
-pub opening-number : {k : ℕ} {cat : Catalog} {n : ℕ} {c : Cache} → Opened k cat n c → n ≤ 17
+pub opening-number : {k rule : ℕ} {cat : Catalog} {n : ℕ} {c : Cache} → Opened k rule cat n c → n ≤ 18
 unfolding openingRefusal
-opening-number {k = k} {cat = cat} o =
-    let most : openingRefusal k cat ≤ 17 = chosen (capacityInRange k && catalogInRange cat) (omega arith) (omega arith) in
+opening-number {k = k} {rule = rule} {cat = cat} o =
+    let most : openingRefusal k rule cat ≤ 18 = chosen (capacityInRange k && catalogInRange cat) (chosen (isDeduction rule) (omega arith) (omega arith)) (omega arith) in
     omega (arith, o .answer, most)
 
 -- ---- the answer tells it
@@ -79,21 +80,17 @@ of-reply P {d = d} item r t e h =
 pub answered : (c d : Cache) (call : Call) (n : ℕ) (r : Answered) → Called byValue c call n d → answerTold (r .answer) ≡ telling n 0 (callItem call) → r .cache ≡ d → CalledBy c call r
 answered c d call n r h t e = record { called = of-reply (Called byValue c call) (callItem call) r t e h; tells = own-told (callItem call) t }
 
--- where an opening stands, by its number
-abbrev atOpening : ℕ → Catalog → ℕ → Standing
-atOpening k cat m = cond (eqb m 0) (opened k cat) refusedOpening
-
-pub opened-as : (k : ℕ) (cat : Catalog) (n : ℕ) (c : Cache) (r : Answered) → Opened k cat n c → answerTold (r .answer) ≡ telling n 0 0 → r .cache ≡ c → OpenedBy k cat r
-opened-as k cat n c r o t e =
-    let p = of-reply (Opened k cat) 0 r t e o in
+pub opened-as : (k rule : ℕ) (cat : Catalog) (n : ℕ) (c : Cache) (r : Answered) → Opened k rule cat n c → answerTold (r .answer) ≡ telling n 0 0 → r .cache ≡ c → OpenedBy k rule cat r
+opened-as k rule cat n c r o t e =
+    let p = of-reply (Opened k rule cat) 0 r t e o in
     record {
       tells = t ∙ ap (λ (m : ℕ). telling m 0 0) (o .answer);
       valid = p .valid;
-      stands = p .stands ∙ ap (atOpening k cat) (p .answer);
+      stands = p .stands ∙ ap (atOpening k rule cat) (p .answer);
       empty = p .empty;
     }
 
-pub opened-by : (k : ℕ) (cat : Catalog) (r : Answered) → OpenedBy k cat r → Opened k cat (answerNumber (r .answer)) (r .cache)
-opened-by k cat r o =
+pub opened-by : (k rule : ℕ) (cat : Catalog) (r : Answered) → OpenedBy k rule cat r → Opened k rule cat (answerNumber (r .answer)) (r .cache)
+opened-by k rule cat r o =
     let n = number-told 0 (o .tells) in
-    record { answer = n; valid = o .valid; stands = o .stands ∙ ap (atOpening k cat) (sym n); empty = o .empty }
+    record { answer = n; valid = o .valid; stands = o .stands ∙ ap (atOpening k rule cat) (sym n); empty = o .empty }

@@ -7,7 +7,6 @@ use native.Mathlib.Omega.{arith}
 use borrow.Author.Tests.{eq-eqb, ne-eqb}
 use Rattle.landlord.specs.declared.Step.{Step}
 use Rattle.landlord.specs.Types.{stepKind, stepItem, stepMinutes}
-use Rattle.landlord.specs.Slot.{writeFirst}
 use Rattle.landlord.specs.Figures.{Standing}
 use Rattle.landlord.specs.Calls.{Call, stepCall, close, callOf, refusalNow, after}
 use Rattle.cache_state.specs.Cache.{view, Valid}
@@ -51,7 +50,7 @@ module _ {b : List ℕ} (c : Cache) (s : Stands b (recordOf c)) where
             record {
               answer = sym z ∙ a .answer ∙ ap (λ (v : Standing). refusalNow v call) same-view;
               valid = subst Valid (sym e) (a .valid .cache);
-              stands = ap view e ∙ a .stands ∙ ap (λ (v : Standing). after writeFirst v call) same-view;
+              stands = ap view e ∙ a .stands ∙ ap (λ (v : Standing). after v call) same-view;
               refused = λ w. absurd (w refl);
             };
         invalid = λ bad. absurd (let y : _≡_ {A = ℕ} 17 0 = sym (h .invalid (λ ok. bad (valid-here ok)) .0) ∙ z in omega arith);

@@ -1,5 +1,5 @@
 -- Laws of an opening: its tests are the table's, the copied arrays, and the cache that it hands back. Assumes nothing.
-use mathlib.Core.Path.{_≡_, refl, sym, subst, _∙_}
+use mathlib.Core.Path.{_≡_, refl, sym, ap, subst, _∙_}
 use mathlib.Core.Bool.{Bool, true, false, cond}
 use mathlib.Core.List.{List, []}
 use Prim.Native.Nat.{ℕ, _+_, _≤_, _<_}
@@ -8,14 +8,19 @@ use lib.Dec.{eqb}
 use lib.ListN.{length, getD, set, replicate, getD-replicate}
 use lib.Seq.{getD-set-same, getD-set-other}
 use borrow.Author.Count.{below-more}
+use borrow.Author.Tests.{le-leb, lt-leb}
+use Rattle.landlord.specs.declared.Deduction.{Deduction}
+use Rattle.landlord.specs.declared.Deduction.the-variants.{WriteFirst}
+use Rattle.landlord.specs.Types.{deductionOf, isDeduction}
 use Rattle.landlord.specs.Fold.{tabFrom, fold}
 use Rattle.landlord.specs.Catalog.{Catalog, Item, CapacityOk, CatalogOk, allInRange, catalogInRange}
+use Rattle.landlord.specs.Slot.{writeFirst, splitOf}
 use Rattle.landlord.specs.Rule.{flush, writeBacks}
-use Rattle.landlord.specs.Figures.{opened, closes}
+use Rattle.landlord.specs.Figures.{Standing, opened, closes}
 use Rattle.landlord.specs.Calls.{openingRefusal}
 use Rattle.landlord.specs.Valid.{StandingOk}
 use Rattle.landlord.proofs.Valid.{ok-opened, ok-closes}
-use Rattle.landlord.proofs.Ranges.{capacity-ok, opening-accepts, range-refused}
+use Rattle.landlord.proofs.Ranges.{capacity-ok, opening-accepts, range-refused, rule-refused}
 use Rattle.validity.specs.InnerDecided.{Decided}
 use Rattle.cache_state.specs.Cache.{EmptyPlace}
 use Rattle.cache_state.specs.InnerBecomes.{Becomes}
@@ -25,7 +30,7 @@ use Rattle.cache.proofs.Blocks.{catalog-few, catalog-blocks, blocks-catalog}
 use Rattle.cache.proofs.Empty.{empty-place, empty-becomes}
 use Rattle.cache_value.specs.declared.Cache.{Cache}
 use Rattle.cache_value.specs.Contract.{recordOf, catalogFrom, refusedOpening}
-use Rattle.cache_value.specs.Inner.{FirstOf, Opens, Opened}
+use Rattle.cache_value.specs.Inner.{FirstOf, Opens, nothingOpened, Opened}
 
 -- ---- the tests
 
@@ -52,17 +57,21 @@ first-more xs out i l f =
 
 -- ---- the cache
 
--- a struct that stands in order where an opening of this number stands, all its places empty
+-- where an opening stands, by the number of its answer
+abbrev pub atOpening : ℕ → ℕ → Catalog → ℕ → Standing
+atOpening k rule cat number = cond (eqb number 0) (opened (splitOf (deductionOf rule)) k cat) refusedOpening
+
+-- a struct that stands there in order, all its places empty
 stood :
-    (k : ℕ) (cat : Catalog) (number : ℕ) (c : Cache) {d : records.Cache} →
-    number ≡ openingRefusal k cat →
-    StandingOk (cond (eqb number 0) (opened k cat) refusedOpening) →
-    Becomes (cond (eqb number 0) (opened k cat) refusedOpening) d →
+    (k rule : ℕ) (cat : Catalog) (number : ℕ) (c : Cache) {d : records.Cache} →
+    number ≡ openingRefusal k rule cat →
+    StandingOk (atOpening k rule cat number) →
+    Becomes (atOpening k rule cat number) d →
     ((i : ℕ) → i < 256 → EmptyPlace d i) →
     recordOf c ≡ d →
-    Opened k cat number c
-stood k cat number c asked ok h empty e =
-    let so : Becomes (cond (eqb number 0) (opened k cat) refusedOpening) (recordOf c) = subst (Becomes (cond (eqb number 0) (opened k cat) refusedOpening)) (sym e) h in
+    Opened k rule cat number c
+stood k rule cat number c asked ok h empty e =
+    let so : Becomes (atOpening k rule cat number) (recordOf c) = subst (Becomes (atOpening k rule cat number)) (sym e) h in
     record {
       answer = asked;
       valid = record { fields = so .fields; rule = subst StandingOk (sym (so .stands)) ok };
@@ -72,7 +81,7 @@ stood k cat number c asked ok h empty e =
 
 -- a closed cache of 1 block with no items is in order
 refused-ok : StandingOk refusedOpening
-refused-ok = unfold closes flush writeBacks tabFrom fold in ok-closes (opened 1 []) (ok-opened 1 [] size none)
+refused-ok = unfold closes flush writeBacks tabFrom fold in ok-closes (opened writeFirst 1 []) (ok-opened writeFirst 1 [] size none)
   where
     size : CapacityOk 1
     size = refl
@@ -81,7 +90,7 @@ refused-ok = unfold closes flush writeBacks tabFrom fold in ok-closes (opened 1 
     none = unfold catalogInRange allInRange in refl
 
 -- the opening's tests are the table's: costs of 16 bits are in range
-module _ (k n : ℕ) (blocks load write : List ℕ) where
+module _ (k rule n : ℕ) (blocks load write : List ℕ) where
   abbrev cat : Catalog
   cat = catalogFrom n blocks load write
 
@@ -92,30 +101,56 @@ module _ (k n : ℕ) (blocks load write : List ℕ) where
   unfolding catalogFrom
   opens-from f = record { capacity = f .0; few = catalog-few n item (f .1); each = catalog-blocks n item (f .1) }
 
-  pub open-taken :
-      {b l w : List ℕ} (c : Cache) →
-      Opens k n blocks →
-      FirstOf n blocks b →
-      FirstOf n load l →
-      FirstOf n write w →
-      ((i : ℕ) → getD load i 0 ≤ 65535) →
-      ((i : ℕ) → getD write i 0 ≤ 65535) →
-      recordOf c ≡ emptyWith k n b l w false →
-      Opened k cat 0 c
-  unfolding catalogFrom
-  open-taken {b = b} {l = l} {w = w} c o fb fl fw ll lw e =
-      let room : CapacityOk k = o .capacity in
-      let good : CatalogOk cat = blocks-catalog n item (o .few) (o .each) ll lw in
-      stood k cat 0 c (sym (opening-accepts k cat room good)) (ok-opened k cat room good)
-      (empty-becomes k n item false b l w (o .few) fb fl fw) (empty-place k n b l w false) e
-
-  pub open-refused :
-      (c : Cache) →
-      (Opens k n blocks → ⊥) →
-      recordOf c ≡ emptyWith 1 0 (replicate 256 0) (replicate 256 0) (replicate 256 0) true →
-      Opened k cat 3 c
+  -- refused with a number that the table gives
+  refused-with :
+      (number : ℕ) (c : Cache) →
+      number ≡ openingRefusal k rule cat →
+      eqb number 0 ≡ false →
+      recordOf c ≡ nothingOpened →
+      Opened k rule cat number c
   unfolding tabFrom
-  open-refused c none e =
-      stood k cat 3 c (range-refused k cat (λ f. none (opens-from f))) refused-ok
-      (empty-becomes 1 0 item true (replicate 256 0) (replicate 256 0) (replicate 256 0) (omega arith) (first-none blocks) (first-none load) (first-none write))
-      (empty-place 1 0 (replicate 256 0) (replicate 256 0) (replicate 256 0) true) e
+  refused-with number c asked some e =
+      stood k rule cat number c asked (rw some refused-ok)
+      (rw some
+      (empty-becomes 1 0 item true WriteFirst (replicate 256 0) (replicate 256 0) (replicate 256 0) (omega arith) (first-none blocks) (first-none load) (first-none write)))
+      (empty-place 1 0 (replicate 256 0) (replicate 256 0) (replicate 256 0) true WriteFirst) e
+
+  -- out of range, whatever the rule's number
+  pub open-refused :
+      (number : ℕ) (c : Cache) →
+      (Opens k n blocks → ⊥) →
+      number ≡ 3 →
+      recordOf c ≡ nothingOpened →
+      Opened k rule cat number c
+  open-refused number c none is e =
+      refused-with number c (is ∙ range-refused k rule cat (λ f. none (opens-from f))) (rw is) e
+
+  -- in range, the rule's number decides
+  module _ (o : Opens k n blocks) (ll : (i : ℕ) → getD load i 0 ≤ 65535) (lw : (i : ℕ) → getD write i 0 ≤ 65535) where
+    good : CatalogOk cat
+    unfolding catalogFrom
+    good = blocks-catalog n item (o .few) (o .each) ll lw
+
+    pub open-odd :
+        (number : ℕ) (c : Cache) →
+        1 < rule →
+        number ≡ 18 →
+        recordOf c ≡ nothingOpened →
+        Opened k rule cat number c
+    open-odd number c odd is e =
+        refused-with number c (is ∙ rule-refused k rule cat (o .capacity) good (lt-leb rule 1 odd)) (rw is) e
+
+    pub open-taken :
+        {b l w : List ℕ} {r : Deduction} (c : Cache) →
+        rule ≤ 1 →
+        FirstOf n blocks b →
+        FirstOf n load l →
+        FirstOf n write w →
+        r ≡ deductionOf rule →
+        recordOf c ≡ emptyWith k n b l w false r →
+        Opened k rule cat 0 c
+    unfolding catalogFrom
+    open-taken {b = b} {l = l} {w = w} c known fb fl fw is e =
+        stood k rule cat 0 c (sym (opening-accepts k rule cat (o .capacity) good (le-leb rule 1 known))) (ok-opened (splitOf (deductionOf rule)) k cat (o .capacity) good)
+        (empty-becomes k n item false (deductionOf rule) b l w (o .few) fb fl fw) (empty-place k n b l w false (deductionOf rule))
+        (e ∙ ap (emptyWith k n b l w false) is)

@@ -2,14 +2,13 @@
 -- that they stand for. Assumes nothing.
 use mathlib.Core.Path.{_≡_, refl, sym, ap, subst, _∙_}
 use mathlib.Core.Logic.{_≢_}
-use mathlib.Core.Bool.{cond}
 use mathlib.Core.List.{List, []}
 use Prim.Native.Nat.{ℕ}
-use lib.Dec.{eqb}
 use borrow.Author.Tests.{ne-eqb}
-use Rattle.landlord.specs.Types.{telling}
+use Rattle.landlord.specs.declared.Deduction.{Deduction}
+use Rattle.landlord.specs.Types.{telling, deductionOf}
 use Rattle.landlord.specs.Catalog.{Catalog}
-use Rattle.landlord.specs.Figures.{Standing, opened, totalCost}
+use Rattle.landlord.specs.Figures.{Standing, totalCost}
 use Rattle.landlord.specs.Calls.{Call}
 use Rattle.cache_state.specs.Cache.{view, Valid}
 use Rattle.layout.specs.Layout.{cacheOf}
@@ -21,18 +20,19 @@ use Rattle.cache_value.specs.declared.Cache.{Cache}
 use Rattle.cache_value.specs.declared.Answered.{Answered}
 use Rattle.cache_value.specs.declared.Answer.the-variants.{Taken}
 use Rattle.cache_value.specs.Inner.{Opened}
-use Rattle.cache_value.specs.Contract.{recordOf, byValue, refusedOpening, answerTold, SeasonByValue, Ran}
+use Rattle.cache_value.specs.Contract.{recordOf, byValue, answerTold, SeasonByValue, Ran}
+use Rattle.cache_value.proofs.Openings.{atOpening}
 use Rattle.cache_value.proofs.Answers.{number-told}
 use Rattle.cache_value.proofs.Calls.{valid-there, same-view}
 
 pub run-refused :
-    (k : ℕ) (cat : Catalog) (calls : List Call) (before : List ℕ) (n : ℕ) (c : Cache) (r : Answered) →
-    Opened k cat n c →
+    (k rule : ℕ) (cat : Catalog) (calls : List Call) (before : List ℕ) (n : ℕ) (c : Cache) (r : Answered) →
+    Opened k rule cat n c →
     n ≢ 0 →
     answerTold (r .answer) ≡ telling n 0 0 →
     r .cache ≡ c →
-    Ran k cat calls before before r
-run-refused k cat calls before n c r o d t e =
+    Ran k rule cat calls before before r
+run-refused k rule cat calls before n c r o d t e =
     record {
       tells = t ∙ ap (λ (m : ℕ). telling m 0 0) (o .answer);
       refused = λ z. (refl, ap (λ (q : Cache). view (recordOf q)) e ∙ o .stands ∙ rw (ne-eqb n 0 d));
@@ -41,39 +41,43 @@ run-refused k cat calls before n c r o d t e =
     }
 
 -- the bytes of an opened cache begin a season in place
-bytes-begin : (k : ℕ) (cat : Catalog) (n : ℕ) (c : Cache) (b : List ℕ) → Opened k cat n c → n ≡ 0 → Stands b (recordOf c) → BeginsAt lent k cat b
-bytes-begin k cat n c b o z s =
+bytes-begin : (k rule : ℕ) (cat : Catalog) (n : ℕ) (c : Cache) (b : List ℕ) → Opened k rule cat n c → n ≡ 0 → Stands b (recordOf c) → BeginsAt lent k rule cat b
+bytes-begin k rule cat n c b o z s =
     record {
       accepted = sym (o .answer) ∙ z;
       valid = valid-there c s (o .valid);
-      stands = same-view c s ∙ o .stands ∙ ap (λ (m : ℕ). cond (eqb m 0) (opened k cat) refusedOpening) z;
+      stands = same-view c s ∙ o .stands ∙ ap (atOpening k rule cat) z;
     }
 
 -- the conclusions for bytes are those for the struct that they stand for
-season-carried : (k : ℕ) (cat : Catalog) (calls : List Call) (numbers left : List ℕ) (d : Cache) → recordOf d ≡ cacheOf left → Season lent k cat calls numbers left → SeasonByValue k cat calls numbers d
-season-carried k cat calls numbers left d e s = record { season = season; cost = season .cost }
+season-carried :
+    (k : ℕ) (r : Deduction) (cat : Catalog) (calls : List Call) (numbers left : List ℕ) (d : Cache) →
+    recordOf d ≡ cacheOf left →
+    Season lent k r cat calls numbers left →
+    SeasonByValue k r cat calls numbers d
+season-carried k r cat calls numbers left d e s = record { season = season; cost = season .cost }
   where
-    season : Season byValue k cat calls numbers d
+    season : Season byValue k r cat calls numbers d
     season =
         record {
           answers = s .answers;
           valid = subst Valid (sym e) (s .valid .cache);
           stands = ap view e ∙ s .stands;
-          cost = λ closing. subst (λ (v : Standing). Bounded k cat calls (totalCost (v .figures))) (sym (ap view e)) (s .cost closing);
+          cost = λ closing. subst (λ (v : Standing). Bounded k r cat calls (totalCost (v .figures))) (sym (ap view e)) (s .cost closing);
         }
 
 pub run-taken :
-    (k : ℕ) (cat : Catalog) (calls : List Call) (before : List ℕ) (n : ℕ) (c d : Cache) {after b left : List ℕ} →
-    Opened k cat n c →
+    (k rule : ℕ) (cat : Catalog) (calls : List Call) (before : List ℕ) (n : ℕ) (c d : Cache) {after b left : List ℕ} →
+    Opened k rule cat n c →
     n ≡ 0 →
     Stands b (recordOf c) →
     RanCalls lent b calls before after left →
     recordOf d ≡ cacheOf left →
-    Ran k cat calls before after (record { answer = Taken; cache = d })
-run-taken k cat calls before n c d {b = b} {left = left} o z s ran e =
+    Ran k rule cat calls before after (record { answer = Taken; cache = d })
+run-taken k rule cat calls before n c d {b = b} {left = left} o z s ran e =
     record {
       tells = ap (λ (m : ℕ). telling m 0 0) (sym z ∙ o .answer);
       refused = λ w. absurd (w refl);
       numbers = ran .numbers;
-      season = λ w. (season-carried k cat calls (ran .numbers) left d e (season-theorem lent (bytes-begin k cat n c b o z s) (ran .follows)), ran .noted);
+      season = λ w. (season-carried k (deductionOf rule) cat calls (ran .numbers) left d e (season-theorem lent (bytes-begin k rule cat n c b o z s) (ran .follows)), ran .noted);
     }

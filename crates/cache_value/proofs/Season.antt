@@ -3,7 +3,7 @@ use mathlib.Core.Path.{_≡_, refl, sym, ap, subst, _∙_}
 use mathlib.Core.List.{List, map}
 use Prim.Native.Nat.{ℕ, zero, suc}
 use lib.ListN.{getD, length-map}
-use Rattle.landlord.specs.Types.{telling}
+use Rattle.landlord.specs.Types.{telling, deductionOf}
 use Rattle.landlord.specs.Catalog.{Catalog}
 use Rattle.landlord.specs.Calls.{Call, close, callItem}
 use Rattle.cache.specs.Contract.{Follows, none, then, Season, Prefix}
@@ -17,21 +17,21 @@ use Rattle.cache_value.specs.Inner.{Opened, Chain}
 use Rattle.cache_value.proofs.Answers.{opened-by}
 
 -- an opening that was not refused
-value-begins : (k : ℕ) (cat : Catalog) (first : Cache) → Opened k cat 0 first → BeginsAt byValue k cat first
-value-begins k cat first o = record { accepted = sym (o .answer); valid = o .valid; stands = o .stands }
+value-begins : (k rule : ℕ) (cat : Catalog) (first : Cache) → Opened k rule cat 0 first → BeginsAt byValue k rule cat first
+value-begins k rule cat first o = record { accepted = sym (o .answer); valid = o .valid; stands = o .stands }
 
 -- Demand 3 by value.
-pub season-by-value : (k : ℕ) (cat : Catalog) (calls : List Call) (numbers : List ℕ) (d : Cache) → Chain k cat calls numbers d → SeasonByValue k cat calls numbers d
-season-by-value k cat calls numbers d chain =
-    let s : Season byValue k cat calls numbers d = season-theorem byValue (value-begins k cat (chain .first) (chain .opening)) (chain .follows) in
+pub season-by-value : (k rule : ℕ) (cat : Catalog) (calls : List Call) (numbers : List ℕ) (d : Cache) → Chain k rule cat calls numbers d → SeasonByValue k (deductionOf rule) cat calls numbers d
+season-by-value k rule cat calls numbers d chain =
+    let s : Season byValue k (deductionOf rule) cat calls numbers d = season-theorem byValue (value-begins k rule cat (chain .first) (chain .opening)) (chain .follows) in
     record { season = s; cost = s .cost }
 
 -- no call hands back an invalid cache
 pub prefix-by-value :
-    (k : ℕ) (cat : Catalog) (calls : List Call) (numbers : List ℕ) (d : Cache) (chain : Chain k cat calls numbers d) (i : ℕ) →
-    Prefix byValue k cat (chain .first) calls numbers d i
-prefix-by-value k cat calls numbers d chain i =
-    season-prefix byValue k cat (chain .first) calls numbers d (value-begins k cat (chain .first) (chain .opening)) (chain .follows) i
+    (k rule : ℕ) (cat : Catalog) (calls : List Call) (numbers : List ℕ) (d : Cache) (chain : Chain k rule cat calls numbers d) (i : ℕ) →
+    Prefix byValue k (deductionOf rule) cat (chain .first) calls numbers d i
+prefix-by-value k rule cat calls numbers d chain i =
+    season-prefix byValue k rule cat (chain .first) calls numbers d (value-begins k rule cat (chain .first) (chain .opening)) (chain .follows) i
 
 -- ---- by methods
 
@@ -51,29 +51,29 @@ told-at (thenCall m f) zero = m .tells
 told-at (thenCall m f) (suc i) = told-at f i
 
 -- so from an opening on
-numbered : {k : ℕ} {cat : Catalog} {calls : List Call} {answers : List Answer} {d : Cache} → ChainBy k cat calls answers d → Chain k cat calls (map answerNumber answers) d
-numbered {k = k} {cat = cat} chain =
+numbered : {k rule : ℕ} {cat : Catalog} {calls : List Call} {answers : List Answer} {d : Cache} → ChainBy k rule cat calls answers d → Chain k rule cat calls (map answerNumber answers) d
+numbered {k = k} {rule = rule} {cat = cat} chain =
     record {
       first = chain .reply .cache;
-      opening = subst (λ (n : ℕ). Opened k cat n (chain .reply .cache)) (chain .taken) (opened-by k cat (chain .reply) (chain .opening));
+      opening = subst (λ (n : ℕ). Opened k rule cat n (chain .reply .cache)) (chain .taken) (opened-by k rule cat (chain .reply) (chain .opening));
       follows = method-follows (chain .follows);
     }
 
 -- Demand 3 by value, for the methods and their answers.
-pub season-by-methods : (k : ℕ) (cat : Catalog) (calls : List Call) (answers : List Answer) (d : Cache) → ChainBy k cat calls answers d → SeasonByMethods k cat calls answers d
-season-by-methods k cat calls answers d chain =
+pub season-by-methods : (k rule : ℕ) (cat : Catalog) (calls : List Call) (answers : List Answer) (d : Cache) → ChainBy k rule cat calls answers d → SeasonByMethods k (deductionOf rule) cat calls answers d
+season-by-methods k rule cat calls answers d chain =
     record {
       count = sym (length-map answers answerNumber) ∙ s .season .answers .count;
       each = λ i l. told-at (chain .follows) i ∙ ap (λ (n : ℕ). telling n 0 (callItem (getD calls i close))) (s .season .answers .each i l);
       byNumber = s;
     }
   where
-    s : SeasonByValue k cat calls (map answerNumber answers) d
-    s = season-by-value k cat calls (map answerNumber answers) d (numbered chain)
+    s : SeasonByValue k (deductionOf rule) cat calls (map answerNumber answers) d
+    s = season-by-value k rule cat calls (map answerNumber answers) d (numbered chain)
 
 -- no method hands back an invalid cache
 pub prefix-by-methods :
-    (k : ℕ) (cat : Catalog) (calls : List Call) (answers : List Answer) (d : Cache) (chain : ChainBy k cat calls answers d) (i : ℕ) →
-    Prefix byValue k cat (chain .reply .cache) calls (map answerNumber answers) d i
+    (k rule : ℕ) (cat : Catalog) (calls : List Call) (answers : List Answer) (d : Cache) (chain : ChainBy k rule cat calls answers d) (i : ℕ) →
+    Prefix byValue k (deductionOf rule) cat (chain .reply .cache) calls (map answerNumber answers) d i
 unfolding numbered
-prefix-by-methods k cat calls answers d chain i = prefix-by-value k cat calls (map answerNumber answers) d (numbered chain) i
+prefix-by-methods k rule cat calls answers d chain i = prefix-by-value k rule cat calls (map answerNumber answers) d (numbered chain) i

@@ -40,6 +40,7 @@ record-one c d e = λ j.
       writecost = e j .writecost;
       flushes = e j .flushes;
       closed = e j .closed;
+      rule = e j .rule;
     }
 
 pub valid-one : (c d : Cache) → Sizes (recordOf c) → Sizes (recordOf d) → byValue .Valid c → byValue .Valid d → byValue .view c ≡ byValue .view d → c ≡ d

@@ -2,7 +2,8 @@
 use mathlib.Core.{Path._≡_, Bool.{true, cond}, List.{List, [], _∷_, map}, Logic._≢_}
 use Prim.Native.Nat.{ℕ, _<_, _+_}
 use lib.{Dec.eqb, ListN.{getD, length, take}, Seq.sets}
-use Rattle.landlord.specs.{Types.{telling, nothingTold, told, Told}, Fold.tab, Catalog.Catalog, Rule.emptied, Figures.{Standing, nothing, opened}, Calls.{Call, callItem, openingRefusal, close, refusal}}
+use Rattle.landlord.specs.declared.Deduction.{Deduction}
+use Rattle.landlord.specs.{Types.{telling, nothingTold, told, Told, deductionOf}, Fold.tab, Catalog.Catalog, Slot.{writeFirst, splitOf}, Rule.emptied, Figures.{Standing, nothing, opened}, Calls.{Call, callItem, openingRefusal, close, refusal}}
 use Rattle.cache_state.specs.Cache.{Cache as Record, view, Valid, EmptyPlace}
 use Rattle.cache.specs.Contract.{Kind, Called, Closing, Bounded, Season}
 use Rattle.cache_value.specs.declared.{Cache.Cache, Answer.{Answer, the-variants.{Taken, Refused}}, Answered.Answered}
@@ -33,6 +34,7 @@ recordOf c =
       writecost = c .writecost;
       flushes = c .flushes;
       closed = c .closed;
+      rule = c .rule;
     }
 
 -- the struct as a kind of state
@@ -43,9 +45,9 @@ byValue = record { view = λ c. view (recordOf c); Valid = λ c. Valid (recordOf
 unfoldable pub catalogFrom : ℕ → List ℕ → List ℕ → List ℕ → Catalog
 catalogFrom n blocks load write = tab n (λ i. record { blocks = getD blocks i 0; load = getD load i 0; write = getD write i 0 })
 
--- "refused by value, it gives a closed locker of 1 block with no sails"
+-- "refused by value, it gives a closed locker of 1 block with no sails"; "write-first if refused" (paper 02, 'Three')
 abbrev pub refusedOpening : Standing
-refusedOpening = record { k = 1; state = emptied []; figures = nothing []; closed = true }
+refusedOpening = record { k = 1; state = emptied []; figures = nothing []; closed = true; split = writeFirst }
 
 -- what a method's answer tells
 abbrev pub answerTold : Answer → Told
@@ -61,20 +63,20 @@ pub record CalledBy (c : Cache) (call : Call) (r : Answered) : Type 0 where
   pub called : Called byValue c call (answerNumber (r .answer)) (r .cache)
   pub tells : answerTold (r .answer) ≡ telling (answerNumber (r .answer)) 0 (callItem call)
 
--- the opening: 0 or 3, and the one valid cache that stands at the opening, or that of a refused one, all its places empty
-pub record OpenedBy (k : ℕ) (cat : Catalog) (r : Answered) : Type 0 where
-  pub tells : answerTold (r .answer) ≡ telling (openingRefusal k cat) 0 0
+-- the opening: 0, 3 or 18, and the one valid cache that stands at the opening, or that of a refused one, all its places empty
+pub record OpenedBy (k rule : ℕ) (cat : Catalog) (r : Answered) : Type 0 where
+  pub tells : answerTold (r .answer) ≡ telling (openingRefusal k rule cat) 0 0
   pub valid : byValue .Valid (r .cache)
-  pub stands : byValue .view (r .cache) ≡ cond (eqb (openingRefusal k cat) 0) (opened k cat) refusedOpening
+  pub stands : byValue .view (r .cache) ≡ cond (eqb (openingRefusal k rule cat) 0) (opened (splitOf (deductionOf rule)) k cat) refusedOpening
   -- "It has 256 places, one for each sail number, empty at opening"
   pub empty : (i : ℕ) → i < 256 → EmptyPlace (recordOf (r .cache)) i
 
 -- ---- the season: each call is handed the cache that the last one handed back
 
 -- the three conclusions; the total is that of the struct's own two fields
-pub record SeasonByValue (k : ℕ) (cat : Catalog) (calls : List Call) (numbers : List ℕ) (d : Cache) : Type 0 where
-  pub season : Season byValue k cat calls numbers d
-  pub cost : Closing calls numbers → Bounded k cat calls (d .loadcost + d .writecost)
+pub record SeasonByValue (k : ℕ) (r : Deduction) (cat : Catalog) (calls : List Call) (numbers : List ℕ) (d : Cache) : Type 0 where
+  pub season : Season byValue k r cat calls numbers d
+  pub cost : Closing calls numbers → Bounded k r cat calls (d .loadcost + d .writecost)
 
 -- from c, by these calls as methods, each on the cache that the last one handed back, with these answers, to d
 pub data FollowsBy : Cache → List Call → List Answer → Cache → Type 0 where
@@ -86,25 +88,25 @@ pub data FollowsBy : Cache → List Call → List Answer → Cache → Type 0 wh
       FollowsBy c (call ∷ calls) (r .answer ∷ answers) d
 
 -- the list starts from what an opening handed back, which was not refused
-pub record ChainBy (k : ℕ) (cat : Catalog) (calls : List Call) (answers : List Answer) (d : Cache) : Type 0 where
+pub record ChainBy (k rule : ℕ) (cat : Catalog) (calls : List Call) (answers : List Answer) (d : Cache) : Type 0 where
   pub reply : Answered
-  pub opening : OpenedBy k cat reply
+  pub opening : OpenedBy k rule cat reply
   pub taken : answerNumber (reply .answer) ≡ 0
   pub follows : FollowsBy (reply .cache) calls answers d
 
 -- The first conclusion for the answers themselves: answer i tells the number that the table gives, from the opening's arguments and
 -- the calls before it, with the call's item and no line. The other two are stated for the numbers.
-pub record SeasonByMethods (k : ℕ) (cat : Catalog) (calls : List Call) (answers : List Answer) (d : Cache) : Type 0 where
+pub record SeasonByMethods (k : ℕ) (r : Deduction) (cat : Catalog) (calls : List Call) (answers : List Answer) (d : Cache) : Type 0 where
   pub count : length answers ≡ length calls
   pub each :
       (i : ℕ) → i < length calls →
       answerTold (getD answers i Taken) ≡ telling (refusal k cat (take i calls) (getD calls i close)) 0 (callItem (getD calls i close))
-  pub byNumber : SeasonByValue k cat calls (map answerNumber answers) d
+  pub byNumber : SeasonByValue k r cat calls (map answerNumber answers) d
 
--- The season theorem of the arguments alone: a refused opening answers 3 and notes nothing; else the three conclusions hold of
+-- The season theorem of the arguments alone: a refused opening answers 3 or 18 and notes nothing; else the three conclusions hold of
 -- the answers noted and of the cache handed back.
-pub record Ran (k : ℕ) (cat : Catalog) (calls : List Call) (before after : List ℕ) (r : Answered) : Type 0 where
-  pub tells : answerTold (r .answer) ≡ telling (openingRefusal k cat) 0 0
+pub record Ran (k rule : ℕ) (cat : Catalog) (calls : List Call) (before after : List ℕ) (r : Answered) : Type 0 where
+  pub tells : answerTold (r .answer) ≡ telling (openingRefusal k rule cat) 0 0
   pub refused : answerNumber (r .answer) ≢ 0 → (after ≡ before) × (byValue .view (r .cache) ≡ refusedOpening)
   pub numbers : List ℕ
-  pub season : answerNumber (r .answer) ≡ 0 → SeasonByValue k cat calls numbers (r .cache) × (after ≡ sets before 0 numbers)
+  pub season : answerNumber (r .answer) ≡ 0 → SeasonByValue k (deductionOf rule) cat calls numbers (r .cache) × (after ≡ sets before 0 numbers)

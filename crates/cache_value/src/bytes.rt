@@ -6,11 +6,13 @@ ghost use Prim.Native.Nat.{_^_, _<_};
 ghost use lib.ListN.{length};
 ghost use Rattle.fields.specs.LittleEndian.{le};
 ghost use Rattle.fields.specs.Inner.{runOf, flags};
+ghost use Rattle.landlord.specs.Types.{deductionNumber};
 ghost use Rattle.layout.specs.Layout.{stateBytes, format, cacheOf};
-ghost use Rattle.layout.specs.InnerRows.{atFormat, atCapacity, atCount, atClosed, atSteps, atHits, atLoads, atEvictions, atDirtyEvictions, atWritebacks, atFlushes, atLoadCost, atWriteCost, atDirty, atLoadCredits, atWriteCredits, atTenths, atItemLoads, atItemWritebacks, atItemLoadCosts, atItemWriteCosts, atBlocks, atHeld, flag, bytesOf, Fits};
+ghost use Rattle.layout.specs.InnerRows.{atFormat, atCapacity, atCount, atClosed, atSteps, atHits, atLoads, atEvictions, atDirtyEvictions, atWritebacks, atFlushes, atLoadCost, atWriteCost, atDirty, atLoadCredits, atWriteCredits, atTenths, atItemLoads, atItemWritebacks, atItemLoadCosts, atItemWriteCosts, atBlocks, atHeld, atRule, flag, bytesOf, Fits};
 ghost use Rattle.layout.proofs.Rows.{stored};
 ghost use Rattle.cache_value.specs.Contract.{recordOf};
 use crate::Cache;
+use landlord::Deduction;
 
 // Stores the number of the layout, the capacity, the count of items, whether the log is closed, and the counts of steps, hits and loads.
 fn put_head(b: &mut [u8], k: u32, n: usize, closed: bool, steps: u32, hits: u32, loads: u32)
@@ -74,21 +76,23 @@ fn put_uses<'a>(
     fields::put_run4(b, layout::AT_ITEM_WRITEBACKS, writebacks);
 }
 
-// Stores the catalog, and which items are held.
+// Stores the catalog, which items are held, and the rule of deduction as its number.
 fn put_catalog<'a>(
     b: &mut [u8],
     load: &'a [u16; 256],
     write: &'a [u16; 256],
     blocks: &'a [u8; 256],
     held: &'a [bool; 256],
+    rule: Deduction,
 )
     requires { ⌜ length (now b) ≡ stateBytes ⌝ }
-    ensures { λ _. ⌜ now (b .exit) ≡ stored (now (b .entry)) ((atItemLoadCosts, runOf 2 (now (load .entry))) ∷ (atItemWriteCosts, runOf 2 (now (write .entry))) ∷ (atBlocks, runOf 1 (now (blocks .entry))) ∷ (atHeld, flags (now (held .entry))) ∷ []) ⌝ }
+    ensures { λ _. ⌜ now (b .exit) ≡ stored (now (b .entry)) ((atItemLoadCosts, runOf 2 (now (load .entry))) ∷ (atItemWriteCosts, runOf 2 (now (write .entry))) ∷ (atBlocks, runOf 1 (now (blocks .entry))) ∷ (atHeld, flags (now (held .entry))) ∷ (atRule, le 4 (deductionNumber rule)) ∷ []) ⌝ }
 {
     fields::put_run2(b, layout::AT_ITEM_LOAD_COSTS, load);
     fields::put_run2(b, layout::AT_ITEM_WRITE_COSTS, write);
     fields::put_run1(b, layout::AT_BLOCKS, blocks);
     fields::put_flags(b, layout::AT_HELD, held);
+    fields::put(b, layout::AT_RULE, 4, rule.number() as u64);
 }
 
 // Stores the cache over all of `b`. Of `n` the two low bytes are stored, so a cache that is to be read back has to fit.
@@ -100,10 +104,11 @@ pub fn encode(c: Cache, b: &mut [u8])
     put_head(b, c.k, c.n, c.closed, c.steps, c.hits, c.loads);
     put_totals(b, c.evictions, c.dirtyevictions, c.writebacks, c.flushes);
     let dirty = c.dirty;
+    let rule = c.rule;
     put_costs(b, c.loadcost, c.writecost, dirty);
     put_credits(b, &c.loadcredit, &c.writecredit);
     put_uses(b, &c.tenths, &c.itemloads, &c.itemwritebacks);
-    put_catalog(b, &c.load, &c.write, &c.blocks, &c.held);
+    put_catalog(b, &c.load, &c.write, &c.blocks, &c.held, rule);
 }
 
 // The cache that the bytes stand for. A flag is read as set unless its number is 0.
@@ -134,5 +139,6 @@ pub fn decode(b: &[u8]) -> Cache
         write: fields::get_run2(b, layout::AT_ITEM_WRITE_COSTS),
         blocks: fields::get_run1(b, layout::AT_BLOCKS),
         held: fields::get_flags(b, layout::AT_HELD),
+        rule: layout::rule(b),
     }
 }

@@ -9,7 +9,8 @@ ghost use Rattle.validity.specs.InnerDecided.{Decided};
 ghost use Rattle.cache.specs.Contract.{lent, Called, callsOf};
 ghost use Rattle.cache.specs.Inner.{callFrom, BlocksOk, emptyWith};
 ghost use Rattle.cache_value.specs.Contract.{recordOf, byValue, catalogFrom, answerTold, CalledBy, OpenedBy, Ran};
-ghost use Rattle.cache_value.specs.Inner.{FirstOf, Opens, Opened};
+ghost use Rattle.cache_value.specs.Inner.{FirstOf, Opens, nothingOpened, Opened};
+use landlord::Deduction;
 use landlord::Refusal;
 use landlord::Step;
 
@@ -42,6 +43,8 @@ pub struct Cache {
     pub writecost: u64,
     pub flushes: u32,
     pub closed: bool,
+    // which credit an item loses from first, as the opening said
+    pub rule: Deduction,
 }
 
 // The answer to a call: taken, or why not.
@@ -134,8 +137,9 @@ fn empty(
     load: [u16; 256],
     write: [u16; 256],
     closed: bool,
+    rule: Deduction,
 ) -> Cache
-    ensures { λ r. ⌜ recordOf r ≡ emptyWith k n blocks load write closed ⌝ }
+    ensures { λ r. ⌜ recordOf r ≡ emptyWith k n blocks load write closed rule ⌝ }
 {
     Cache {
         k: k,
@@ -160,26 +164,52 @@ fn empty(
         writecost: 0,
         flushes: 0,
         closed: closed,
+        rule: rule,
     }
 }
 
-// Opens a cache of `k` blocks for the first `n` items of the three arrays; entries past them are not looked at. Refused (3),
-// it gives a closed cache of 1 block with no items.
-fn opening(k: u32, n: usize, blocks: [u8; 256], load: [u16; 256], write: [u16; 256]) -> Reply
-    ensures { λ r. ⌜ Opened k (catalogFrom n blocks load write) (r .number) (r .cache) ⌝ }
+// A refused opening, with the refusal's number: a closed cache of 1 block with no items, write-first.
+fn refused_opening(number: u32) -> Reply
+    ensures { λ r. ⌜ (r .number ≡ number) × (recordOf (r .cache) ≡ nothingOpened) ⌝ }
 {
-    if opens(k, n, blocks) {
-        let b = first_bytes(n, blocks);
-        let l = first_costs(n, load);
-        let w = first_costs(n, write);
-        return Reply {
-            number: 0,
-            cache: empty(k, n, b, l, w, false),
-        };
-    }
     Reply {
-        number: 3,
-        cache: empty(1, 0, [0; 256], [0; 256], [0; 256], true),
+        number: number,
+        cache: empty(
+            1,
+            0,
+            [0; 256],
+            [0; 256],
+            [0; 256],
+            true,
+            Deduction::WriteFirst,
+        ),
+    }
+}
+
+// Opens a cache of `k` blocks, with a rule of deduction by its number, for the first `n` items of the three arrays; entries past them
+// are not looked at. What is out of range comes first (3), then a number that is no rule's (18).
+fn opening(
+    k: u32,
+    rule: u32,
+    n: usize,
+    blocks: [u8; 256],
+    load: [u16; 256],
+    write: [u16; 256],
+) -> Reply
+    ensures { λ r. ⌜ Opened k rule (catalogFrom n blocks load write) (r .number) (r .cache) ⌝ }
+{
+    if !opens(k, n, blocks) {
+        return refused_opening(3);
+    }
+    if 1 < rule {
+        return refused_opening(18);
+    }
+    let b = first_bytes(n, blocks);
+    let l = first_costs(n, load);
+    let w = first_costs(n, write);
+    Reply {
+        number: 0,
+        cache: empty(k, n, b, l, w, false, landlord::deduction_of(rule)),
     }
 }
 
@@ -222,7 +252,7 @@ fn call(c: Cache, which: u32, kind: u32, item: u32, minutes: u32) -> Reply
 
 // The answer with a call's number, about an item, and no line.
 fn answer_to(number: u32, item: u32) -> Answer
-    requires { ⌜ number ≤ 17 ⌝ }
+    requires { ⌜ number ≤ 18 ⌝ }
     ensures { λ r. ⌜ answerTold r ≡ telling number 0 item ⌝ }
 {
     if number == 0 {
@@ -233,7 +263,7 @@ fn answer_to(number: u32, item: u32) -> Answer
 
 // A reply with its number as an answer, about the call's item.
 fn answer_with(r: Reply, item: u32) -> Answered
-    requires { ⌜ r .number ≤ 17 ⌝ }
+    requires { ⌜ r .number ≤ 18 ⌝ }
     ensures { λ a. ⌜ (answerTold (a .answer) ≡ telling (r .number) 0 item) × (a .cache ≡ r .cache) ⌝ }
 {
     let next = r.cache;
@@ -245,17 +275,18 @@ fn answer_with(r: Reply, item: u32) -> Answered
 }
 
 impl Cache {
-    // Opens a cache of `k` blocks for the first `n` items of the arrays.
+    // Opens a cache of `k` blocks, with a rule of deduction by its number, for the first `n` items of the arrays.
     pub fn open(
         k: u32,
+        rule: u32,
         n: usize,
         blocks: [u8; 256],
         load: [u16; 256],
         write: [u16; 256],
     ) -> Answered
-        ensures { λ r. ⌜ OpenedBy k (catalogFrom n blocks load write) r ⌝ }
+        ensures { λ r. ⌜ OpenedBy k rule (catalogFrom n blocks load write) r ⌝ }
     {
-        answer_with(opening(k, n, blocks, load, write), 0)
+        answer_with(opening(k, rule, n, blocks, load, write), 0)
     }
 
     // Takes one step.
@@ -280,6 +311,7 @@ impl Cache {
 // back are the opening's answer and the cache after the last call.
 pub fn run(
     k: u32,
+    rule: u32,
     n: usize,
     blocks: [u8; 256],
     load: [u16; 256],
@@ -287,9 +319,9 @@ pub fn run(
     calls: &[u32],
     answers: &mut [u32],
 ) -> Answered
-    ensures { λ r. ⌜ Ran k (catalogFrom n blocks load write) (callsOf (now (calls .entry))) (now (answers .entry)) (now (answers .exit)) r ⌝ }
+    ensures { λ r. ⌜ Ran k rule (catalogFrom n blocks load write) (callsOf (now (calls .entry))) (now (answers .entry)) (now (answers .exit)) r ⌝ }
 {
-    let first = opening(k, n, blocks, load, write);
+    let first = opening(k, rule, n, blocks, load, write);
     let number = first.number;
     let c = first.cache;
     if number != 0 {

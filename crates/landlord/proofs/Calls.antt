@@ -154,31 +154,31 @@ module _ (split : Split) (k : ℕ) (cat : Catalog) (ok : SplitOk split) (good : 
       let so = stands-over l a in
       rw (so .capacity, so .catalog, so .taken, so .closed)
 
-  over-more : (l : Log) (call : Call) → l .closed ≡ false → accepted split (ruleOver split k cat l) call ≡ ruleOver split k cat (logged l call)
+  over-more : (l : Log) (call : Call) → l .closed ≡ false → accepted (ruleOver split k cat l) call ≡ ruleOver split k cat (logged l call)
   unfolding ruleOver fold
-  over-more l (stepCall kind i m) e = rw e (sym (fold-append (took split) (opened k cat) (l .steps) (stepOf kind i m ∷ [])))
+  over-more l (stepCall kind i m) e = rw e (sym (fold-append took (opened split k cat) (l .steps) (stepOf kind i m ∷ [])))
   over-more l close e = rw e
 
-  pub one-call : (l : Log) (call : Call) → AllowedLog k cat (l .steps) → after split (ruleOver split k cat l) call ≡ ruleOver split k cat (joins k cat l call)
+  pub one-call : (l : Log) (call : Call) → AllowedLog k cat (l .steps) → after (ruleOver split k cat l) call ≡ ruleOver split k cat (joins k cat l call)
   unfolding after joins
   one-call l call a = rw (same-refusal l call a) (go (eqb (refusalIn k cat l call) 0) refl)
     where
       go :
           (t : Bool) →
           eqb (refusalIn k cat l call) 0 ≡ t →
-          cond t (accepted split (ruleOver split k cat l) call) (ruleOver split k cat l) ≡ ruleOver split k cat (cond t (logged l call) l)
+          cond t (accepted (ruleOver split k cat l) call) (ruleOver split k cat l) ≡ ruleOver split k cat (cond t (logged l call) l)
       go true e = over-more l call (open-log k cat (length (l .steps)) (l .closed) call (eqb-true (refusalIn k cat l call) 0 e))
       go false e = refl
 
   -- the rule asked call by call stands where it stands over the log of the calls
-  pub rule-follows : (calls : List Call) → fold (after split) (opened k cat) calls ≡ ruleOver split k cat (logOf k cat calls)
+  pub rule-follows : (calls : List Call) → fold after (opened split k cat) calls ≡ ruleOver split k cat (logOf k cat calls)
   unfolding fold ruleOver
   rule-follows calls = from noLog calls (log-allowed k cat [])
     where
-      from : (l : Log) (calls : List Call) → AllowedLog k cat (l .steps) → fold (after split) (ruleOver split k cat l) calls ≡ ruleOver split k cat (fold (joins k cat) l calls)
+      from : (l : Log) (calls : List Call) → AllowedLog k cat (l .steps) → fold after (ruleOver split k cat l) calls ≡ ruleOver split k cat (fold (joins k cat) l calls)
       from l [] a = refl
       from l (call ∷ calls) a =
-          ap (λ (v : Standing). fold (after split) v calls) (one-call l call a)
+          ap (λ (v : Standing). fold after v calls) (one-call l call a)
           ∙ from (joins k cat l call) calls (joins-either k cat l call (λ m. AllowedLog k cat (m .steps)) (λ e. logged-allowed k cat l call a e) a)
 
 -- A closed log stays as it is: every call after the closing is refused.

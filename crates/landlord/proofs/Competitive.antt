@@ -497,40 +497,39 @@ module _ (k h : ℕ) (low : 1 ≤ h) (high : h ≤ k) (cat : Catalog) (good : Ca
       go (fault f) end = tt
   then-ends v w v' b q (faulty f) next first later = tt
 
-  module _ (split : Split) (ok : SplitOk split) where
-    served-reach :
-        (s : ℕ) (st : Step) (t : ℕ) (v : Standing) (b : ℕ) (q : List Copy) →
-        StandsAfter k cat t false v →
-        length q ≡ length cat →
-        Served k cat st →
-        Reach (stand v b q) (totalCost (took split v st .figures)) b (took split v st .state) (planServes cat h s st q)
-    unfolding took
-    served-reach s st t v b q so len served =
-        subst (λ (z : ℕ). Reach (stand v b q) z b (step split (v .k) st (v .state) .state) (planServes cat h s st q))
-        (sym (moved-cost v (step split (v .k) st (v .state)) (v .closed) (so .catalog)))
-        (subst
-        (λ (n : ℕ). Reach (stand v b q) (totalCost (v .figures) + eventCost (step split n st (v .state) .events)) b (step split n st (v .state) .state) (planServes cat h s st q))
-        (sym (so .capacity)) (step-reach split ok s st (totalCost (v .figures)) b (v .state) q (so .kept) (so .catalog) len served))
+  served-reach :
+      (s : ℕ) (st : Step) (t : ℕ) (v : Standing) (b : ℕ) (q : List Copy) →
+      StandsAfter k cat t false v →
+      length q ≡ length cat →
+      Served k cat st →
+      Reach (stand v b q) (totalCost (took v st .figures)) b (took v st .state) (planServes cat h s st q)
+  unfolding took
+  served-reach s st t v b q so len served =
+      subst (λ (z : ℕ). Reach (stand v b q) z b (step (v .split) (v .k) st (v .state) .state) (planServes cat h s st q))
+      (sym (moved-cost v (step (v .split) (v .k) st (v .state)) (v .closed) (so .catalog)))
+      (subst
+      (λ (n : ℕ). Reach (stand v b q) (totalCost (v .figures) + eventCost (step (v .split) n st (v .state) .events)) b (step (v .split) n st (v .state) .state) (planServes cat h s st q))
+      (sym (so .capacity)) (step-reach (v .split) (so .fit) s st (totalCost (v .figures)) b (v .state) q (so .kept) (so .catalog) len served))
 
-    chain :
-        (plan : Plan) (s t : ℕ) (steps : List Step) (v : Standing) (b : ℕ) (q : List Copy) →
-        StandsAfter k cat t false v →
-        length q ≡ length cat →
-        AllServed k cat steps →
-        Ends v (closes (fold (took split) v steps)) b q (priceFrom cat h plan s steps q)
-    unfolding priceFrom fold
-    chain plan s t [] v b q so len served = closing v b q (so .catalog)
-    chain plan s t (st ∷ steps) v b q so len served =
-        then-ends v (took split v st) (closes (fold (took split) (took split v st) steps)) b q
-        (andThen (allActs cat s 0 (plan s) q) (planServes cat h s st)) (priceFrom cat h plan (suc s) steps)
-        (then-reach (stand v b q) (totalCost (v .figures)) b (totalCost (took split v st .figures)) (v .state) (took split v st .state)
-        (allActs cat s 0 (plan s) q) (planServes cat h s st) (acts-reach s 0 (plan s) (totalCost (v .figures)) b (v .state) q len)
-        (λ c r f. served-reach s st t v (b + c) r so f (served .0)))
-        (λ c r f. chain plan (suc s) (t + 1) steps (took split v st) (b + c) r (took-stands split k cat t v st ok so (served .0)) f (served .1))
+  chain :
+      (plan : Plan) (s t : ℕ) (steps : List Step) (v : Standing) (b : ℕ) (q : List Copy) →
+      StandsAfter k cat t false v →
+      length q ≡ length cat →
+      AllServed k cat steps →
+      Ends v (closes (fold took v steps)) b q (priceFrom cat h plan s steps q)
+  unfolding priceFrom fold
+  chain plan s t [] v b q so len served = closing v b q (so .catalog)
+  chain plan s t (st ∷ steps) v b q so len served =
+      then-ends v (took v st) (closes (fold took (took v st) steps)) b q
+      (andThen (allActs cat s 0 (plan s) q) (planServes cat h s st)) (priceFrom cat h plan (suc s) steps)
+      (then-reach (stand v b q) (totalCost (v .figures)) b (totalCost (took v st .figures)) (v .state) (took v st .state)
+      (allActs cat s 0 (plan s) q) (planServes cat h s st) (acts-reach s 0 (plan s) (totalCost (v .figures)) b (v .state) q len)
+      (λ c r f. served-reach s st t v (b + c) r so f (served .0)))
+      (λ c r f. chain plan (suc s) (t + 1) steps (took v st) (b + c) r (took-stands k cat t v st so (served .0)) f (served .1))
 
   -- the start, where nothing is held and nothing paid
-  fresh : Fresh terms (stand (opened k cat) 0 (tab (length cat) (λ i. noCopy)))
-  fresh =
+  fresh : (split : Split) → Fresh terms (stand (opened split k cat) 0 (tab (length cat) (λ i. noCopy)))
+  fresh split =
       record {
         cacheZero = refl;
         planZero = refl;
@@ -555,16 +554,16 @@ module _ (split : Split) (ok : SplitOk split) (k : ℕ) (cat : Catalog) (good : 
   priced :
       (h : ℕ) (low : 1 ≤ h) (high : h ≤ k) (plan : Plan) (c : ℕ) →
       price cat h plan steps ≡ costs c →
-      Reached k h low high cat good (opened k cat) (season split k cat steps) 0 c (tab (length cat) (λ i. noCopy))
+      Reached k h low high cat good (opened split k cat) (season split k cat steps) 0 c (tab (length cat) (λ i. noCopy))
   priced h low high plan c e =
-      subst (Ends k h low high cat good (opened k cat) (season split k cat steps) 0 (tab (length cat) (λ i. noCopy))) e
-      (chain k h low high cat good split ok plan 0 0 steps (opened k cat) 0 (tab (length cat) (λ i. noCopy)) (opened-stands k cat good) (tab-length (length cat) _) served)
+      subst (Ends k h low high cat good (opened split k cat) (season split k cat steps) 0 (tab (length cat) (λ i. noCopy))) e
+      (chain k h low high cat good plan 0 0 steps (opened split k cat) 0 (tab (length cat) (λ i. noCopy)) (opened-stands split k cat ok good) (tab-length (length cat) _) served)
 
   -- The wear bound, for every log that the table of refusals lets through: (rule's total over the log and its closing)
   -- × (k - h + 1) ≤ k × (cost of any plan that is legal over the log with h blocks), for every h from 1 to k.
   pub competitive-bound : CompetitiveBound split k cat steps
   competitive-bound h low high plan c e =
-      let begun = Moves.start (fresh k h low high cat good) in
+      let begun = Moves.start (fresh k h low high cat good split) in
       let end = priced h low high plan c e in
       let kept = Moves.keeps-run (end .run) (begun .0) (begun .1) in
       turned (totalCost (season split k cat steps .figures)) (k - h + 1) k c
@@ -573,7 +572,7 @@ module _ (split : Split) (ok : SplitOk split) (k : ℕ) (cat : Catalog) (good : 
   -- the sharper line, with the load credits held at the close
   pub sharp-bound : SharpBound split k cat steps
   sharp-bound h low high plan c e =
-      let begun = Moves.start (fresh k h low high cat good) in
+      let begun = Moves.start (fresh k h low high cat good split) in
       let end = priced h low high plan c e in
       let kept = Moves.keeps-run (end .run) (begun .0) (begun .1) in
       let x : State = season split k cat steps .state in

@@ -168,38 +168,40 @@ step-steps split k (Write i minutes) x cat ok served =
     )
 step-steps split k Flush x cat ok served = omega (arith, flush-steps cat x)
 
--- where the rule stands in a season of capacity k and catalog cat, after t steps
+-- where the rule stands in a season of capacity k and catalog cat, after t steps, with a split that is fit
 pub record StandsAfter (k : ℕ) (cat : Catalog) (t : ℕ) (isClosed : Bool) (v : Standing) : Type 0 where
   pub capacity : v .k ≡ k
   pub catalog : v .state .catalog ≡ cat
   pub kept : Kept k (v .state)
   pub taken : v .figures .totals .steps ≡ t
   pub closed : v .closed ≡ isClosed
+  pub fit : SplitOk (v .split)
 
-pub opened-stands : (k : ℕ) (cat : Catalog) → CatalogOk cat → StandsAfter k cat 0 false (opened k cat)
-opened-stands k cat ok = record { capacity = refl; catalog = refl; kept = empty-kept k cat ok; taken = refl; closed = refl }
+pub opened-stands : (split : Split) (k : ℕ) (cat : Catalog) → SplitOk split → CatalogOk cat → StandsAfter k cat 0 false (opened split k cat)
+opened-stands split k cat ok good =
+    record { capacity = refl; catalog = refl; kept = empty-kept k cat good; taken = refl; closed = refl; fit = ok }
 
 pub took-stands :
-    (split : Split) (k : ℕ) (cat : Catalog) (t : ℕ) (v : Standing) (s : Step) →
-    SplitOk split →
+    (k : ℕ) (cat : Catalog) (t : ℕ) (v : Standing) (s : Step) →
     StandsAfter k cat t false v →
     Served k cat s →
-    StandsAfter k cat (t + 1) false (took split v s)
+    StandsAfter k cat (t + 1) false (took v s)
 unfolding took
-took-stands split k cat t v s ok so served =
+took-stands k cat t v s so served =
     let here : Served (v .k) (v .state .catalog) s = rw (so .capacity, so .catalog) served in
     record {
       capacity = so .capacity;
-      catalog = step-catalog split (v .k) s (v .state) ok here ∙ so .catalog;
-      kept = rw (so .capacity) (step-kept split k s (v .state) ok (so .kept) (rw (so .catalog) served));
+      catalog = step-catalog (v .split) (v .k) s (v .state) (so .fit) here ∙ so .catalog;
+      kept = rw (so .capacity) (step-kept (v .split) k s (v .state) (so .fit) (so .kept) (rw (so .catalog) served));
       taken =
           omega (
             arith,
             so .taken,
-            tally-part (λ (a : Totals). a .steps) (λ a b. refl) (v .state .catalog) (v .figures) (step split (v .k) s (v .state) .events),
-            step-steps split (v .k) s (v .state) (v .state .catalog) ok here,
+            tally-part (λ (a : Totals). a .steps) (λ a b. refl) (v .state .catalog) (v .figures) (step (v .split) (v .k) s (v .state) .events),
+            step-steps (v .split) (v .k) s (v .state) (v .state .catalog) (so .fit) here,
           );
       closed = so .closed;
+      fit = so .fit;
     }
 
 pub closes-stands : (k : ℕ) (cat : Catalog) (t : ℕ) (v : Standing) → StandsAfter k cat t false v → StandsAfter k cat t true (closes v)
@@ -217,6 +219,7 @@ closes-stands k cat t v so =
             flush-steps (v .state .catalog) (v .state),
           );
       closed = refl;
+      fit = so .fit;
     }
 
 -- What the rule keeps, for every log that the table lets through and every split in multiples of the blocks.
@@ -228,14 +231,14 @@ pub ran-stands :
     StandsAfter k cat (length steps) false (ran split k cat steps)
 unfolding fold
 ran-stands split k cat steps ok good served =
-    rw (let e : length steps ≡ 0 + length steps = omega arith in e) (from 0 (opened k cat) steps (opened-stands k cat good) served)
+    rw (let e : length steps ≡ 0 + length steps = omega arith in e) (from 0 (opened split k cat) steps (opened-stands split k cat ok good) served)
   where
     from :
         (t : ℕ) (v : Standing) (steps : List Step) →
         StandsAfter k cat t false v →
         AllServed k cat steps →
-        StandsAfter k cat (t + length steps) false (fold (took split) v steps)
+        StandsAfter k cat (t + length steps) false (fold took v steps)
     from t v [] so served = rw (let e : t + 0 ≡ t = omega arith in e) so
     from t v (s ∷ steps) so served =
         rw (let e : t + suc (length steps) ≡ t + 1 + length steps = omega arith in e)
-        (from (t + 1) (took split v s) steps (took-stands split k cat t v s ok so (served .0)) (served .1))
+        (from (t + 1) (took v s) steps (took-stands k cat t v s so (served .0)) (served .1))

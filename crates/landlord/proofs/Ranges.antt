@@ -9,6 +9,7 @@ use lib.ListN.{length}
 use lib.Dec.{leb, eqb}
 use borrow.Author.Tests.{leb-true, eq-eqb, ne-eqb, le-leb, lt-leb}
 use Rattle.landlord.specs.Catalog.{Catalog, Item, itemAt, blocksInRange, costInRange, itemInRange, allInRange, catalogInRange, capacityInRange, CatalogOk, CapacityOk}
+use Rattle.landlord.specs.Types.{isDeduction}
 use Rattle.landlord.specs.Calls.{openingRefusal, inRange}
 use Rattle.landlord.specs.Inner.{ItemFacts, CatalogFacts, CapacityFacts}
 
@@ -80,28 +81,34 @@ capacity-ok k f = rw (le-leb 1 k (f .low), le-leb k 4096 (f .high))
 
 -- ## An opening
 
-zero-or-three : (t : Bool) → _≡_ {A = ℕ} (cond t 0 3) 0 → t ≡ true
-zero-or-three true e = refl
-zero-or-three false e = absurd (omega arith)
+none-refused : (s t : Bool) → _≡_ {A = ℕ} (cond s (cond t 0 18) 3) 0 → (s ≡ true) × (t ≡ true)
+none-refused true true e = (refl, refl)
+none-refused true false e = absurd (omega arith)
+none-refused false t e = absurd (omega arith)
 
-pub opening-taken : (k : ℕ) (cat : Catalog) → openingRefusal k cat ≡ 0 → CapacityOk k × CatalogOk cat
+pub opening-taken : (k rule : ℕ) (cat : Catalog) → openingRefusal k rule cat ≡ 0 → (CapacityOk k × CatalogOk cat) × (isDeduction rule ≡ true)
 unfolding openingRefusal
-opening-taken k cat e =
-    let both = zero-or-three (capacityInRange k && catalogInRange cat) e in
-    (and-left (capacityInRange k) (catalogInRange cat) both, and-right (capacityInRange k) (catalogInRange cat) both)
+opening-taken k rule cat e =
+    let all = none-refused (capacityInRange k && catalogInRange cat) (isDeduction rule) e in
+    ((and-left (capacityInRange k) (catalogInRange cat) (all .0), and-right (capacityInRange k) (catalogInRange cat) (all .0)), all .1)
 
-pub opening-accepts : (k : ℕ) (cat : Catalog) → CapacityOk k → CatalogOk cat → openingRefusal k cat ≡ 0
+pub opening-accepts : (k rule : ℕ) (cat : Catalog) → CapacityOk k → CatalogOk cat → isDeduction rule ≡ true → openingRefusal k rule cat ≡ 0
 unfolding openingRefusal
-opening-accepts k cat size ok = rw (size, ok)
+opening-accepts k rule cat size ok known = rw (size, ok, known)
 
 -- an opening that asks for something out of range is refused
-pub range-refused : (k : ℕ) (cat : Catalog) → (CapacityOk k × CatalogOk cat → ⊥) → 3 ≡ openingRefusal k cat
+pub range-refused : (k rule : ℕ) (cat : Catalog) → (CapacityOk k × CatalogOk cat → ⊥) → 3 ≡ openingRefusal k rule cat
 unfolding openingRefusal
-range-refused k cat none = go (capacityInRange k && catalogInRange cat) refl
+range-refused k rule cat none = go (capacityInRange k && catalogInRange cat) refl
   where
-    go : (t : Bool) → capacityInRange k && catalogInRange cat ≡ t → _≡_ {A = ℕ} 3 (cond t 0 3)
+    go : (t : Bool) → capacityInRange k && catalogInRange cat ≡ t → _≡_ {A = ℕ} 3 (cond t (cond (isDeduction rule) 0 18) 3)
     go true e = absurd (none (and-left (capacityInRange k) (catalogInRange cat) e, and-right (capacityInRange k) (catalogInRange cat) e))
     go false e = refl
+
+-- and after that one whose rule's number is no rule's
+pub rule-refused : (k rule : ℕ) (cat : Catalog) → CapacityOk k → CatalogOk cat → isDeduction rule ≡ false → 18 ≡ openingRefusal k rule cat
+unfolding openingRefusal
+rule-refused k rule cat size ok odd = rw (size, ok, odd)
 
 -- ## A step, test by test
 

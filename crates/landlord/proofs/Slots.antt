@@ -1,14 +1,18 @@
 -- Laws of one slot: the share fact, and what each change of a slot keeps. Assumes nothing.
 use mathlib.Core.Path.{_≡_, refl, ap, _∙_}
 use mathlib.Core.Bool.{true, false, false≢true}
-use Prim.Native.Nat.{ℕ, zero, suc, _+_, _*_, _/_, _≤_, _∣_, _%_, min}
+use Prim.Native.Nat.{ℕ, zero, suc, _+_, _*_, _/_, _≤_, _<_, _∣_, _%_, min}
 use native.Mathlib.Nat.{dvd-zero, dvd-sub, dvd-mul-left-of-dvd, div-mul-cancel, dvd-of-mod-eq-zero, mul-assoc}
-use native.Mathlib.Decide.{decLe}
+use native.Mathlib.Decide.{decLe, ℕ-discrete}
 use native.Mathlib.Omega.{arith}
+use borrow.Author.Tests.{ne-eqb}
+use Rattle.landlord.specs.declared.Deduction.{Deduction}
+use Rattle.landlord.specs.declared.Deduction.the-variants.{WriteFirst, LoadFirst}
+use Rattle.landlord.specs.Types.{deductionNumber, deductionOf, isDeduction}
 use Rattle.landlord.specs.Fold.{sumTo}
 use Rattle.landlord.specs.Catalog.{Item, full, unit, sharesPerBlock}
 use Rattle.landlord.specs.Inner.{ItemFacts}
-use Rattle.landlord.specs.Slot.{Slot, absent, clean, dirty, held, isDirty, loadCredit, writeCredit, Split, writeFirst, lose, brought, refilled, written, flushed}
+use Rattle.landlord.specs.Slot.{Slot, absent, clean, dirty, held, isDirty, loadCredit, writeCredit, Split, writeFirst, loadFirst, splitOf, lose, brought, refilled, written, flushed}
 use Rattle.landlord.proofs.Sums.{sum-none}
 use Rattle.landlord.specs.Claims.{Bears, SplitOk, SlotKept}
 
@@ -48,6 +52,44 @@ write-first-ok =
         go : Dec (m ≤ n) → s ∣ min m n
         go (yes l) = rw (let e : min m n ≡ m = omega arith in e) dm
         go (no l) = rw (let e : min m n ≡ n = omega arith in e) dn
+
+-- and so does load-first: what is left over of one multiple by another is one
+pub load-first-ok : SplitOk loadFirst
+load-first-ok =
+    record {
+      each =
+          λ s loss a b l dl da db le.
+          record { whole = dvd-sub s dl da; part = omega arith; within = omega arith; rest = omega arith };
+    }
+
+-- each rule of deduction
+pub deduction-ok : (r : Deduction) → SplitOk (splitOf r)
+deduction-ok WriteFirst = write-first-ok
+deduction-ok LoadFirst = load-first-ok
+
+-- The two rules differ: of a loss of 1 where both credits have 1, write-first takes from the write credit and load-first does not.
+-- So a standing tells its rule, and with it the rule's number.
+pub deduction-one : (r s : Deduction) → splitOf r ≡ splitOf s → r ≡ s
+deduction-one WriteFirst WriteFirst e = refl
+deduction-one WriteFirst LoadFirst e = absurd (let z : 1 ≡ 0 = ap (λ (f : Split). f 1 1 1 1) e in omega arith)
+deduction-one LoadFirst WriteFirst e = absurd (let z : 0 ≡ 1 = ap (λ (f : Split). f 1 1 1 1) e in omega arith)
+deduction-one LoadFirst LoadFirst e = refl
+
+-- a rule is that of its number, and the number of a rule is one
+pub deduction-number : (r : Deduction) → (deductionOf (deductionNumber r) ≡ r) × (isDeduction (deductionNumber r) ≡ true)
+deduction-number WriteFirst = (refl, refl)
+deduction-number LoadFirst = (refl, refl)
+
+pub deduction-lt : (r : Deduction) → deductionNumber r < 2
+deduction-lt WriteFirst = omega arith
+deduction-lt LoadFirst = omega arith
+
+pub number-deduction : (n : ℕ) → n < 2 → deductionNumber (deductionOf n) ≡ n
+number-deduction n l = go (ℕ-discrete n 0)
+  where
+    go : Dec (n ≡ 0) → deductionNumber (deductionOf n) ≡ n
+    go (yes e) = rw e
+    go (no e) = rw (ne-eqb n 0 e) (let f : 1 ≡ n = omega (arith, l, e) in f)
 
 -- a loss changes no mark
 pub lose-held : (split : Split) (s loss : ℕ) (x : Slot) → held (lose split s loss x) ≡ held x

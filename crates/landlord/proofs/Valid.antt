@@ -1,7 +1,7 @@
 -- What holds of the rule wherever it stands (`StandingOk`, specs/Valid.antt): at opening, after each eviction, after a request
 -- is served, after a landing and the closing, and so after every call and over the log of every list of calls.
 -- Assumes nothing.
-use mathlib.Core.Path.{_≡_, refl, sym, ap, _∙_}
+use mathlib.Core.Path.{_≡_, refl, sym, ap, subst, _∙_}
 use mathlib.Core.Bool.{Bool, true, false, cond, false≢true}
 use mathlib.Core.List.{List, [], _∷_}
 use Prim.Native.Nat.{ℕ, _+_, _*_, _≤_, _<_}
@@ -43,8 +43,8 @@ abbrev Right : State → ℕ → Figures → Type 0
 Right x t f = CountsKept (size x) t (heldCount x) (dirtyCount x) (240 * t) f
 
 -- a standing, by its parts
-abbrev standingWith : ℕ → State → Figures → Bool → Standing
-standingWith k x f c = record { k = k; state = x; figures = f; closed = c }
+abbrev standingWith : ℕ → State → Figures → Bool → Split → Standing
+standingWith k x f c split = record { k = k; state = x; figures = f; closed = c; split = split }
 
 -- What holds where the rule stands is what holds of its state and what holds of its figures; so it comes apart and together.
 counted-of : (v : Standing) → StandingOk v → Right (v .state) (taken v) (v .figures)
@@ -92,10 +92,10 @@ standing-of v t capacity kept few c tidy =
     }
 
 -- at opening nothing is held, and nothing is counted
-pub ok-opened : (k : ℕ) (cat : Catalog) → CapacityOk k → CatalogOk cat → StandingOk (opened k cat)
+pub ok-opened : (split : Split) (k : ℕ) (cat : Catalog) → CapacityOk k → CatalogOk cat → StandingOk (opened split k cat)
 unfolding heldCount dirtyCount
-ok-opened k cat capacity good =
-    standing-of (opened k cat) 0 capacity (empty-kept k cat good) (omega arith)
+ok-opened split k cat capacity good =
+    standing-of (opened split k cat) 0 capacity (empty-kept k cat good) (omega arith)
     (rw (none held refl, none isDirty refl) (nothing-counted cat))
     (λ c. absurd (false≢true c))
   where
@@ -162,24 +162,24 @@ pub moved-joined :
     a .state .catalog ≡ v .state .catalog →
     moved v (joined a b) c ≡ moved (moved v a c) b c
 moved-joined v a b c e =
-    ap (λ (f : Figures). standingWith (v .k) (b .state) f c)
+    ap (λ (f : Figures). standingWith (v .k) (b .state) f c (v .split))
     (fold-append (tally (v .state .catalog)) (v .figures) (a .events) (b .events)
     ∙ ap (λ (cat : Catalog). fold (tally cat) (moved v a c .figures) (b .events)) (sym e))
 
 -- the loop that makes room, eviction by eviction
 evicting-ok :
-    (split : Split) (k blocks : ℕ) (x : State) (m : Moved) (f : Figures) (c : Bool) →
+    (split : Split) (k blocks : ℕ) (x : State) (m : Moved) (f : Figures) (c : Bool) (own : Split) →
     SplitOk split →
     Evicting split k blocks x m →
-    StandingOk (standingWith k x f c) →
-    StandingOk (moved (standingWith k x f c) m c)
+    StandingOk (standingWith k x f c own) →
+    StandingOk (moved (standingWith k x f c own) m c)
 unfolding fold
-evicting-ok split k blocks x m f c ok (enough l) o = o
-evicting-ok split k blocks x m f c ok (more {m = n} over low next) o =
-    let v : Standing = standingWith k x f c in
+evicting-ok split k blocks x m f c own ok (enough l) o = o
+evicting-ok split k blocks x m f c own ok (more {m = n} over low next) o =
+    let v : Standing = standingWith k x f c own in
     let w : Standing = moved v (evict split x) c in
     rw (moved-joined v (evict split x) n c (evict-catalog split (victim x) x))
-    (evicting-ok split k blocks (w .state) n (w .figures) c ok next (ok-evict split v ok o low))
+    (evicting-ok split k blocks (w .state) n (w .figures) c own ok next (ok-evict split v ok o low))
 
 -- room made for an item, whether it was held or not
 pub ok-room :
@@ -198,8 +198,8 @@ ok-room split v i ok o l fits = go (held (slotAt (v .state) i)) refl
     room = make-room split (v .k) i (v .state) ok l fits
 
     go : (t : Bool) → held (slotAt (v .state) i) ≡ t → StandingOk (moved v m (v .closed))
-    go true e = rw (room .stayed e) (evicting-ok split (v .k) 0 (v .state) (stay (v .state)) (v .figures) (v .closed) ok (enough (omega (arith, o .kept .room))) o)
-    go false e = evicting-ok split (v .k) (blocksAt (v .state) i) (v .state) m (v .figures) (v .closed) ok (room .ran e .1) o
+    go true e = rw (room .stayed e) (evicting-ok split (v .k) 0 (v .state) (stay (v .state)) (v .figures) (v .closed) (v .split) ok (enough (omega (arith, o .kept .room))) o)
+    go false e = evicting-ok split (v .k) (blocksAt (v .state) i) (v .state) m (v .figures) (v .closed) (v .split) ok (room .ran e .1) o
 
 -- an eviction is no step
 pub evict-steps : (split : Split) (v : Standing) (c : Bool) → moved v (evict split (v .state)) c .figures .totals .steps ≡ v .figures .totals .steps
@@ -292,10 +292,10 @@ serve-ok :
     SlotKept (itemAt (v .state .catalog) i) s →
     held s ≡ true →
     Right (putSlot (v .state) i s) (taken v + 1) f →
-    StandingOk (standingWith (v .k) (putSlot (v .state) i s) f (v .closed))
+    StandingOk (standingWith (v .k) (putSlot (v .state) i s) f (v .closed) (v .split))
 serve-ok v i s f r new h right =
     let o : StandingOk v = r .taking .standing in
-    standing-of (standingWith (v .k) (putSlot (v .state) i s) f (v .closed)) (taken v + 1) (o .capacity)
+    standing-of (standingWith (v .k) (putSlot (v .state) i s) f (v .closed) (v .split)) (taken v + 1) (o .capacity)
     (put-kept (v .k) (v .state) i s (o .kept) (r .below) new h (r .free))
     (omega (arith, r .taking .few)) right (λ c. absurd (false≢true (sym (r .taking .isOpen) ∙ c)))
 
@@ -359,30 +359,30 @@ pub ok-closes : (v : Standing) → StandingOk v → StandingOk (closes v)
 unfolding closes
 ok-closes v o = ok-flush v true o
 
-pub ok-flush-step : (split : Split) (v : Standing) → Taking v → StandingOk (took split v Flush)
+pub ok-flush-step : (v : Standing) → Taking v → StandingOk (took v Flush)
 unfolding took step
-ok-flush-step split v r =
+ok-flush-step v r =
     rw (moved-joined v (flushCounts (v .state)) (flush (v .state)) (v .closed) refl)
     (ok-flush (moved v (flushCounts (v .state)) (v .closed)) (v .closed) (ok-flushCounts v r))
 
 -- every step that the table lets through
 pub ok-took :
-    (split : Split) (v : Standing) (s : Step) →
-    SplitOk split →
+    (v : Standing) (s : Step) →
+    SplitOk (v .split) →
     Taking v →
     Served (v .k) (v .state .catalog) s →
     stepMinutes s ≤ 1440 →
-    StandingOk (took split v s)
+    StandingOk (took v s)
 unfolding took step
-ok-took split v (Read i) ok r served few =
-    let m : Moved = makeRoom split (v .k) i (v .state) in
-    rw (moved-joined v m (serveRead i (m .state)) (v .closed) (make-room split (v .k) i (v .state) ok (served .0) (served .1) .catalog))
-    (ok-serve-read (moved v m (v .closed)) i (room-ready split v i ok r (served .0) (served .1)))
-ok-took split v (Write i minutes) ok r served few =
-    let m : Moved = makeRoom split (v .k) i (v .state) in
-    rw (moved-joined v m (serveWrite i minutes (m .state)) (v .closed) (make-room split (v .k) i (v .state) ok (served .0) (served .1) .catalog))
-    (ok-serve-write (moved v m (v .closed)) i minutes (room-ready split v i ok r (served .0) (served .1)) few)
-ok-took split v Flush ok r served few = ok-flush-step split v r
+ok-took v (Read i) ok r served few =
+    let m : Moved = makeRoom (v .split) (v .k) i (v .state) in
+    rw (moved-joined v m (serveRead i (m .state)) (v .closed) (make-room (v .split) (v .k) i (v .state) ok (served .0) (served .1) .catalog))
+    (ok-serve-read (moved v m (v .closed)) i (room-ready (v .split) v i ok r (served .0) (served .1)))
+ok-took v (Write i minutes) ok r served few =
+    let m : Moved = makeRoom (v .split) (v .k) i (v .state) in
+    rw (moved-joined v m (serveWrite i minutes (m .state)) (v .closed) (make-room (v .split) (v .k) i (v .state) ok (served .0) (served .1) .catalog))
+    (ok-serve-write (moved v m (v .closed)) i minutes (room-ready (v .split) v i ok r (served .0) (served .1)) few)
+ok-took v Flush ok r served few = ok-flush-step v r
 
 -- the two first tests of the table that an answer of 0 has passed: the log is not full, and the numbers are in range
 passed : (a b : Bool) (z : ℕ) → cond a 8 (cond b z 3) ≡ 0 → (a ≡ false) × (b ≡ true)
@@ -404,23 +404,33 @@ in-range k cat t (Write i m) e =
 in-range k cat t Flush e = (leb-false 1000000 t (passed (leb 1000000 t) true 0 e .0), omega arith)
 
 -- a call that is not refused
-accepted-ok : (split : Split) (v : Standing) (call : Call) → SplitOk split → StandingOk v → refusalNow v call ≡ 0 → StandingOk (accepted split v call)
-accepted-ok split v (stepCall kind i m) ok o e =
+accepted-ok : (v : Standing) (call : Call) → SplitOk (v .split) → StandingOk v → refusalNow v call ≡ 0 → StandingOk (accepted v call)
+accepted-ok v (stepCall kind i m) ok o e =
     let isOpen : v .closed ≡ false = open-log (v .k) (v .state .catalog) (taken v) (v .closed) (stepCall kind i m) e in
     let lets : refusalAt (v .k) (v .state .catalog) (taken v) false (callOf (stepOf kind i m)) ≡ 0 =
     means (v .k) (v .state .catalog) (taken v) kind i m (rw isOpen at e)
     in
     let ranged : (taken v < 1000000) × (stepMinutes (stepOf kind i m) ≤ 1440) = in-range (v .k) (v .state .catalog) (taken v) (stepOf kind i m) lets in
-    ok-took split v (stepOf kind i m) ok (record { standing = o; few = ranged .0; isOpen = isOpen })
+    ok-took v (stepOf kind i m) ok (record { standing = o; few = ranged .0; isOpen = isOpen })
     (allowed-served (v .k) (v .state .catalog) (taken v) (stepOf kind i m) lets) (ranged .1)
-accepted-ok split v close ok o e = ok-closes v o
+accepted-ok v close ok o e = ok-closes v o
+
+-- a call keeps the split
+pub after-split : (v : Standing) (call : Call) → after v call .split ≡ v .split
+unfolding after
+after-split v call =
+    either (λ (w : Standing). w .split ≡ v .split) (eqb (refusalNow v call) 0) (accepted v call) v (λ e. kept call) (λ e. refl)
+  where
+    kept : (call : Call) → accepted v call .split ≡ v .split
+    kept (stepCall kind i m) = unfold took in refl
+    kept close = unfold closes in refl
 
 -- every call: a refused one changes nothing, and an accepted one has passed the table
-pub ok-after : (split : Split) (v : Standing) (call : Call) → SplitOk split → StandingOk v → StandingOk (after split v call)
+pub ok-after : (v : Standing) (call : Call) → SplitOk (v .split) → StandingOk v → StandingOk (after v call)
 unfolding after
-ok-after split v call ok o =
-    either StandingOk (eqb (refusalNow v call) 0) (accepted split v call) v
-    (λ e. accepted-ok split v call ok o (eqb-true (refusalNow v call) 0 e)) (λ e. o)
+ok-after v call ok o =
+    either StandingOk (eqb (refusalNow v call) 0) (accepted v call) v
+    (λ e. accepted-ok v call ok o (eqb-true (refusalNow v call) 0 e)) (λ e. o)
 
 -- so wherever the rule stands over the log of a list of calls
 pub ok-over :
@@ -431,8 +441,8 @@ pub ok-over :
     StandingOk (ruleOver split k cat (logOf k cat calls))
 unfolding fold
 ok-over split k cat calls ok capacity good =
-    rw (rule-follows split k cat ok good calls) at (from (opened k cat) calls (ok-opened k cat capacity good))
+    rw (rule-follows split k cat ok good calls) at (from (opened split k cat) calls ok (ok-opened split k cat capacity good))
   where
-    from : (v : Standing) (calls : List Call) → StandingOk v → StandingOk (fold (after split) v calls)
-    from v [] o = o
-    from v (call ∷ calls) o = from (after split v call) calls (ok-after split v call ok o)
+    from : (v : Standing) (calls : List Call) → SplitOk (v .split) → StandingOk v → StandingOk (fold after v calls)
+    from v [] ok o = o
+    from v (call ∷ calls) ok o = from (after v call) calls (subst SplitOk (sym (after-split v call)) ok) (ok-after v call ok o)

@@ -4,11 +4,12 @@ use mathlib.Core.{Bool.{Bool, true, false, cond, _&&_}, List.{List, [], _∷_, _
 use Prim.Native.Nat.{ℕ}
 use lib.{ListN.length, Dec.{leb, ltb, eqb}}
 use Rattle.landlord.specs.declared.Step.{Step, the-variants.{Read, Write, Flush}}
-use Rattle.landlord.specs.{Types.{stepKind, stepItem, stepMinutes}, Fold.fold, Catalog.{Catalog, itemAt, catalogInRange, capacityInRange}, Slot.Split, Figures.{Standing, took, closes, ran, season}}
+use Rattle.landlord.specs.{Types.{stepKind, stepItem, stepMinutes, isDeduction}, Fold.fold, Catalog.{Catalog, itemAt, catalogInRange, capacityInRange}, Slot.Split, Figures.{Standing, took, closes, ran, season}}
 
--- "Opening by call checks k and catalogue (3)": the refusal's number, 0 if there is none
-unfoldable pub openingRefusal : ℕ → Catalog → ℕ
-openingRefusal k cat = cond (capacityInRange k && catalogInRange cat) 0 3
+-- "Opening by call checks k and catalogue (3)", then the rule's number: "any other number is 18" (paper 02, 'Three'). The refusal's
+-- number, 0 if there is none.
+unfoldable pub openingRefusal : ℕ → ℕ → Catalog → ℕ
+openingRefusal k rule cat = cond (capacityInRange k && catalogInRange cat) (cond (isDeduction rule) 0 18) 3
 
 -- a call, with any numbers: a step's kind is the code of its letter
 pub data Call : Type 0 where
@@ -86,14 +87,14 @@ unfoldable pub ruleOver : Split → ℕ → Catalog → Log → Standing
 ruleOver split k cat l = cond (l .closed) (season split k cat (l .steps)) (ran split k cat (l .steps))
 
 -- where the rule stands after a call that is not refused
-abbrev pub accepted : Split → Standing → Call → Standing
-accepted split v (stepCall kind item minutes) = took split v (stepOf kind item minutes)
-accepted split v close = closes v
+abbrev pub accepted : Standing → Call → Standing
+accepted v (stepCall kind item minutes) = took v (stepOf kind item minutes)
+accepted v close = closes v
 
 -- the same table, asked where the rule stands
 abbrev pub refusalNow : Standing → Call → ℕ
 refusalNow v call = refusalAt (v .k) (v .state .catalog) (v .figures .totals .steps) (v .closed) call
 
 -- where the rule stands after a call: a refused one changes nothing
-unfoldable pub after : Split → Standing → Call → Standing
-after split v call = cond (eqb (refusalNow v call) 0) (accepted split v call) v
+unfoldable pub after : Standing → Call → Standing
+after v call = cond (eqb (refusalNow v call) 0) (accepted v call) v

@@ -125,16 +125,18 @@ leftSide k h total = (k - h + 1) * total
 abbrev pub rightSide : ℕ → ℕ → ℕ
 rightSide k cost = k * cost
 
--- where the rule stands in a season: the capacity, the cache, what it has counted, and whether the log is closed
+-- Where the rule stands in a season: the capacity, the cache, what it has counted, whether the log is closed, and how a loss is split.
+-- "The state keeps its rule" (paper 02, 'Three'): the split is that of the opening's rule of deduction, and no step changes it.
 pub record Standing : Type 0 where
   pub k : ℕ
   pub state : State
   pub figures : Figures
   pub closed : Bool
+  pub split : Split
 
 -- at opening: "empty", nothing counted
-abbrev pub opened : ℕ → Catalog → Standing
-opened k cat = record { k = k; state = emptied cat; figures = nothing cat; closed = false }
+abbrev pub opened : Split → ℕ → Catalog → Standing
+opened split k cat = record { k = k; state = emptied cat; figures = nothing cat; closed = false; split = split }
 
 -- a standing moved on: the next state, and the events counted
 abbrev pub moved : Standing → Moved → Bool → Standing
@@ -144,11 +146,12 @@ moved v m isClosed =
       state = m .state;
       figures = fold (tally (v .state .catalog)) (v .figures) (m .events);
       closed = isClosed;
+      split = v .split;
     }
 
 -- one step more
-unfoldable pub took : Split → Standing → Step → Standing
-took split v s = moved v (step split (v .k) s (v .state)) (v .closed)
+unfoldable pub took : Standing → Step → Standing
+took v s = moved v (step (v .split) (v .k) s (v .state)) (v .closed)
 
 -- "Closing does what a landing does, is not counted as a step, and closes the locker"
 unfoldable pub closes : Standing → Standing
@@ -156,7 +159,7 @@ closes v = moved v (flush (v .state)) true
 
 -- the rule over a list of steps, from an empty cache
 abbrev pub ran : Split → ℕ → Catalog → List Step → Standing
-ran split k cat steps = fold (took split) (opened k cat) steps
+ran split k cat steps = fold took (opened split k cat) steps
 
 -- the rule over a list of steps and the closing
 abbrev pub season : Split → ℕ → Catalog → List Step → Standing

@@ -1,12 +1,13 @@
 -- The bench rows: seasons with every figure that the rule gives for them, in one table, and one theorem over the table, by
--- computation. The first nine are those that paper 01 marks, the next six catch replays that go astray, the last two are
--- for the table of refusals and the plan's faults. A second table puts questions to the table of refusals. Assumes nothing.
+-- computation. The first nine are those that paper 01 marks, the next six catch replays that go astray, the next five are where
+-- write-first and load-first part, the last two are for the table of refusals and the plan's faults. Two more tables put questions to the table
+-- of refusals, about calls and about openings. Assumes nothing.
 use mathlib.Core.{Path.{_≡_, refl}, Bool.{Bool, true, false}, List.{List, [], _∷_, _++_, map}}
 use Prim.Native.Nat.{ℕ, _+_, _*_, _-_, _≤_}
 use native.Mathlib.Omega.{arith}
 use lib.ListN.{getD}
-use Rattle.landlord.specs.declared.{Step.{Step, the-variants.Write}, Act.{Act, the-variants.{Evict, Fetch}}}
-use Rattle.landlord.specs.{Fold.{sumTo, tabFrom, bestTo, fold}, Catalog.{Catalog, Item, unit}, Slot.{Slot, absent, clean, dirty, writeFirst}, Rule.{State, Event, hit, loaded, evicted, wroteBack, wrote, flushStep, emptied, used, heldCount, victim, evictItem, evictFor, makeRoom, writeBacks, flush, step}, Figures.{Totals, Use, Standing, totalsOf, useOf, took, closes, season, totalCost, leftSide, rightSide}, Plan.{Plan, Priced, costs, fault, unknownItem, notHeld, alreadyHeld, requestNotHeld, overCapacity, planUsed, owed, planActs, allActs, planServes, priceFrom, price}, Claims.loadCredits, Calls.{Call, stepCall, close, Log, noLog, stepOf, refusalAt, refusalIn, joins, logOf, ruleOver}}
+use Rattle.landlord.specs.declared.{Step.{Step, the-variants.Write}, Act.{Act, the-variants.{Evict, Fetch}}, Deduction.{Deduction, the-variants.{WriteFirst, LoadFirst}}}
+use Rattle.landlord.specs.{Fold.{sumTo, tabFrom, bestTo, fold}, Catalog.{Catalog, Item, allInRange, catalogInRange, unit}, Slot.{Slot, absent, clean, dirty, Split, writeFirst, loadFirst, splitOf}, Rule.{State, Event, hit, loaded, evicted, wroteBack, wrote, flushStep, emptied, used, heldCount, victim, evictItem, evictFor, makeRoom, writeBacks, flush, step}, Figures.{Totals, Use, Standing, totalsOf, useOf, took, closes, season, totalCost, leftSide, rightSide}, Plan.{Plan, Priced, costs, fault, unknownItem, notHeld, alreadyHeld, requestNotHeld, overCapacity, planUsed, owed, planActs, allActs, planServes, priceFrom, price}, Claims.loadCredits, Calls.{Call, stepCall, close, Log, noLog, stepOf, refusalAt, refusalIn, joins, logOf, ruleOver, openingRefusal}}
 
 -- a rival of a row: its blocks, and its acts before step 0, 1, 2 and on; no acts after the last list
 pub record RowRival : Type 0 where
@@ -26,6 +27,7 @@ pub record RowResult : Type 0 where
 
 pub record BenchRow : Type 0 where
   pub k : ℕ
+  pub rule : Deduction
   pub catalog : Catalog
   pub calls : List Call
   pub rivals : List RowRival
@@ -37,11 +39,11 @@ answers k cat l [] = []
 answers k cat l (call ∷ calls) = refusalIn k cat l call ∷ answers k cat (joins k cat l call) calls
 
 -- the events of a list of steps
-unfoldable pub trace : ℕ → State → List Step → List Event
-trace k x [] = []
-trace k x (s ∷ steps) =
-    let m = step writeFirst k s x in
-    m .events ++ trace k (m .state) steps
+unfoldable pub trace : Split → ℕ → State → List Step → List Event
+trace split k x [] = []
+trace split k x (s ∷ steps) =
+    let m = step split k s x in
+    m .events ++ trace split k (m .state) steps
 
 unfoldable pub evictedItems : List Event → List ℕ
 evictedItems [] = []
@@ -56,13 +58,13 @@ evictedItems (flushStep ∷ es) = evictedItems es
 unfoldable pub resultOf : BenchRow → RowResult
 resultOf r =
     let l = logOf (r .k) (r .catalog) (r .calls) in
-    let v = ruleOver writeFirst (r .k) (r .catalog) l in
+    let v = ruleOver (splitOf (r .rule)) (r .k) (r .catalog) l in
     record {
       answers = answers (r .k) (r .catalog) noLog (r .calls);
       total = totalCost (v .figures);
       totals = v .figures .totals;
       uses = v .figures .uses;
-      evictions = evictedItems (trace (r .k) (emptied (r .catalog)) (l .steps));
+      evictions = evictedItems (trace (splitOf (r .rule)) (r .k) (emptied (r .catalog)) (l .steps));
       slots = v .state .slots;
       prices = map (λ (q : RowRival). price (r .catalog) (q .blocks) (λ i. getD (q .acts) i []) (l .steps)) (r .rivals);
     }
@@ -94,9 +96,20 @@ fourSteps = write 0 90 ∷ read 1 ∷ write 2 45 ∷ read 0 ∷ []
 abbrev theRival : RowRival
 theRival = rival 2 ((Fetch 0 ∷ []) ∷ (Evict 0 ∷ Fetch 1 ∷ []) ∷ (Evict 1 ∷ Fetch 2 ∷ []) ∷ (Fetch 0 ∷ []) ∷ [])
 
--- a row: the capacity, the catalog, the calls, the rivals; and what it gives
+-- the catalog and the calls over which the two rules of deduction part
+abbrev four : Catalog
+four = item 1 5 5 ∷ item 1 2 0 ∷ item 1 4 0 ∷ item 1 3 0 ∷ []
+
+abbrev sevenSteps : List Call
+sevenSteps = write 0 0 ∷ read 1 ∷ read 2 ∷ read 0 ∷ read 3 ∷ read 1 ∷ read 2 ∷ []
+
+-- a row: the capacity, the rule, the catalog, the calls, the rivals; and what it gives
+abbrev rowBy : ℕ → Deduction → Catalog → List Call → List RowRival → RowResult → BenchRow
+rowBy k rule cat calls rivals o = record { k = k; rule = rule; catalog = cat; calls = calls; rivals = rivals; expected = o }
+
+-- and one under write-first
 abbrev row : ℕ → Catalog → List Call → List RowRival → RowResult → BenchRow
-row k cat calls rivals o = record { k = k; catalog = cat; calls = calls; rivals = rivals; expected = o }
+row k cat calls rivals o = rowBy k WriteFirst cat calls rivals o
 
 -- the answers, the total, the totals, the uses, the items evicted, the slots, the prices
 abbrev gives : List ℕ → ℕ → Totals → List Use → List ℕ → List Slot → List Priced → RowResult
@@ -166,6 +179,24 @@ benchRows =
     row 1 (item 1 4 6 ∷ []) (write 0 0 ∷ close ∷ []) (rival 1 ((Fetch 0 ∷ []) ∷ []) ∷ [])
     (gives (0 ∷ 0 ∷ []) 10 (totalsOf 1 0 1 4 0 0 1 6 0)
     (useOf 0 1 1 ∷ []) [] (clean 2882880 ∷ []) (costs 10 ∷ [])) ∷
+    -- The two rules part: write-first evicts item 0 dirty, load-first evicts item 1 in its place; 25 by both.
+    rowBy 2 WriteFirst four (sevenSteps ++ (close ∷ [])) []
+    (gives (0 ∷ 0 ∷ 0 ∷ 0 ∷ 0 ∷ 0 ∷ 0 ∷ 0 ∷ []) 25 (totalsOf 7 1 6 20 4 1 1 5 0)
+    (useOf 0 1 1 ∷ useOf 0 2 0 ∷ useOf 0 2 0 ∷ useOf 0 1 0 ∷ []) (1 ∷ 2 ∷ 3 ∷ 0 ∷ []) (absent ∷ clean 720720 ∷ clean 2882880 ∷ absent ∷ []) []) ∷
+    rowBy 2 LoadFirst four (sevenSteps ++ (close ∷ [])) []
+    (gives (0 ∷ 0 ∷ 0 ∷ 0 ∷ 0 ∷ 0 ∷ 0 ∷ 0 ∷ []) 25 (totalsOf 7 1 6 20 4 0 1 5 0)
+    (useOf 0 1 1 ∷ useOf 0 2 0 ∷ useOf 0 2 0 ∷ useOf 0 1 0 ∷ []) (1 ∷ 2 ∷ 3 ∷ 1 ∷ []) (clean 0 ∷ absent ∷ clean 2882880 ∷ absent ∷ []) []) ∷
+    -- their first three steps: of 10 the dirty item has lost 2, from its write credit or from its load credit
+    rowBy 2 WriteFirst four (write 0 0 ∷ read 1 ∷ read 2 ∷ []) []
+    (gives (0 ∷ 0 ∷ 0 ∷ []) 11 (totalsOf 3 0 3 11 1 0 0 0 0)
+    (useOf 0 1 0 ∷ useOf 0 1 0 ∷ useOf 0 1 0 ∷ useOf 0 0 0 ∷ []) (1 ∷ []) (dirty 3603600 2162160 ∷ absent ∷ clean 2882880 ∷ absent ∷ []) []) ∷
+    rowBy 2 LoadFirst four (write 0 0 ∷ read 1 ∷ read 2 ∷ []) []
+    (gives (0 ∷ 0 ∷ 0 ∷ []) 11 (totalsOf 3 0 3 11 1 0 0 0 0)
+    (useOf 0 1 0 ∷ useOf 0 1 0 ∷ useOf 0 1 0 ∷ useOf 0 0 0 ∷ []) (1 ∷ []) (dirty 2162160 3603600 ∷ absent ∷ clean 2882880 ∷ absent ∷ []) []) ∷
+    -- load-first before the closing: the load credit is used up, and the write credit has borne the rest
+    rowBy 2 LoadFirst four sevenSteps []
+    (gives (0 ∷ 0 ∷ 0 ∷ 0 ∷ 0 ∷ 0 ∷ 0 ∷ []) 20 (totalsOf 7 1 6 20 4 0 0 0 0)
+    (useOf 0 1 0 ∷ useOf 0 2 0 ∷ useOf 0 2 0 ∷ useOf 0 1 0 ∷ []) (1 ∷ 2 ∷ 3 ∷ 1 ∷ []) (dirty 0 720720 ∷ absent ∷ clean 2882880 ∷ absent ∷ []) []) ∷
     -- Refusals, in the order of the calls: a kind that is none, item 256, 1,441 minutes, a stranger, too bulky, 1,441
     -- minutes for a stranger; values that a landing lacks; and every call after the closing.
     row 2 (item 1 4 6 ∷ item 3 1 1 ∷ item 1 3 9 ∷ []) (stepCall 88 0 0 ∷ read 256 ∷ write 0 1441 ∷ read 3 ∷ read 1 ∷ write 3 1441 ∷ stepCall 76 999 9999 ∷ stepCall 82 2 9999 ∷ close ∷ read 0 ∷ close ∷ []) []
@@ -289,3 +320,34 @@ questions =
 pub answers-right : map tableAnswer questions ≡ map (λ (q : Question). q .expected) questions
 unfolding stepOf refusalAt
 answers-right = refl
+
+-- a question to the table about an opening: the capacity, the number of the rule, the catalog; and the number that answers it
+pub record OpeningQuestion : Type 0 where
+  pub k : ℕ
+  pub rule : ℕ
+  pub catalog : Catalog
+  pub expected : ℕ
+
+abbrev asksOpening : ℕ → ℕ → Catalog → ℕ → OpeningQuestion
+asksOpening k rule cat n = record { k = k; rule = rule; catalog = cat; expected = n }
+
+abbrev pub openingQuestions : List OpeningQuestion
+openingQuestions =
+    -- each rule
+    asksOpening 1 0 [] 0 ∷
+    asksOpening 4096 1 (item 16 65535 65535 ∷ []) 0 ∷
+    -- no other number is one
+    asksOpening 1 2 [] 18 ∷
+    asksOpening 1 4294967295 [] 18 ∷
+    -- 3 before 18
+    asksOpening 0 2 [] 3 ∷
+    asksOpening 4097 2 [] 3 ∷
+    asksOpening 1 2 (item 17 0 0 ∷ []) 3 ∷
+    -- 3 alone
+    asksOpening 0 1 [] 3 ∷
+    asksOpening 1 0 (item 0 0 0 ∷ []) 3 ∷
+    []
+
+pub openings-right : map (λ (q : OpeningQuestion). openingRefusal (q .k) (q .rule) (q .catalog)) openingQuestions ≡ map (λ (q : OpeningQuestion). q .expected) openingQuestions
+unfolding openingRefusal catalogInRange allInRange
+openings-right = refl

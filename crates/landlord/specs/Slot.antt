@@ -3,6 +3,7 @@
 -- Assumes nothing.
 use mathlib.Core.Bool.{Bool, true, false}
 use Prim.Native.Nat.{ℕ, _-_, min}
+use Rattle.landlord.specs.declared.Deduction.{Deduction, the-variants.{WriteFirst, LoadFirst}}
 
 -- one of the locker's places: empty; held clean with a load credit; held dirty with a load and a write credit
 pub data Slot : Type 0 where
@@ -42,6 +43,15 @@ Split = ℕ → ℕ → ℕ → ℕ → ℕ
 -- "from its write credit first and from its load credit when that is used up"
 abbrev pub writeFirst : Split
 writeFirst blocks loss load write = min loss write
+
+-- paper 02, 'Three': "loss from the load credit first and the write credit after"; the write credit bears what the load credit cannot
+abbrev pub loadFirst : Split
+loadFirst blocks loss load write = loss - load
+
+-- the split of each rule of deduction
+abbrev pub splitOf : Deduction → Split
+splitOf WriteFirst = writeFirst
+splitOf LoadFirst = loadFirst
 
 -- a held item's slot after a loss; a clean item has only its load credit to lose from
 abbrev pub lose : Split → ℕ → ℕ → Slot → Slot

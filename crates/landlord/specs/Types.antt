@@ -1,9 +1,9 @@
--- Paper 01's number, letter and values for each case of the shared types.
+-- The papers' number, letter and values for each case of the shared types.
 -- Assumes nothing.
 use mathlib.Core.Bool.{Bool, cond, _||_}
 use Prim.Native.Nat.{ℕ}
-use lib.Dec.{eqb}
-use Rattle.landlord.specs.declared.{Step.{Step, the-variants.{Read, Write, Flush}}, Act.{Act, the-variants.{Evict, Fetch}}, Refusal.{Refusal, the-variants.{Malformed, Heading, OutOfRange, OutOfSequence, PlanTooLarge, UnknownItem, ItemTooLarge, LogFull, Closed, ActOutOfOrder, NotHeld, AlreadyHeld, OverCapacity, RequestNotHeld, ShortBuffer, InputTooLong, InvalidState}}}
+use lib.Dec.{leb, eqb}
+use Rattle.landlord.specs.declared.{Step.{Step, the-variants.{Read, Write, Flush}}, Act.{Act, the-variants.{Evict, Fetch}}, Deduction.{Deduction, the-variants.{WriteFirst, LoadFirst}}, Refusal.{Refusal, the-variants.{Malformed, Heading, OutOfRange, OutOfSequence, PlanTooLarge, UnknownItem, ItemTooLarge, LogFull, Closed, ActOutOfOrder, NotHeld, AlreadyHeld, OverCapacity, RequestNotHeld, ShortBuffer, InputTooLong, InvalidState, UnknownRule}}}
 
 -- a step's letter, as its code: R is 82, W is 87, L is 76
 abbrev pub stepKind : Step → ℕ
@@ -32,6 +32,19 @@ actKind (Fetch i) = 70
 abbrev pub actItem : Act → ℕ
 actItem (Evict i) = i
 actItem (Fetch i) = i
+
+-- "a call gives the rule as 0 or 1, in that order": write-first, load-first (paper 02, 'Three')
+abbrev pub deductionNumber : Deduction → ℕ
+deductionNumber WriteFirst = 0
+deductionNumber LoadFirst = 1
+
+-- whether a number is that of a rule
+abbrev pub isDeduction : ℕ → Bool
+isDeduction number = leb number 1
+
+-- the rule of a number that is one
+abbrev pub deductionOf : ℕ → Deduction
+deductionOf number = cond (eqb number 0) WriteFirst LoadFirst
 
 -- whether a refusal of this number names an item: "for 6, 7, 11, 12 and 14 the sail", and "19 and 20 print the sail" (paper 02, 'One')
 abbrev pub namesItem : ℕ → Bool
@@ -75,6 +88,7 @@ told (RequestNotHeld l i) = telling 14 l i
 told (ShortBuffer l) = telling 15 l 0
 told (InputTooLong l) = telling 16 l 0
 told (InvalidState l) = telling 17 l 0
+told (UnknownRule l) = telling 18 l 0
 
 abbrev pub refusalNumber : Refusal → ℕ
 refusalNumber r = told r .number

@@ -2,8 +2,9 @@
 // specs/Types.antt gives paper 01's number, letter and values for each of their cases.
 ghost use mathlib.Core.Path.{_≡_};
 ghost use Rattle.landlord.specs.Calls.{inRange};
-ghost use Prim.Native.Nat.{_≤_};
-ghost use Rattle.landlord.specs.Types.{stepKind, stepItem, stepMinutes, actKind, actItem, told, telling, refusalNumber, refusalLine, refusalItem};
+ghost use Prim.Native.Nat.{ℕ, _≤_};
+ghost use Rattle.landlord.specs.Types.{stepKind, stepItem, stepMinutes, actKind, actItem, deductionNumber, deductionOf, told, telling, refusalNumber, refusalLine, refusalItem};
+ghost use Rattle.landlord.specs.Slot.{splitOf};
 
 // A step of the log. Its numbers are as given: nothing here says that they are in range.
 pub enum Step {
@@ -19,6 +20,14 @@ pub enum Act {
     Evict { item: u32 },
     // paper 01: F, fetches a sail not held
     Fetch { item: u32 },
+}
+
+// The rule of deduction: which of its two credits an item loses from first. It is chosen at the opening.
+pub enum Deduction {
+    // paper 01's: from the write credit first
+    WriteFirst,
+    // paper 02's: from the load credit first
+    LoadFirst,
 }
 
 // A refusal, one case for each row of paper 01's table, in its order. The payload is the line of the text, counted
@@ -58,6 +67,8 @@ pub enum Refusal {
     InputTooLong { line: u32 },
     // 17, foul locker
     InvalidState { line: u32 },
+    // 18, odd rule
+    UnknownRule { line: u32 },
 }
 
 impl Step {
@@ -123,6 +134,41 @@ impl Act {
     }
 }
 
+impl Deduction {
+    // The number by which a call names the rule.
+    pub fn number(self) -> u32
+        ensures { λ r. ⌜ r ≡ deductionNumber self ⌝ }
+    {
+        match self {
+            Deduction::WriteFirst => 0,
+            Deduction::LoadFirst => 1,
+        }
+    }
+}
+
+impl Deduction {
+    // The part of a loss that the write credit bears; the load credit bears the rest.
+    pub fn split(self, loss: u64, load: u64, write: u64) -> u64
+        ensures { λ r. ⌜ ((blocks : ℕ) → r ≡ splitOf self blocks loss load write) ⌝ }
+    {
+        match self {
+            Deduction::WriteFirst => if loss < write { loss } else { write },
+            Deduction::LoadFirst => if load < loss { loss - load } else { 0 },
+        }
+    }
+}
+
+// The rule of deduction of a number: 0 is write-first. Every other is load-first here; whoever takes a number asks first whether it is a
+// rule's.
+pub fn deduction_of(number: u32) -> Deduction
+    ensures { λ r. ⌜ r ≡ deductionOf number ⌝ }
+{
+    if number == 0 {
+        return Deduction::WriteFirst;
+    }
+    Deduction::LoadFirst
+}
+
 impl Refusal {
     // The number in paper 01's table.
     pub fn number(self) -> u32
@@ -146,6 +192,7 @@ impl Refusal {
             Refusal::ShortBuffer { line: _ } => 15,
             Refusal::InputTooLong { line: _ } => 16,
             Refusal::InvalidState { line: _ } => 17,
+            Refusal::UnknownRule { line: _ } => 18,
         }
     }
 }
@@ -173,6 +220,7 @@ impl Refusal {
             Refusal::ShortBuffer { line } => line,
             Refusal::InputTooLong { line } => line,
             Refusal::InvalidState { line } => line,
+            Refusal::UnknownRule { line } => line,
         }
     }
 }
@@ -200,13 +248,14 @@ impl Refusal {
             Refusal::ShortBuffer { line: _ } => 0,
             Refusal::InputTooLong { line: _ } => 0,
             Refusal::InvalidState { line: _ } => 0,
+            Refusal::UnknownRule { line: _ } => 0,
         }
     }
 }
 
 // The refusal of a number of the table, told on a line of the text. The item is looked at where the number names one.
 pub fn refusal_of(number: u32, line: u32, item: u32) -> Refusal
-    requires { ⌜ (1 ≤ number) × (number ≤ 17) ⌝ }
+    requires { ⌜ (1 ≤ number) × (number ≤ 18) ⌝ }
     ensures { λ r. ⌜ told r ≡ telling number line item ⌝ }
 {
     match number {
@@ -241,7 +290,8 @@ pub fn refusal_of(number: u32, line: u32, item: u32) -> Refusal
         },
         15 => Refusal::ShortBuffer { line: line },
         16 => Refusal::InputTooLong { line: line },
-        _ => Refusal::InvalidState { line: line },
+        17 => Refusal::InvalidState { line: line },
+        _ => Refusal::UnknownRule { line: line },
     }
 }
 

@@ -12,8 +12,9 @@ use lib.Seq.{sets, length-sets, sets-eq, take-all, take-suc-set, getD-drop}
 use Rattle.fields.specs.LittleEndian.{unflags, le}
 use Rattle.fields.specs.Inner.{Below}
 use Rattle.fields.proofs.Laws.{length-le, un-front, below-append, below-drop, past, un-blank, unrun-blank, unflags-blank}
+use Rattle.landlord.specs.Types.{deductionOf}
 use Rattle.layout.specs.Layout.{stateBytes, format, numberAt, numbersAt, AllowedBytes}
-use Rattle.layout.specs.InnerRows.{atFormat, atCapacity, atCount, atClosed, atSteps, atHits, atLoads, atEvictions, atDirtyEvictions, atWritebacks, atFlushes, atLoadCost, atWriteCost, atDirty, atLoadCredits, atWriteCredits, atTenths, atItemLoads, atItemWritebacks, atItemLoadCosts, atItemWriteCosts, atBlocks, atHeld}
+use Rattle.layout.specs.InnerRows.{atFormat, atCapacity, atCount, atClosed, atSteps, atHits, atLoads, atEvictions, atDirtyEvictions, atWritebacks, atFlushes, atLoadCost, atWriteCost, atDirty, atLoadCredits, atWriteCredits, atTenths, atItemLoads, atItemWritebacks, atItemLoadCosts, atItemWriteCosts, atBlocks, atHeld, atRule}
 use Rattle.layout.specs.Inner.{Stands, cleared}
 
 -- the first i bytes are 0
@@ -56,6 +57,7 @@ module _ (left rest : List ℕ) (n : length left ≡ stateBytes) (e : left ≡ l
     format = rw e (un-front 4 format rest (omega arith));
     closed = omega (arith, number-0 2 atClosed (omega arith));
     held = λ i l. rw (← getD-drop atHeld left i 0) (omega (arith, blank atHeld (omega arith) i));
+    rule = omega (arith, number-0 4 atRule (omega arith));
   }
 
   pub cleared-0 : Stands left cleared
@@ -86,6 +88,7 @@ module _ (left rest : List ℕ) (n : length left ≡ stateBytes) (e : left ≡ l
           write = numbers-0 2 256 atItemWriteCosts (omega arith) i;
           blocks = numbers-0 1 256 atBlocks (omega arith) i;
           held = flags-0 256 atHeld (omega arith) i;
+          rule = deductionOf (number-0 4 atRule (omega arith) i);
         };
   }
 

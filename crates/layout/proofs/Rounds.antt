@@ -6,14 +6,16 @@ use mathlib.Core.Bool.{Bool, true, false, not}
 use Prim.Native.Nat.{ℕ, suc, _+_, _*_, _^_, _≤_, _<_}
 use native.Mathlib.Omega.{arith}
 use lib.Dec.{eqb}
-use lib.ListN.{length, drop, getD, length-drop}
+use lib.ListN.{length, drop, getD, length-drop, List·getD-append}
 use lib.Seq.{take-all, getD-drop}
 use Rattle.fields.specs.LittleEndian.{unflags, le}
 use Rattle.fields.specs.Inner.{Below, runOf, flags}
-use Rattle.fields.proofs.Laws.{sets-all, length-unrun, length-unflags, un-front, un-take-lt, below-drop, rejoin, le-back, unrun-lt, unrun-run, run-back, flags-lt, unflags-flags, flag-byte, flags-back}
+use Rattle.fields.proofs.Laws.{sets-all, length-unrun, length-unflags, un-front, un-take-lt, below-drop, rejoin, le-back, unrun-lt, unrun-run, run-back, flags-lt, length-flags, unflags-flags, flag-byte, flags-back}
+use Rattle.landlord.specs.Types.{deductionNumber, deductionOf}
+use Rattle.landlord.proofs.Slots.{deduction-number, number-deduction, deduction-lt}
 use Rattle.cache_state.specs.Cache.{Cache}
 use Rattle.layout.specs.Layout.{stateBytes, format, numberAt, numbersAt, cacheOf, AllowedBytes}
-use Rattle.layout.specs.InnerRows.{atFormat, atCapacity, atCount, atClosed, atSteps, atHits, atLoads, atEvictions, atDirtyEvictions, atWritebacks, atFlushes, atLoadCost, atWriteCost, atDirty, atLoadCredits, atWriteCredits, atTenths, atItemLoads, atItemWritebacks, atItemLoadCosts, atItemWriteCosts, atBlocks, atHeld, rowBytes, fieldRows, bytesOf, flag, WholeArrays, Fits}
+use Rattle.layout.specs.InnerRows.{atFormat, atCapacity, atCount, atClosed, atSteps, atHits, atLoads, atEvictions, atDirtyEvictions, atWritebacks, atFlushes, atLoadCost, atWriteCost, atDirty, atLoadCredits, atWriteCredits, atTenths, atItemLoads, atItemWritebacks, atItemLoadCosts, atItemWriteCosts, atBlocks, atHeld, atRule, rowBytes, fieldRows, bytesOf, flag, WholeArrays, Fits}
 use Rattle.layout.proofs.Rows.{Packed, end, number-row, numbers-row, flags-row, packed-length, packed-below, stored, packed-stored, reach}
 
 -- the fields lie end to end
@@ -41,7 +43,7 @@ packed c w =
     (numbers-row 4 256 (c .itemwritebacks) (w .itemwritebacks)
     (numbers-row 2 256 (c .load) (w .load)
     (numbers-row 2 256 (c .write) (w .write)
-    (numbers-row 1 256 (c .blocks) (w .blocks) (flags-row 256 (c .held) (w .held) end))))))))))))))))))))))
+    (numbers-row 1 256 (c .blocks) (w .blocks) (flags-row 256 (c .held) (w .held) (number-row 4 (deductionNumber (c .rule)) end)))))))))))))))))))))))
 
 -- so the bytes of a cache are all the bytes of the state
 pub length-whole : (c : Cache) → WholeArrays c → length (bytesOf c) ≡ stateBytes
@@ -84,7 +86,7 @@ flag-told false = refl
 
 module _ (c : Cache) (f : Fits c) where
   -- the field of row `n`
-  row-at : (n : ℕ) → n < 23 → drop (getD (fieldRows c) n (0, []) .0) (bytesOf c) ≡ getD (fieldRows c) n (0, []) .1 ++ rowBytes (drop (suc n) (fieldRows c))
+  row-at : (n : ℕ) → n < 24 → drop (getD (fieldRows c) n (0, []) .0) (bytesOf c) ≡ getD (fieldRows c) n (0, []) .1 ++ rowBytes (drop (suc n) (fieldRows c))
   unfolding bytesOf fieldRows
   row-at n l = reach (packed c (f .whole)) n (getD (fieldRows c) n (0, []) .0) l (omega arith)
 
@@ -92,6 +94,11 @@ module _ (c : Cache) (f : Fits c) where
   closed-at : numberAt (bytesOf c) atClosed 2 ≡ flag (c .closed)
   unfolding fieldRows
   closed-at = number-found 2 (flag (c .closed)) atClosed (bytesOf c) _ (omega (arith, flag-lt (c .closed))) (row-at 3 (omega arith))
+
+  -- and the number of its rule
+  rule-at : numberAt (bytesOf c) atRule 4 ≡ deductionNumber (c .rule)
+  unfolding fieldRows
+  rule-at = number-found 4 (deductionNumber (c .rule)) atRule (bytesOf c) _ (omega (arith, deduction-lt (c .rule))) (row-at 23 (omega arith))
 
   -- a cache that fits, stored and read back, is that cache
   pub round : cacheOf (bytesOf c) ≡ c
@@ -120,6 +127,7 @@ module _ (c : Cache) (f : Fits c) where
         write = numbers-found 2 256 atItemWriteCosts (c .write) (bytesOf c) _ (f .whole .write) (f .write) (row-at 20 (omega arith)) i;
         blocks = numbers-found 1 256 atBlocks (c .blocks) (bytesOf c) _ (f .whole .blocks) (f .blocks) (row-at 21 (omega arith)) i;
         held = flags-found 256 atHeld (c .held) (bytesOf c) _ (f .whole .held) (row-at 22 (omega arith)) i;
+        rule = (ap deductionOf rule-at ∙ deduction-number (c .rule) .0) i;
       }
 
   -- the number of the layout stands at the head, and the flags are stored as 0 or 1
@@ -128,7 +136,8 @@ module _ (c : Cache) (f : Fits c) where
   allowed-bytesOf = record {
     format = number-found 4 format atFormat (bytesOf c) _ (omega arith) (row-at 0 (omega arith));
     closed = rw closed-at (flag-lt (c .closed));
-    held = λ i l. rw (← getD-drop atHeld (bytesOf c) i 0, row-at 22 (omega arith), append-nil (flags (c .held))) (flags-lt (c .held) i);
+    held = λ i l. rw (← getD-drop atHeld (bytesOf c) i 0, row-at 22 (omega arith), List·getD-append (flags (c .held)) (rowBytes (drop 23 (fieldRows c))) 0 i (omega (arith, length-flags (c .held), f .whole .held))) (flags-lt (c .held) i);
+    rule = rw rule-at (deduction-lt (c .rule));
   }
 
 -- ---- read and stored again
@@ -198,10 +207,13 @@ module _ (b : List ℕ) (e : length b ≡ stateBytes) (h : Below 256 b) where
     closed-back : (rest : List ℕ) → rest ≡ drop atSteps b → le 2 (flag (not (eqb (numberAt b atClosed 2) 0))) ++ rest ≡ drop atClosed b
     closed-back rest r = rw (flag-byte (numberAt b atClosed 2) (g .closed)) (number-back 2 atClosed rest (omega arith) r)
 
-    held-back : flags (unflags 256 (drop atHeld b)) ++ [] ≡ drop atHeld b
-    held-back =
-        rw (append-nil, flags-back 256 atHeld b (omega arith) (g .held))
-        (take-all 256 (drop atHeld b) (omega (arith, length-drop atHeld b)))
+    held-back : (rest : List ℕ) → rest ≡ drop atRule b → flags (unflags 256 (drop atHeld b)) ++ rest ≡ drop atHeld b
+    held-back rest r = rw (r, flags-back 256 atHeld b (omega arith) (g .held)) (rejoin b atHeld 256 atRule refl)
+
+    rule-back : le 4 (deductionNumber (deductionOf (numberAt b atRule 4))) ++ [] ≡ drop atRule b
+    rule-back =
+        rw (number-deduction (numberAt b atRule 4) (g .rule), append-nil, le-back 4 atRule b (omega arith) h)
+        (take-all 4 (drop atRule b) (omega (arith, length-drop atRule b)))
 
     -- bytes that the layout allows, read and stored again, are those bytes
     pub back : bytesOf (cacheOf b) ≡ b
@@ -228,4 +240,4 @@ module _ (b : List ℕ) (e : length b ≡ stateBytes) (h : Below 256 b) where
         (numbers-back 4 256 atItemWritebacks _ (omega arith)
         (numbers-back 2 256 atItemLoadCosts _ (omega arith)
         (numbers-back 2 256 atItemWriteCosts _ (omega arith)
-        (numbers-back 1 256 atBlocks _ (omega arith) held-back)))))))))))))))))))))
+        (numbers-back 1 256 atBlocks _ (omega arith) (held-back _ rule-back))))))))))))))))))))))

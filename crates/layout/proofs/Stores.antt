@@ -14,10 +14,12 @@ use lib.Seq.{sets, getD-set-same, getD-set-other}
 use Rattle.fields.specs.LittleEndian.{le}
 use Rattle.fields.specs.Inner.{Below, runOf, flags}
 use Rattle.fields.proofs.Laws.{length-le, length-run, length-flags, sets-all, run-set, flags-set}
+use Rattle.landlord.specs.declared.Deduction.{Deduction}
+use Rattle.landlord.specs.Types.{deductionNumber}
 use Rattle.cache_state.specs.Cache.{Cache}
-use Rattle.cache_state.specs.InnerWith.{withCapacity, withCount, withClosed, withSteps, withHits, withLoads, withEvictions, withDirtyEvictions, withWritebacks, withFlushes, withLoadCost, withWriteCost, withDirty, withLoadCredit, withWriteCredit, withTenths, withItemLoads, withItemWritebacks, withItemLoadCost, withItemWriteCost, withBlocks, withHeld}
+use Rattle.cache_state.specs.InnerWith.{withCapacity, withCount, withClosed, withRule, withSteps, withHits, withLoads, withEvictions, withDirtyEvictions, withWritebacks, withFlushes, withLoadCost, withWriteCost, withDirty, withLoadCredit, withWriteCredit, withTenths, withItemLoads, withItemWritebacks, withItemLoadCost, withItemWriteCost, withBlocks, withHeld}
 use Rattle.layout.specs.Layout.{cacheOf}
-use Rattle.layout.specs.InnerRows.{atCapacity, atCount, atClosed, atSteps, atHits, atLoads, atEvictions, atDirtyEvictions, atWritebacks, atFlushes, atLoadCost, atWriteCost, atDirty, atLoadCredits, atWriteCredits, atTenths, atItemLoads, atItemWritebacks, atItemLoadCosts, atItemWriteCosts, atBlocks, atHeld, FieldRow, rowBytes, fieldRows, bytesOf, flag, Fits}
+use Rattle.layout.specs.InnerRows.{atCapacity, atCount, atClosed, atSteps, atHits, atLoads, atEvictions, atDirtyEvictions, atWritebacks, atFlushes, atLoadCost, atWriteCost, atDirty, atLoadCredits, atWriteCredits, atTenths, atItemLoads, atItemWritebacks, atItemLoadCosts, atItemWriteCosts, atBlocks, atHeld, atRule, FieldRow, rowBytes, fieldRows, bytesOf, flag, Fits}
 use Rattle.layout.specs.Inner.{Stands, Readable}
 use Rattle.layout.proofs.Rows.{end, number-row, stored, packed-stored, replaced, sets-row}
 use Rattle.layout.proofs.Rounds.{packed, fits}
@@ -77,7 +79,7 @@ module _ {b : List ℕ} {c : Cache} (s : Coded b c) where
   -- `off` bytes into row `n`, which stands at the place `at`: d is the cache that has the row so
   row-stored :
       (n at off : ℕ) (x y : List ℕ) (d : Cache) →
-      n < 23 →
+      n < 24 →
       getD (fieldRows c) n (0, []) .0 ≡ at →
       off + length x ≤ length (getD (fieldRows c) n (0, []) .1) →
       sets (getD (fieldRows c) n (0, []) .1) off x ≡ y →
@@ -97,7 +99,7 @@ module _ {b : List ℕ} {c : Cache} (s : Coded b c) where
   -- a number over a number, and a number of a run
   number-stored :
       (n at w u v : ℕ) (d : Cache) →
-      n < 23 →
+      n < 24 →
       getD (fieldRows c) n (0, []) ≡ (at, le w u) →
       rowBytes (replaced (fieldRows c) n (le w v)) ≡ bytesOf d →
       Fits d →
@@ -110,7 +112,7 @@ module _ {b : List ℕ} {c : Cache} (s : Coded b c) where
 
   entry-stored :
       (n at w : ℕ) (xs : List ℕ) (i v : ℕ) (d : Cache) →
-      n < 23 →
+      n < 24 →
       getD (fieldRows c) n (0, []) ≡ (at, runOf w xs) →
       i < length xs →
       rowBytes (replaced (fieldRows c) n (runOf w (set xs i v))) ≡ bytesOf d →
@@ -233,3 +235,9 @@ module _ {b : List ℕ} {c : Cache} (s : Coded b c) where
       let e : length (set (c .held) i f) ≡ 256 = length-set (c .held) i f ∙ s .fits .whole .held in
       row-stored 22 atHeld i (flag f ∷ []) (flags (set (c .held) i f)) (withHeld c i f) (omega arith) refl (omega (arith, length-flags (c .held), s .fits .whole .held))
       (flags-set (c .held) i f) refl (search needs) (is ∙ ap (sets b (atHeld + i)) (as-byte f))
+
+  pub rule-stored : (r : Deduction) {v : ℕ} → v ≡ deductionNumber r → {left : List ℕ} → left ≡ sets b atRule (le 4 v) → Stands left (withRule c r)
+  unfolding bytesOf fieldRows
+  rule-stored r e is =
+      number-stored 23 atRule 4 (deductionNumber (c .rule)) (deductionNumber r) (withRule c r) (omega arith) refl refl (search needs)
+      (is ∙ ap (λ (v : ℕ). sets b atRule (le 4 v)) e)

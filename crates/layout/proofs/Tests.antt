@@ -12,7 +12,7 @@ use lib.ListN.{getD}
 use borrow.Author.Tests.{ltb-true, lt-ltb}
 use Rattle.cache_state.specs.InnerBecomes.{Decided}
 use Rattle.layout.specs.Layout.{format, numberAt, AllowedBytes}
-use Rattle.layout.specs.InnerRows.{atFormat, atClosed, atHeld}
+use Rattle.layout.specs.InnerRows.{atFormat, atClosed, atHeld, atRule}
 use Rattle.layout.specs.Inner.{FlagsWithin}
 
 -- ---- the loop
@@ -61,11 +61,11 @@ joined-all b from to i all e p =
 pub no : {A : Type 0} → (A → ⊥) → Decided A false
 no f = record { yes = λ e. absurd (false≢true e); only = λ a. absurd (f a) }
 
--- with the number of the layout and the cache's own flag right, the items' flags decide
-pub allowed-so : (b : List ℕ) {r : Bool} → numberAt b atFormat 4 ≡ format → numberAt b atClosed 2 < 2 → Decided (FlagsWithin b atHeld (atHeld + 256)) r → Decided (AllowedBytes b) r
-allowed-so b e h d =
+-- with the number of the layout, the cache's own flag and the rule's number right, the items' flags decide
+pub allowed-so : (b : List ℕ) {r : Bool} → numberAt b atFormat 4 ≡ format → numberAt b atClosed 2 < 2 → numberAt b atRule 4 < 2 → Decided (FlagsWithin b atHeld (atHeld + 256)) r → Decided (AllowedBytes b) r
+allowed-so b e h g d =
     record {
-      yes = λ t. record { format = e; closed = h; held = λ i l. d .yes t .each (atHeld + i) (omega arith) (omega arith) };
+      yes = λ t. record { format = e; closed = h; rule = g; held = λ i l. d .yes t .each (atHeld + i) (omega arith) (omega arith) };
       only = λ a. d .only (record { each = λ i l m. flag a i l m });
     }
   where

@@ -2,6 +2,7 @@
 use mathlib.Core.{Path._≡_, Bool.false, List.List}
 use Prim.Native.Nat.{ℕ, _≤_, _<_}
 use lib.ListN.{length, getD, replicate}
+use Rattle.landlord.specs.declared.Deduction.the-variants.{WriteFirst}
 use Rattle.landlord.specs.Figures.{Standing}
 use Rattle.cache_state.specs.{Cache.Cache, InnerBecomes.Becomes}
 use Rattle.layout.specs.Layout.{stateBytes, cacheOf, AllowedBytes, ValidBytes}
@@ -26,7 +27,7 @@ pub record ValidAt (b : List ℕ) (n : ℕ) : Type 0 where
   pub valid : ValidBytes b
   pub count : n ≡ cacheOf b .n
 
--- the cache of which every number is 0 and every flag false
+-- the cache of which every number is 0 and every flag false; the rule of number 0 is write-first
 abbrev pub cleared : Cache
 cleared =
     record {
@@ -52,6 +53,7 @@ cleared =
       writecost = 0;
       flushes = 0;
       closed = false;
+      rule = WriteFirst;
     }
 
 -- the bytes from one place to another are flags

@@ -5,6 +5,7 @@ use Prim.Native.Nat.{ℕ, _^_, _<_}
 use lib.ListN.{length}
 use Rattle.fields.specs.LittleEndian.{le}
 use Rattle.fields.specs.Inner.{runOf, flags, Below}
+use Rattle.landlord.specs.Types.{deductionNumber}
 use Rattle.cache_state.specs.Cache.{Cache}
 use Rattle.layout.specs.Layout.{format}
 
@@ -79,6 +80,9 @@ atBlocks = 8280
 abbrev pub atHeld : ℕ
 atHeld = 8536
 
+abbrev pub atRule : ℕ
+atRule = 8792
+
 -- ---- the rows
 
 -- a yes or no as a number
@@ -119,6 +123,7 @@ fieldRows c =
     ∷ (atItemWriteCosts, runOf 2 (c .write))
     ∷ (atBlocks, runOf 1 (c .blocks))
     ∷ (atHeld, flags (c .held))
+    ∷ (atRule, le 4 (deductionNumber (c .rule)))
     ∷ []
 
 -- the bytes of a cache

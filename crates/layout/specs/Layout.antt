@@ -1,18 +1,19 @@
--- The fixed layout of a state: 8,792 bytes, numbers with the low byte first, no byte to spare. At the head stands the number of this
+-- The fixed layout of a state: 8,796 bytes, numbers with the low byte first, no byte to spare. At the head stands the number of this
 -- layout; it is no field of a cache. docs/LAYOUT.md has the same places as a table. specs/InnerRows.antt writes them;
 -- proofs/Rounds.antt shows that its rows lie end to end and that reading and writing undo each other. Assumes nothing.
 use mathlib.Core.{Path._≡_, List.List, Bool.not}
 use Prim.Native.Nat.{ℕ, _+_, _<_}
 use lib.{Dec.eqb, ListN.{take, drop, getD, length}}
 use Rattle.fields.specs.LittleEndian.{un, unrun, unflags}
+use Rattle.landlord.specs.Types.{deductionOf}
 use Rattle.cache_state.specs.Cache.{Cache, Valid}
 
 abbrev pub stateBytes : ℕ
-stateBytes = 8792
+stateBytes = 8796
 
 -- the number of this layout: it rises with every change, so that a state stored by another version is never misread
 abbrev pub format : ℕ
-format = 1
+format = 2
 
 -- the number of `w` bytes at the place `at`
 abbrev pub numberAt : List ℕ → ℕ → ℕ → ℕ
@@ -47,13 +48,15 @@ cacheOf b = record {
   write = numbersAt b 7768 256 2;
   blocks = numbersAt b 8280 256 1;
   held = unflags 256 (drop 8536 b);
+  rule = deductionOf (numberAt b 8792 4);
 }
 
--- "every field has a value its layout allows": the number of the layout is this one's, and each flag is 0 or 1
+-- "every field has a value its layout allows": the number of the layout is this one's, each flag is 0 or 1, and so is the rule's number
 pub record AllowedBytes (b : List ℕ) : Type 0 where
   pub format : numberAt b 0 4 ≡ format
   pub closed : numberAt b 10 2 < 2
   pub held : (i : ℕ) → i < 256 → getD b (8536 + i) 0 < 2
+  pub rule : numberAt b 8792 4 < 2
 
 -- "A lent state is foul unless": its length is right, its fields have values that the layout allows, and the cache that the bytes
 -- stand for is valid

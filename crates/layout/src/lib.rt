@@ -6,16 +6,17 @@ ghost use Prim.Native.Nat.{_+_, _*_, _<_, _≤_};
 ghost use lib.ListN.{length, getD};
 ghost use mathlib.Core.Bool.{false};
 ghost use Rattle.cache_state.specs.Cache.{dirtyAt};
-ghost use Rattle.cache_state.specs.InnerWith.{withCapacity, withCount, withClosed, withSteps, withHits, withLoads, withEvictions, withDirtyEvictions, withWritebacks, withFlushes, withLoadCost, withWriteCost, withDirty, withLoadCredit, withWriteCredit, withTenths, withItemLoads, withItemWritebacks, withItemLoadCost, withItemWriteCost, withBlocks, withHeld};
+ghost use Rattle.cache_state.specs.InnerWith.{withCapacity, withCount, withClosed, withRule, withSteps, withHits, withLoads, withEvictions, withDirtyEvictions, withWritebacks, withFlushes, withLoadCost, withWriteCost, withDirty, withLoadCredit, withWriteCredit, withTenths, withItemLoads, withItemWritebacks, withItemLoadCost, withItemWriteCost, withBlocks, withHeld};
 ghost use Rattle.cache_state.specs.InnerBecomes.{Decided};
 ghost use Rattle.layout.specs.Layout.{stateBytes, numberAt, cacheOf, AllowedBytes};
 ghost use Rattle.layout.specs.InnerRows.{atDirty};
 ghost use Rattle.layout.specs.Inner.{Stands, Readable, FlagsWithin, cleared};
+use landlord::Deduction;
 
 // The bytes of a state, and the number of this layout.
-pub const STATE_BYTES: usize = 8792;
+pub const STATE_BYTES: usize = 8796;
 
-pub const FORMAT: u64 = 1;
+pub const FORMAT: u64 = 2;
 
 // Where each field stands.
 pub const AT_FORMAT: usize = 0;
@@ -63,6 +64,8 @@ pub const AT_ITEM_WRITE_COSTS: usize = 7768;
 pub const AT_BLOCKS: usize = 8280;
 
 pub const AT_HELD: usize = 8536;
+
+pub const AT_RULE: usize = 8792;
 
 // ---- the capacity, the count of items and the totals
 
@@ -237,6 +240,21 @@ pub fn put_closed(b: &mut [u8], f: bool)
     ensures { λ _. ⌜ Stands (now (b .exit)) (withClosed (cacheOf (now (b .entry))) f) ⌝ }
 {
     fields::put(b, AT_CLOSED, 2, f as u64);
+}
+
+// The rule of deduction, stored as its number.
+pub fn rule(b: &[u8]) -> Deduction
+    requires { ⌜ length (now b) ≡ stateBytes ⌝ }
+    ensures { λ r. ⌜ r ≡ cacheOf (now (b .entry)) .rule ⌝ }
+{
+    landlord::deduction_of(fields::get(b, AT_RULE, 4) as u32)
+}
+
+pub fn put_rule(b: &mut [u8], rule: Deduction)
+    requires { ⌜ Readable (now b) ⌝ }
+    ensures { λ _. ⌜ Stands (now (b .exit)) (withRule (cacheOf (now (b .entry))) rule) ⌝ }
+{
+    fields::put(b, AT_RULE, 4, rule.number() as u64);
 }
 
 // ---- the dirty marks, in four words
@@ -440,6 +458,9 @@ pub fn allowed(b: &[u8]) -> bool
         return false;
     }
     if 1 < fields::get(b, AT_CLOSED, 2) {
+        return false;
+    }
+    if 1 < fields::get(b, AT_RULE, 4) {
         return false;
     }
     flags_ok(b, AT_HELD, AT_HELD + 256)

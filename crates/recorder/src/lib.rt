@@ -7,12 +7,13 @@ use report::Rival;
 use report::Written;
 use season_log::LogAnswer;
 
-// Opens the state for a cache of `k` blocks and the items of the catalog, five bytes each.
+// Opens the state for a cache of `k` blocks, a rule of deduction, 0 for write-first and 1 for load-first, and the items of the catalog,
+// five bytes each.
 #[no_mangle]
-pub extern "C" fn recorder_open(state: &mut [u8], k: u32, catalog: &[u8]) -> u32
-    ensures { λ r. ⌜ OpenedLent (now (state .entry)) k (now (catalog .entry)) r (now (state .exit)) ⌝ }
+pub extern "C" fn recorder_open(state: &mut [u8], k: u32, rule: u32, catalog: &[u8]) -> u32
+    ensures { λ r. ⌜ OpenedLent (now (state .entry)) k rule (now (catalog .entry)) r (now (state .exit)) ⌝ }
 {
-    cache::open(state, k, catalog)
+    cache::open(state, k, rule, catalog)
 }
 
 // Takes one step: `kind` is the code of its letter, 82 for R, 87 for W, 76 for L.

@@ -10,13 +10,15 @@ use borrow.Author.Tests.{le-leb, lt-leb, leb-true, leb-false, ne-eqb}
 use lib.Dec.{leb, eqb}
 use lib.ListN.{length-map, List·getD-map}
 use Rattle.landlord.specs.declared.Step.the-variants.{Read, Write, Flush}
+use Rattle.landlord.specs.declared.Deduction.the-variants.{WriteFirst}
+use Rattle.landlord.specs.declared.Refusal.the-variants.{UnknownRule}
 use Rattle.landlord.specs.Calls.{inRange, stepOf}
 use Rattle.landlord.specs.Catalog.{itemInRange}
 use Rattle.season_lines.specs.declared.Field.{Field}
-use Rattle.season_lines.specs.declared.Field.the-variants.{Number, Letter, Dash, Word, Empty}
+use Rattle.season_lines.specs.declared.Field.the-variants.{Number, Letter, Dash, Word, Empty, Rule}
 use Rattle.season_lines.specs.declared.Line.{Line}
-use Rattle.season_lines.specs.declared.Line.the-variants.{Sizes, Item as ItemLine, Step, Act as Placed}
-use Rattle.season_lines.specs.Lines.{fieldAt, isNumber, isDash, isLetter, isEmpty, valueIn, noneEmpty, shapeThenRange, sizesLine, itemFrom, itemLine, stepShape, stepLine, actOf, actLine, valuesIn, lineIn}
+use Rattle.season_lines.specs.declared.Line.the-variants.{Sizes, Item as ItemLine, Step, Act as Placed, Refused}
+use Rattle.season_lines.specs.Lines.{fieldAt, isNumber, isDash, isLetter, isRule, isEmpty, valueIn, ruleIn, noneEmpty, shapeThenRange, sizesLine, ruleField, itemFrom, itemLine, stepShape, stepLine, actOf, actLine, valuesIn, lineIn}
 use Rattle.season_lines.specs.Inner.{beyond, heldField}
 use Rattle.season_lines.proofs.Laws.{and-parts, item-bounds, sizesShape, itemShape, stepsShape, actsShape, sizesRange, itemsRange, actsRange}
 use Rattle.season_lines.proofs.Pieces.{sizes-bounds, acts-bounds}
@@ -29,6 +31,7 @@ held-number (Letter b) = refl
 held-number Dash = refl
 held-number Word = refl
 held-number Empty = refl
+held-number (Rule r) = refl
 
 held-dash : (f : Field) → isDash (heldField f) ≡ isDash f
 held-dash (Number v) = refl
@@ -36,6 +39,7 @@ held-dash (Letter b) = refl
 held-dash Dash = refl
 held-dash Word = refl
 held-dash Empty = refl
+held-dash (Rule r) = refl
 
 held-letter : (f : Field) → isLetter (heldField f) ≡ isLetter f
 held-letter (Number v) = refl
@@ -43,6 +47,23 @@ held-letter (Letter b) = refl
 held-letter Dash = refl
 held-letter Word = refl
 held-letter Empty = refl
+held-letter (Rule r) = refl
+
+held-rule : (f : Field) → isRule (heldField f) ≡ isRule f
+held-rule (Number v) = refl
+held-rule (Letter b) = refl
+held-rule Dash = refl
+held-rule Word = refl
+held-rule Empty = refl
+held-rule (Rule r) = refl
+
+held-rule-in : (f : Field) → ruleIn (heldField f) ≡ ruleIn f
+held-rule-in (Number v) = refl
+held-rule-in (Letter b) = refl
+held-rule-in Dash = refl
+held-rule-in Word = refl
+held-rule-in Empty = refl
+held-rule-in (Rule r) = refl
 
 held-empty : (f : Field) → isEmpty (heldField f) ≡ isEmpty f
 held-empty (Number v) = refl
@@ -50,6 +71,7 @@ held-empty (Letter b) = refl
 held-empty Dash = refl
 held-empty Word = refl
 held-empty Empty = refl
+held-empty (Rule r) = refl
 
 -- a number and what is held of it: the same, or both are beyond every range
 abbrev HeldAs : ℕ → ℕ → Type 0
@@ -65,6 +87,7 @@ held-value (Letter b) = inl refl
 held-value Dash = inl refl
 held-value Word = inl refl
 held-value Empty = inl refl
+held-value (Rule r) = inl refl
 
 -- so each test against a number below `beyond` gives the same
 module _ (f : Field) (m : ℕ) (low : m < beyond) where
@@ -118,9 +141,9 @@ same-judged s t p q l m n a b c = rw (a, b) (go t q c)
     go true false c = refl
     go false q c = refl
 
-held-sizes : (k h : Field) (n : ℕ) → sizesLine (heldField k) (heldField h) n ≡ sizesLine k h n
+held-sizes : (k h rule : Field) (n : ℕ) → sizesLine (heldField k) (heldField h) (heldField rule) n ≡ sizesLine k h rule n
 unfolding sizesLine
-held-sizes k h n = same-judged _ _ _ _ _ _ n shape range says
+held-sizes k h rule n = same-judged _ _ _ _ _ _ n shape range says
   where
     shape : sizesShape (heldField k) (heldField h) ≡ sizesShape k h
     shape = rw (held-number k, held-number h)
@@ -134,12 +157,21 @@ held-sizes k h n = same-judged _ _ _ _ _ _ n shape range says
           held-most h 4096 (omega arith),
         )
 
+    -- what a line of these sizes says
+    by : ℕ → ℕ → Field → Line
+    by a b w = cond (isRule w) (Sizes a b (ruleIn w)) (Refused (UnknownRule n))
+
     says :
         sizesRange (valueIn k) (valueIn h) ≡ true →
-        Sizes (valueIn (heldField k)) (valueIn (heldField h)) ≡ Sizes (valueIn k) (valueIn h)
+        by (valueIn (heldField k)) (valueIn (heldField h)) (heldField rule) ≡ by (valueIn k) (valueIn h) rule
     says e =
         let b = sizes-bounds (valueIn k) (valueIn h) e in
-        rw (held-same k 4096 (omega arith) (b .1), held-same h 4096 (omega arith) (b .3))
+        rw (
+          held-same k 4096 (omega arith) (b .1),
+          held-same h 4096 (omega arith) (b .3),
+          held-rule rule,
+          held-rule-in rule,
+        )
 
 held-item :
     (i b l w : Field) (n : ℕ) →
@@ -306,15 +338,23 @@ unfolding noneEmpty
 none-held [] = refl
 none-held (f ∷ fs) = rw (held-empty f, none-held fs)
 
-values-held : (table : ℕ) (fs : List Field) (n : ℕ) → valuesIn table (map heldField fs) n ≡ valuesIn table fs n
+rule-held : (form : ℕ) (f : Field) → ruleField form (heldField f) ≡ heldField (ruleField form f)
+rule-held form f = go (eqb form 1)
+  where
+    go : (t : Bool) → cond t (heldField f) (Rule WriteFirst) ≡ heldField (cond t f (Rule WriteFirst))
+    go true = refl
+    go false = refl
+
+values-held : (table form : ℕ) (fs : List Field) (n : ℕ) → valuesIn table form (map heldField fs) n ≡ valuesIn table form fs n
 unfolding valuesIn
-values-held table fs n =
+values-held table form fs n =
     rw (
       at-held fs 0,
       at-held fs 1,
       at-held fs 2,
       at-held fs 3,
-      held-sizes (fieldAt fs 0) (fieldAt fs 1) n,
+      rule-held form (fieldAt fs 2),
+      held-sizes (fieldAt fs 0) (fieldAt fs 1) (ruleField form (fieldAt fs 2)) n,
       held-item (fieldAt fs 0) (fieldAt fs 1) (fieldAt fs 2) (fieldAt fs 3) n,
       held-step (fieldAt fs 0) (fieldAt fs 1) (fieldAt fs 2) n,
       held-act (fieldAt fs 0) (fieldAt fs 1) (fieldAt fs 2) n,
@@ -323,4 +363,4 @@ values-held table fs n =
 -- the line that fields make is the line that they make as they are held
 pub held-line : (table form : ℕ) (fs : List Field) (n : ℕ) → lineIn table form (map heldField fs) n ≡ lineIn table form fs n
 unfolding lineIn
-held-line table form fs n = rw (length-map fs heldField, none-held fs, values-held table fs n)
+held-line table form fs n = rw (length-map fs heldField, none-held fs, values-held table form fs n)

@@ -1,6 +1,6 @@
 -- The laws that the proofs of the functions cite: what each test that comes out so says of a field or of a line. Those that a
 -- scan over lines and fields cites are in proofs/Pieces.antt. Assumes nothing.
-use mathlib.Core.Path.{_≡_, refl, sym, _∙_}
+use mathlib.Core.Path.{_≡_, refl, sym, ap, _∙_}
 use mathlib.Core.Bool.{Bool, true, false, cond, not, _&&_, and-false, false≢true}
 use mathlib.Core.List.{List, [], _∷_}
 use mathlib.Core.Logic.{_⊎_, ⊎-elim}
@@ -16,14 +16,16 @@ use Rattle.decimal.specs.Decimal.{textOf, sameText, shaped, valueOf}
 use Rattle.decimal.specs.InnerReads.{readOf}
 use Rattle.landlord.specs.declared.Step.the-variants.{Read, Write, Flush}
 use Rattle.landlord.specs.declared.Act.the-variants.{Evict, Fetch}
-use Rattle.landlord.specs.declared.Refusal.the-variants.{Malformed, OutOfRange}
+use Rattle.landlord.specs.declared.Deduction.{Deduction}
+use Rattle.landlord.specs.declared.Deduction.the-variants.{WriteFirst, LoadFirst}
+use Rattle.landlord.specs.declared.Refusal.the-variants.{Malformed, OutOfRange, UnknownRule}
 use Rattle.landlord.specs.Calls.{inRange, stepOf}
 use Rattle.landlord.specs.Catalog.{capacityInRange, itemInRange}
 use Rattle.season_lines.specs.declared.Field.{Field}
-use Rattle.season_lines.specs.declared.Field.the-variants.{Number, Letter, Dash, Word, Empty}
+use Rattle.season_lines.specs.declared.Field.the-variants.{Number, Letter, Dash, Word, Empty, Rule}
 use Rattle.season_lines.specs.declared.Names.the-variants.{Form, Unknown}
 use Rattle.season_lines.specs.declared.Line.the-variants.{Sizes, Item as ItemLine, Step, Act as Placed, Refused}
-use Rattle.season_lines.specs.Lines.{split, markOf, fieldOf, fieldAt, isNumber, isDash, isLetter, valueIn, noneEmpty, headings, namesIn, formAmong, formOf, sizesLine, itemFrom, itemLine, isEither, stepShape, stepLine, isActKind, actOf, actLine, valuesIn, lineIn}
+use Rattle.season_lines.specs.Lines.{split, markOf, ruleWord, ruleOrWord, fieldOf, fieldAt, isNumber, isDash, isLetter, isRule, valueIn, ruleIn, noneEmpty, headings, namesIn, formAmong, formOf, sizesLine, ruleField, itemFrom, itemLine, isEither, stepShape, stepLine, isActKind, actOf, actLine, valuesIn, lineIn}
 use Rattle.season_lines.specs.Inner.{before, beyond, heldField}
 use Rattle.landlord.proofs.Ranges.{item-facts}
 
@@ -157,10 +159,36 @@ pub field-empty : (s : List ℕ) → NoNumber ≡ readOf s beyond → length s �
 unfolding fieldOf
 field-empty s e h = rw (not-shaped s e, h)
 
+-- what a word is, compared with the word of each rule
+module _ (s : List ℕ) where
+  pub word-write : sameText s (textOf "write-first") ≡ true → Rule WriteFirst ≡ ruleOrWord s
+  unfolding ruleOrWord ruleWord
+  word-write e = rw e
+
+  pub word-load : sameText s (textOf "write-first") ≡ false → sameText s (textOf "load-first") ≡ true → Rule LoadFirst ≡ ruleOrWord s
+  unfolding ruleOrWord ruleWord
+  word-load e h = rw (e, h)
+
+  pub word-other : sameText s (textOf "write-first") ≡ false → sameText s (textOf "load-first") ≡ false → Word ≡ ruleOrWord s
+  unfolding ruleOrWord ruleWord
+  word-other e h = rw (e, h)
+
+-- no word is a number, and so it is held as it is
+word-held : (s : List ℕ) → ruleOrWord s ≡ heldField (ruleOrWord s)
+unfolding ruleOrWord
+word-held s = go (sameText s (ruleWord WriteFirst)) (sameText s (ruleWord LoadFirst))
+  where
+    go :
+        (p q : Bool) →
+        cond p (Rule WriteFirst) (cond q (Rule LoadFirst) Word) ≡ heldField (cond p (Rule WriteFirst) (cond q (Rule LoadFirst) Word))
+    go true q = refl
+    go false true = refl
+    go false false = refl
+
 pub field-word :
-    (s : List ℕ) → NoNumber ≡ readOf s beyond → (length s ≡ 1 → ⊥) → (length s ≡ 0 → ⊥) → Word ≡ heldField (fieldOf s)
+    (s : List ℕ) → NoNumber ≡ readOf s beyond → (length s ≡ 1 → ⊥) → (length s ≡ 0 → ⊥) → ruleOrWord s ≡ heldField (fieldOf s)
 unfolding fieldOf
-field-word s e h k = rw (not-shaped s e, ne-eqb (length s) 1 h, ne-eqb (length s) 0 k)
+field-word s e h k = rw (not-shaped s e, ne-eqb (length s) 1 h, ne-eqb (length s) 0 k) (word-held s)
 
 -- ## Kinds
 
@@ -243,19 +271,25 @@ abbrev pub actsRange : ℕ → ℕ → ℕ → Bool
 actsRange place kind item = leb place 999999 && isActKind kind && leb item 255
 
 -- A line that lacks its table's shape; and one that has it, by its values, out of range and in range.
-module _ (k h : Field) (n : ℕ) where
-  pub sizes-malformed : (isNumber k ≡ false) ⊎ (isNumber h ≡ false) → Refused (Malformed n) ≡ sizesLine k h n
+module _ (k h rule : Field) (n : ℕ) where
+  pub sizes-malformed : (isNumber k ≡ false) ⊎ (isNumber h ≡ false) → Refused (Malformed n) ≡ sizesLine k h rule n
   unfolding sizesLine
   sizes-malformed e = rw (one-of-2 (isNumber k) (isNumber h) e)
 
   module _ (a b : ℕ) (ea : a ≡ valueIn k) (eb : b ≡ valueIn h) (s : sizesShape k h ≡ true) where
-    pub sizes-far : (capacityInRange a ≡ false) ⊎ (capacityInRange b ≡ false) → Refused (OutOfRange n) ≡ sizesLine k h n
+    pub sizes-far : sizesRange a b ≡ false → Refused (OutOfRange n) ≡ sizesLine k h rule n
     unfolding sizesLine
-    sizes-far r = rw (s, ← ea, ← eb, one-of-2 (capacityInRange a) (capacityInRange b) r)
+    sizes-far r = rw (s, ← ea, ← eb, r)
 
-    pub sizes-good : sizesRange a b ≡ true → Sizes a b ≡ sizesLine k h n
-    unfolding sizesLine
-    sizes-good r = rw (s, ← ea, ← eb, r)
+    -- in range, the rule's word decides
+    module _ (r : sizesRange a b ≡ true) where
+      pub sizes-odd : isRule rule ≡ false → Refused (UnknownRule n) ≡ sizesLine k h rule n
+      unfolding sizesLine
+      sizes-odd w = rw (s, ← ea, ← eb, r, w)
+
+      pub sizes-good : isRule rule ≡ true → (word : Deduction) → word ≡ ruleIn rule → Sizes a b word ≡ sizesLine k h rule n
+      unfolding sizesLine
+      sizes-good w word e = rw (s, ← ea, ← eb, r, w, e)
 
 module _ (i b l w : Field) (n : ℕ) where
   pub item-malformed :
@@ -325,11 +359,20 @@ only-names table form names e = rw (e, only form)
     only zero = refl
     only (suc form) = refl
 
--- how many they are in each table
+-- how many they are in each table; the sizes have a third name under their second heading
 module _ (table form : ℕ) where
-  pub names-0 : table ≡ 0 → namesIn table form ≡ 2
-  unfolding headings split
-  names-0 e = only-names table form (textOf "locker rival") (rw e)
+  pub names-0 : table ≡ 0 → (form ≡ 1 → ⊥) → namesIn table form ≡ 2
+  unfolding namesIn headings split
+  names-0 e n = rw e (go form n)
+    where
+      go : (form : ℕ) → (form ≡ 1 → ⊥) → namesIn 0 form ≡ 2
+      go zero n = refl
+      go (suc zero) n = absurd (n refl)
+      go (suc (suc form)) n = refl
+
+  pub names-rule : table ≡ 0 → form ≡ 1 → namesIn table form ≡ 3
+  unfolding namesIn headings split
+  names-rule e f = rw (e, f)
 
   pub names-1 : table ≡ 1 → namesIn table form ≡ 4
   unfolding headings split
@@ -344,6 +387,14 @@ module _ (table form : ℕ) where
   names-3 a b c =
       only-names table form (textOf "at act sail") (rw (ne-eqb table 0 a, ne-eqb table 1 b, ne-eqb table 2 c))
 
+-- the sizes have two or more
+names-some : (table form : ℕ) → table ≡ 0 → 2 ≤ namesIn table form
+names-some table form e = go (eqb form 1) refl
+  where
+    go : (t : Bool) → eqb form 1 ≡ t → 2 ≤ namesIn table form
+    go true w = omega (arith, names-rule table form e (eqb-true form 1 w))
+    go false w = omega (arith, names-0 table form e (eqb-false form 1 w))
+
 -- steps and acts have three
 pub names-later : (table form : ℕ) → (table ≡ 0 → ⊥) → (table ≡ 1 → ⊥) → namesIn table form ≡ 3
 names-later table form a b = go (eqb table 2) refl
@@ -352,12 +403,22 @@ names-later table form a b = go (eqb table 2) refl
     go true e = names-2 table form (eqb-true table 2 e)
     go false e = names-3 table form a b (eqb-false table 2 e)
 
--- a line compared with each table's heading
-module _ (table : ℕ) (line : List ℕ) (right : Bool) where
-  pub form-0 : table ≡ 0 → right ≡ sameText line (textOf "locker rival") → cond right (Form 0) Unknown ≡ formOf table line
+-- a line compared with the two headings of the sizes
+module _ (line : List ℕ) where
+  pub form-old : sameText line (textOf "locker rival") ≡ true → Form 0 ≡ formOf 0 line
   unfolding headings formAmong formOf
-  form-0 e h = rw (e, h)
+  form-old e = rw e
 
+  pub form-rule : sameText line (textOf "locker rival") ≡ false → sameText line (textOf "locker rival rule") ≡ true → Form 1 ≡ formOf 0 line
+  unfolding headings formAmong formOf
+  form-rule e h = rw (e, h)
+
+  pub form-none : sameText line (textOf "locker rival") ≡ false → sameText line (textOf "locker rival rule") ≡ false → Unknown ≡ formOf 0 line
+  unfolding headings formAmong formOf
+  form-none e h = rw (e, h)
+
+-- and with the one heading of each other table
+module _ (table : ℕ) (line : List ℕ) (right : Bool) where
   pub form-1 : table ≡ 1 → right ≡ sameText line (textOf "sail blocks load write") → cond right (Form 0) Unknown ≡ formOf table line
   unfolding headings formAmong formOf
   form-1 e h = rw (e, h)
@@ -387,6 +448,12 @@ slot-is (f ∷ fs) zero j h k = absurd (omega arith)
 slot-is (f ∷ fs) (suc count) zero h k = refl
 slot-is (f ∷ fs) (suc count) (suc j) h k = slot-is fs count j (omega arith) (omega arith)
 
+-- past the last field of a line there is nothing
+past : (fs : List Field) (j : ℕ) → length fs ≤ j → fieldAt fs j ≡ Empty
+past [] j h = refl
+past (f ∷ fs) zero h = absurd (omega arith)
+past (f ∷ fs) (suc j) h = past fs j (omega arith)
+
 module _ (table form : ℕ) (fields : List Field) (count n : ℕ) (few : count ≤ length fields) where
   -- more of them than names, or fewer
   pub line-count : (count ≡ namesIn table form → ⊥) → Refused (Malformed n) ≡ lineIn table form (take count fields) n
@@ -401,11 +468,23 @@ module _ (table form : ℕ) (fields : List Field) (count n : ℕ) (few : count �
     at : (j : ℕ) → j < namesIn table form → fieldAt (take count fields) j ≡ slot fields j
     at j h = slot-is fields count j (omega arith) few
 
-    pub line-0 : table ≡ 0 → sizesLine (slot fields 0) (slot fields 1) n ≡ lineIn table form (take count fields) n
+    -- the rule's word stands third, if the heading has a third name
+    rule-at : table ≡ 0 → ruleField form (fieldAt (take count fields) 2) ≡ ruleField form (slot fields 2)
+    rule-at e = go (eqb form 1) refl
+      where
+        go : (t : Bool) → eqb form 1 ≡ t → cond t (fieldAt (take count fields) 2) (Rule WriteFirst) ≡ cond t (slot fields 2) (Rule WriteFirst)
+        go true w = at 2 (omega (arith, names-rule table form e (eqb-true form 1 w)))
+        go false w = refl
+
+    pub line-0 :
+        table ≡ 0 →
+        (word : Field) →
+        word ≡ ruleField form (slot fields 2) →
+        sizesLine (slot fields 0) (slot fields 1) word n ≡ lineIn table form (take count fields) n
     unfolding lineIn valuesIn
-    line-0 e =
-        let k = names-0 table form e in
-        rw (as-due, eq-eqb table 0 e, at 0 (omega arith), at 1 (omega arith))
+    line-0 e word h =
+        let k = names-some table form e in
+        rw (as-due, eq-eqb table 0 e, at 0 (omega arith), at 1 (omega arith), rule-at e, h)
 
     pub line-1 :
         table ≡ 1 →

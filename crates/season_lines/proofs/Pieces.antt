@@ -11,7 +11,7 @@ use borrow.Author.Tests.{leb-true, leb-false, eqb-true, eqb-false, ne-eqb}
 use lib.Dec.{leb, eqb}
 use lib.ListN.{length, take, drop}
 use Rattle.decimal.specs.Decimal.{shaped}
-use Rattle.landlord.specs.declared.Refusal.the-variants.{Malformed, OutOfRange}
+use Rattle.landlord.specs.declared.Refusal.the-variants.{Malformed, OutOfRange, UnknownRule}
 use Rattle.landlord.specs.declared.Step.the-variants.{Read, Write, Flush}
 use Rattle.landlord.specs.Types.{stepKind, stepItem, stepMinutes}
 use Rattle.landlord.specs.Calls.{inRange, stepOf}
@@ -20,7 +20,7 @@ use Rattle.season_lines.specs.declared.Field.{Field}
 use Rattle.season_lines.specs.declared.Field.the-variants.{Empty}
 use Rattle.season_lines.specs.declared.Line.{Line}
 use Rattle.season_lines.specs.declared.Line.the-variants.{Sizes, Item as ItemLine, Step, Act as Placed, Refused}
-use Rattle.season_lines.specs.Lines.{onto, split, fieldOf, allFields, fieldsOf, fieldAt, valueIn, isEmpty, noneEmpty, namesIn, shapeThenRange, sizesLine, itemFrom, itemLine, stepLine, isActKind, actOf, actLine, valuesIn, lineIn}
+use Rattle.season_lines.specs.Lines.{onto, split, fieldOf, allFields, fieldsOf, fieldAt, isRule, valueIn, ruleIn, isEmpty, noneEmpty, namesIn, shapeThenRange, sizesLine, ruleField, itemFrom, itemLine, stepLine, isActKind, actOf, actLine, valuesIn, lineIn}
 use Rattle.season_lines.specs.Inner.{before}
 use Rattle.season_lines.proofs.Laws.{and-parts, sizesShape, itemShape, stepsShape, actsShape, sizesRange, itemsRange, actsRange, names-2, names-3}
 
@@ -157,21 +157,21 @@ module _ (table form : ℕ) (fs : List Field) (n : ℕ) where
 
 -- ## What a line says
 
--- A line stands in its own table, its values are in range, and a step or an act has three fields or more; a refusal is one of two, of
+-- A line stands in its own table, its values are in range, and a step or an act has three fields or more; a refusal is one of three, of
 -- this line.
 abbrev pub Says : ℕ → ℕ → ℕ → Line → Type 0
-Says table fields n (Sizes k h) = (table ≡ 0) × (1 ≤ k) × (k ≤ 4096) × (1 ≤ h)
+Says table fields n (Sizes k h r) = (table ≡ 0) × (1 ≤ k) × (k ≤ 4096) × (1 ≤ h)
 Says table fields n (ItemLine i b l w) = (table ≡ 1) × (i ≤ 255) × (itemInRange (itemFrom b l w) ≡ true)
 Says table fields n (Step s) = (table ≡ 2) × (3 ≤ fields) × (inRange (stepKind s) (stepItem s) (stepMinutes s) ≡ true)
 Says table fields n (Placed place act) = (3 ≤ table) × (3 ≤ fields)
-Says table fields n (Refused r) = (r ≡ Malformed n) ⊎ (r ≡ OutOfRange n)
+Says table fields n (Refused r) = (r ≡ Malformed n) ⊎ (r ≡ OutOfRange n) ⊎ (r ≡ UnknownRule n)
 
 judged-says :
     (table fields : ℕ) (shape range : Bool) (l : Line) (n : ℕ) →
     (range ≡ true → Says table fields n l) →
     Says table fields n (shapeThenRange shape range l n)
 judged-says table fields true true l n f = f refl
-judged-says table fields true false l n f = inr refl
+judged-says table fields true false l n f = inr (inl refl)
 judged-says table fields false range l n f = inl refl
 
 -- the ranges of a line, number by number
@@ -205,11 +205,19 @@ step-range kind i m e = go (eqb kind 82) (eqb kind 87) (eqb kind 76) e
 
 -- the line of each table
 module _ (table fields n : ℕ) where
-  sizes-says : (k h : Field) → table ≡ 0 → Says table fields n (sizesLine k h n)
+  sizes-says : (k h rule : Field) → table ≡ 0 → Says table fields n (sizesLine k h rule n)
   unfolding sizesLine
-  sizes-says k h e =
-      judged-says table fields (sizesShape k h) (sizesRange (valueIn k) (valueIn h)) (Sizes (valueIn k) (valueIn h)) n
-      (λ r. let b = sizes-bounds (valueIn k) (valueIn h) r in (e, b .0, b .1, b .2))
+  sizes-says k h rule e =
+      judged-says table fields (sizesShape k h) (sizesRange (valueIn k) (valueIn h))
+      (cond (isRule rule) (Sizes (valueIn k) (valueIn h) (ruleIn rule)) (Refused (UnknownRule n))) n
+      (λ r. worded (isRule rule) (sizes-bounds (valueIn k) (valueIn h) r))
+    where
+      worded :
+          (t : Bool) →
+          (1 ≤ valueIn k) × (valueIn k ≤ 4096) × (1 ≤ valueIn h) × (valueIn h ≤ 4096) →
+          Says table fields n (cond t (Sizes (valueIn k) (valueIn h) (ruleIn rule)) (Refused (UnknownRule n)))
+      worded true b = (e, b .0, b .1, b .2)
+      worded false b = inr (inr refl)
 
   item-says : (i b l w : Field) → table ≡ 1 → Says table fields n (itemLine i b l w n)
   unfolding itemLine
@@ -252,13 +260,13 @@ line-says table form fs n = go asDue (eqb table 0) (eqb table 1) (eqb table 2) r
         eqb table 2 ≡ r →
         Says table (length fs) n
         (cond w
-        (cond p (sizesLine (fieldAt fs 0) (fieldAt fs 1) n)
+        (cond p (sizesLine (fieldAt fs 0) (fieldAt fs 1) (ruleField form (fieldAt fs 2)) n)
         (cond q (itemLine (fieldAt fs 0) (fieldAt fs 1) (fieldAt fs 2) (fieldAt fs 3) n)
         (cond r (stepLine (fieldAt fs 0) (fieldAt fs 1) (fieldAt fs 2) n)
         (actLine (fieldAt fs 0) (fieldAt fs 1) (fieldAt fs 2) n))))
         (Refused (Malformed n)))
     go false p q r ew ep eq er = inl refl
-    go true true q r ew ep eq er = sizes-says table (length fs) n _ _ (eqb-true table 0 ep)
+    go true true q r ew ep eq er = sizes-says table (length fs) n _ _ _ (eqb-true table 0 ep)
     go true false true r ew ep eq er = item-says table (length fs) n _ _ _ _ (eqb-true table 1 eq)
     go true false false true ew ep eq er =
         let t = eqb-true table 2 er in

@@ -2,7 +2,7 @@
 use mathlib.Core.{Path._≡_, Bool.{cond, true}, List.{List, [], _∷_}}
 use Prim.Native.Nat.{ℕ, _≤_}
 use lib.{ListN.take, Dec.{leb, eqb}}
-use Rattle.season_lines.specs.{declared.Field.{Field, the-variants.{Number, Letter, Dash, Word, Empty}}, Lines.noneEmpty}
+use Rattle.season_lines.specs.{declared.Field.{Field, the-variants.{Number, Letter, Dash, Word, Empty, Rule}}, Lines.noneEmpty}
 
 -- the bytes before the first b, or all of them
 unfoldable pub before : ℕ → List ℕ → List ℕ
@@ -25,6 +25,7 @@ heldField (Letter b) = Letter b
 heldField Dash = Dash
 heldField Word = Word
 heldField Empty = Empty
+heldField (Rule r) = Rule r
 
 -- fields that a line may have: the first `count` of an array, none of them empty
 pub record Judgeable (fields : List Field) (count : ℕ) : Type 0 where

@@ -5,8 +5,8 @@ use mathlib.Core.{Bool.{Bool, true, false, cond, not, _&&_, _||_}, List.{List, [
 use Prim.Native.Nat.{ℕ, suc}
 use lib.{ListN.{length, getD}, Dec.{leb, eqb}}
 use Rattle.decimal.specs.Decimal.{textOf, sameText, shaped, valueOf}
-use Rattle.season_lines.specs.declared.{Field.{Field, the-variants.{Number, Letter, Dash, Word, Empty}}, Names.{Names, the-variants.{Form, Unknown}}, Line.{Line, the-variants.{Sizes, Item as ItemLine, Step, Act as Placed, Refused}}}
-use Rattle.landlord.specs.declared.{Act.{Act, the-variants.{Evict, Fetch}}, Refusal.the-variants.{Malformed, OutOfRange}}
+use Rattle.season_lines.specs.declared.{Field.{Field, the-variants.{Number, Letter, Dash, Word, Empty, Rule}}, Names.{Names, the-variants.{Form, Unknown}}, Line.{Line, the-variants.{Sizes, Item as ItemLine, Step, Act as Placed, Refused}}}
+use Rattle.landlord.specs.declared.{Act.{Act, the-variants.{Evict, Fetch}}, Deduction.{Deduction, the-variants.{WriteFirst, LoadFirst}}, Refusal.the-variants.{Malformed, OutOfRange, UnknownRule}}
 use Rattle.landlord.specs.{Catalog.{Item, itemInRange, capacityInRange}, Calls.{inRange, stepOf}}
 
 -- a byte in front of the first piece
@@ -23,11 +23,20 @@ split b (x ∷ s) = cond (eqb x b) ([] ∷ split b s) (onto x (split b s))
 abbrev pub markOf : ℕ → Field
 markOf b = cond (eqb b 45) Dash (cond (leb 65 b && leb b 90) (Letter b) Word)
 
--- what a field is: a number of any size, a capital letter, `-`, another word of one byte or more, or empty
+-- the word of a rule of deduction: "`write-first` or `load-first`" (paper 02, 'Three')
+unfoldable pub ruleWord : Deduction → List ℕ
+ruleWord WriteFirst = textOf "write-first"
+ruleWord LoadFirst = textOf "load-first"
+
+-- a field of some bytes that is nothing else: the word of a rule, or another word
+unfoldable pub ruleOrWord : List ℕ → Field
+ruleOrWord s = cond (sameText s (ruleWord WriteFirst)) (Rule WriteFirst) (cond (sameText s (ruleWord LoadFirst)) (Rule LoadFirst) Word)
+
+-- what a field is: a number of any size, a capital letter, `-`, the word of a rule, another word of one byte or more, or empty
 unfoldable pub fieldOf : List ℕ → Field
 fieldOf s =
     cond (shaped s) (Number (valueOf s))
-    (cond (eqb (length s) 1) (markOf (getD s 0 0)) (cond (eqb (length s) 0) Empty Word))
+    (cond (eqb (length s) 1) (markOf (getD s 0 0)) (cond (eqb (length s) 0) Empty (ruleOrWord s)))
 
 unfoldable pub allFields : List (List ℕ) → List Field
 allFields [] = []
@@ -42,20 +51,27 @@ abbrev pub fieldAt : List Field → ℕ → Field
 fieldAt fs j = getD fs j Empty
 
 abbrev pub isNumber : Field → Bool
-isNumber f = elim f [ Number v ↦ true | Letter b ↦ false | Dash ↦ false | Word ↦ false | Empty ↦ false ]
+isNumber f = elim f [ Number v ↦ true | Letter b ↦ false | Dash ↦ false | Word ↦ false | Empty ↦ false | Rule r ↦ false ]
 
 abbrev pub isLetter : Field → Bool
-isLetter f = elim f [ Number v ↦ false | Letter b ↦ true | Dash ↦ false | Word ↦ false | Empty ↦ false ]
+isLetter f = elim f [ Number v ↦ false | Letter b ↦ true | Dash ↦ false | Word ↦ false | Empty ↦ false | Rule r ↦ false ]
 
 abbrev pub isDash : Field → Bool
-isDash f = elim f [ Number v ↦ false | Letter b ↦ false | Dash ↦ true | Word ↦ false | Empty ↦ false ]
+isDash f = elim f [ Number v ↦ false | Letter b ↦ false | Dash ↦ true | Word ↦ false | Empty ↦ false | Rule r ↦ false ]
+
+abbrev pub isRule : Field → Bool
+isRule f = elim f [ Number v ↦ false | Letter b ↦ false | Dash ↦ false | Word ↦ false | Empty ↦ false | Rule r ↦ true ]
 
 -- the number that a field is, or the code of its letter; `-` has none, and it is not looked at
 abbrev pub valueIn : Field → ℕ
-valueIn f = elim f [ Number v ↦ v | Letter b ↦ b | Dash ↦ 0 | Word ↦ 0 | Empty ↦ 0 ]
+valueIn f = elim f [ Number v ↦ v | Letter b ↦ b | Dash ↦ 0 | Word ↦ 0 | Empty ↦ 0 | Rule r ↦ 0 ]
+
+-- the rule whose word a field is; another field is not looked at
+abbrev pub ruleIn : Field → Deduction
+ruleIn f = elim f [ Number v ↦ WriteFirst | Letter b ↦ WriteFirst | Dash ↦ WriteFirst | Word ↦ WriteFirst | Empty ↦ WriteFirst | Rule r ↦ r ]
 
 abbrev pub isEmpty : Field → Bool
-isEmpty f = elim f [ Number v ↦ false | Letter b ↦ false | Dash ↦ false | Word ↦ false | Empty ↦ true ]
+isEmpty f = elim f [ Number v ↦ false | Letter b ↦ false | Dash ↦ false | Word ↦ false | Empty ↦ true | Rule r ↦ false ]
 
 -- "split by single spaces": no field is empty
 unfoldable pub noneEmpty : List Field → Bool
@@ -67,7 +83,7 @@ noneEmpty (f ∷ fs) = not (isEmpty f) && noneEmpty fs
 -- the lines of names that a table may have, the tables counted from 0
 unfoldable pub headings : ℕ → List (List ℕ)
 headings table =
-    cond (eqb table 0) (textOf "locker rival" ∷ [])
+    cond (eqb table 0) (textOf "locker rival" ∷ textOf "locker rival rule" ∷ [])
     (cond (eqb table 1) (textOf "sail blocks load write" ∷ [])
     (cond (eqb table 2) (textOf "step sail minutes" ∷ [])
     (textOf "at act sail" ∷ [])))
@@ -89,18 +105,22 @@ formAmong f (names ∷ rest) l = cond (sameText l names) (Form f) (formAmong (su
 unfoldable pub formOf : ℕ → List ℕ → Names
 formOf table l = formAmong 0 (headings table) l
 
--- ## A value line under each heading, judged by its fields alone: its shape (1), then its ranges (3)
+-- ## A value line under each heading, judged by its fields alone: its shape (1), then its ranges (3), then a rule's word (18)
 
 -- "in the order .. shape, 3": a line that has its table's shape and is in range says what stands in it
 abbrev pub shapeThenRange : Bool → Bool → Line → ℕ → Line
 shapeThenRange shape range l n = cond shape (cond range l (Refused (OutOfRange n))) (Refused (Malformed n))
 
--- `locker rival`: "k and h, each 1 to 4,096"
-unfoldable pub sizesLine : Field → Field → ℕ → Line
-sizesLine k h n =
+-- `locker rival rule`: "k and h, each 1 to 4,096"; then "18 when the rule word, any field of one byte or more, is neither"
+unfoldable pub sizesLine : Field → Field → Field → ℕ → Line
+sizesLine k h rule n =
     shapeThenRange (isNumber k && isNumber h)
     (capacityInRange (valueIn k) && capacityInRange (valueIn h))
-    (Sizes (valueIn k) (valueIn h)) n
+    (cond (isRule rule) (Sizes (valueIn k) (valueIn h) (ruleIn rule)) (Refused (UnknownRule n))) n
+
+-- the field of the rule's word: only heading 1, `locker rival rule`, has one, and "the old heading means write-first"
+abbrev pub ruleField : ℕ → Field → Field
+ruleField form f = cond (eqb form 1) f (Rule WriteFirst)
 
 abbrev pub itemFrom : ℕ → ℕ → ℕ → Item
 itemFrom blocks load write = record { blocks = blocks; load = load; write = write }
@@ -146,12 +166,12 @@ actLine place kind item n =
     (Placed (valueIn place) (actOf (valueIn kind) (valueIn item))) n
 
 -- a value line with as many fields as are due, by its table's own rules
-unfoldable pub valuesIn : ℕ → List Field → ℕ → Line
-valuesIn table fs n =
+unfoldable pub valuesIn : ℕ → ℕ → List Field → ℕ → Line
+valuesIn table form fs n =
     let a = fieldAt fs 0 in
     let b = fieldAt fs 1 in
     let c = fieldAt fs 2 in
-    cond (eqb table 0) (sizesLine a b n)
+    cond (eqb table 0) (sizesLine a b (ruleField form c) n)
     (cond (eqb table 1) (itemLine a b c (fieldAt fs 3) n)
     (cond (eqb table 2) (stepLine a b c n)
     (actLine a b c n)))
@@ -159,4 +179,4 @@ valuesIn table fs n =
 -- "lines of values in that order, split by single spaces": as many fields as the heading has names, none of them empty; then its own rules
 unfoldable pub lineIn : ℕ → ℕ → List Field → ℕ → Line
 lineIn table form fs n =
-    cond (eqb (length fs) (namesIn table form) && noneEmpty fs) (valuesIn table fs n) (Refused (Malformed n))
+    cond (eqb (length fs) (namesIn table form) && noneEmpty fs) (valuesIn table form fs n) (Refused (Malformed n))

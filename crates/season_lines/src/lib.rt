@@ -1,26 +1,28 @@
 // A line of the text input: which heading of its table it is, its fields, and what a value line says under a heading. Nothing here
 // knows a catalogue or a place among the tables.
 ghost use mathlib.Core.Path.{_≡_};
-ghost use mathlib.Core.Bool.{cond};
+ghost use mathlib.Core.Bool.{cond, _&&_};
 ghost use Prim.Native.Nat.{_≤_};
 ghost use lib.ListN.{length, take};
 ghost use Rattle.landlord.specs.Catalog.{itemInRange, capacityInRange};
 ghost use Rattle.landlord.specs.Calls.{stepOf};
 ghost use Rattle.season_lines.specs.declared.Names.the-variants.{Form, Unknown};
-ghost use Rattle.season_lines.specs.Lines.{fieldOf, markOf, isNumber, isDash, isLetter, isEmpty, valueIn, namesIn, formOf, itemFrom, isEither, stepShape, isActKind, actOf, sizesLine, itemLine, stepLine, actLine, lineIn};
+ghost use Rattle.season_lines.specs.Lines.{fieldOf, markOf, ruleOrWord, isNumber, isDash, isLetter, isRule, isEmpty, valueIn, ruleIn, ruleField, namesIn, formOf, itemFrom, isEither, stepShape, isActKind, actOf, sizesLine, itemLine, stepLine, actLine, lineIn};
 ghost use Rattle.season_lines.specs.Inner.{before, heldField, Judgeable};
 use landlord::Act;
+use landlord::Deduction;
 use landlord::Refusal;
 use landlord::Step;
 
 // What a field is, as the program holds it: a number above 4,294,967,295 counts as that one, which is outside every range too. A word
-// is a field of one byte or more that is nothing else.
+// is a field of one byte or more that is nothing else, not the word of a rule either.
 pub enum Field {
     Number(u32),
     Letter(u8),
     Dash,
     Word,
     Empty,
+    Rule(Deduction),
 }
 
 // Which heading of its table a line is, the table's headings counted from 0.
@@ -34,6 +36,7 @@ pub enum Line {
     Sizes {
         k: u32,
         h: u32,
+        rule: Deduction,
     },
     Item {
         number: u32,
@@ -78,6 +81,19 @@ fn mark_of(b: u8) -> Field
     Field::Word
 }
 
+// The rule of deduction whose word a field of some bytes is, or a word that is none.
+fn rule_or_word(s: &[u8]) -> Field
+    ensures { λ r. ⌜ r ≡ ruleOrWord (now (s .entry)) ⌝ }
+{
+    if decimal::same(s, b"write-first") {
+        return Field::Rule(Deduction::WriteFirst);
+    }
+    if decimal::same(s, b"load-first") {
+        return Field::Rule(Deduction::LoadFirst);
+    }
+    Field::Word
+}
+
 pub fn field_of(s: &[u8]) -> Field
     ensures { λ r. ⌜ r ≡ heldField (fieldOf (now (s .entry))) ⌝ }
 {
@@ -91,7 +107,7 @@ pub fn field_of(s: &[u8]) -> Field
             if s.len() == 0 {
                 return Field::Empty;
             }
-            Field::Word
+            rule_or_word(s)
         }
     }
 }
@@ -105,6 +121,7 @@ fn is_number(f: Field) -> bool
         Field::Dash => false,
         Field::Word => false,
         Field::Empty => false,
+        Field::Rule(_) => false,
     }
 }
 
@@ -117,6 +134,7 @@ fn is_letter(f: Field) -> bool
         Field::Dash => false,
         Field::Word => false,
         Field::Empty => false,
+        Field::Rule(_) => false,
     }
 }
 
@@ -129,6 +147,7 @@ fn is_dash(f: Field) -> bool
         Field::Dash => true,
         Field::Word => false,
         Field::Empty => false,
+        Field::Rule(_) => false,
     }
 }
 
@@ -142,6 +161,34 @@ pub fn is_empty(f: Field) -> bool
         Field::Dash => false,
         Field::Word => false,
         Field::Empty => true,
+        Field::Rule(_) => false,
+    }
+}
+
+fn is_rule(f: Field) -> bool
+    ensures { λ r. ⌜ r ≡ isRule f ⌝ }
+{
+    match f {
+        Field::Number(_) => false,
+        Field::Letter(_) => false,
+        Field::Dash => false,
+        Field::Word => false,
+        Field::Empty => false,
+        Field::Rule(_) => true,
+    }
+}
+
+// The rule whose word a field is; write-first if it is none's.
+fn rule_in(f: Field) -> Deduction
+    ensures { λ r. ⌜ r ≡ ruleIn f ⌝ }
+{
+    match f {
+        Field::Number(_) => Deduction::WriteFirst,
+        Field::Letter(_) => Deduction::WriteFirst,
+        Field::Dash => Deduction::WriteFirst,
+        Field::Word => Deduction::WriteFirst,
+        Field::Empty => Deduction::WriteFirst,
+        Field::Rule(word) => word,
     }
 }
 
@@ -155,6 +202,7 @@ fn value_in(f: Field) -> u32
         Field::Dash => 0,
         Field::Word => 0,
         Field::Empty => 0,
+        Field::Rule(_) => 0,
     }
 }
 
@@ -164,19 +212,35 @@ fn is_size(x: u32) -> bool
     1 <= x && x <= 4096
 }
 
-// A line of `locker rival`.
-fn sizes_line(k: Field, h: Field, line: u32) -> Line
-    ensures { λ r. ⌜ r ≡ sizesLine k h line ⌝ }
+// Whether the two sizes are in their ranges.
+fn are_sizes(k: u32, h: u32) -> bool
+    ensures { λ r. ⌜ r ≡ (capacityInRange k && capacityInRange h) ⌝ }
+{
+    is_size(k) && is_size(h)
+}
+
+// A line of `locker rival rule`.
+fn sizes_line(k: Field, h: Field, rule: Field, line: u32) -> Line
+    ensures { λ r. ⌜ r ≡ sizesLine k h rule line ⌝ }
 {
     if !is_number(k) || !is_number(h) {
         return Line::Refused(Refusal::Malformed { line: line });
     }
     let a = value_in(k);
     let b = value_in(h);
-    if !is_size(a) || !is_size(b) {
+    let sized = are_sizes(a, b);
+    let known = is_rule(rule);
+    if !sized {
         return Line::Refused(Refusal::OutOfRange { line: line });
     }
-    Line::Sizes { k: a, h: b }
+    if !known {
+        return Line::Refused(Refusal::UnknownRule { line: line });
+    }
+    Line::Sizes {
+        k: a,
+        h: b,
+        rule: rule_in(rule),
+    }
 }
 
 // Whether an item's blocks and costs are in their ranges.
@@ -306,7 +370,7 @@ fn act_line(place: Field, kind: Field, item: Field, line: u32) -> Line
     }
 }
 
-// The only heading that a table has yet, or none.
+// The heading of a table that has but one, or none.
 fn the_form(right: bool) -> Names
     ensures { λ r. ⌜ r ≡ cond right (Form 0) Unknown ⌝ }
 {
@@ -316,12 +380,25 @@ fn the_form(right: bool) -> Names
     Names::Unknown
 }
 
+// Which of the first table's two headings a line is.
+fn sizes_form(line: &[u8]) -> Names
+    ensures { λ r. ⌜ r ≡ formOf 0 (now (line .entry)) ⌝ }
+{
+    if decimal::same(line, b"locker rival") {
+        return Names::Form(0);
+    }
+    if decimal::same(line, b"locker rival rule") {
+        return Names::Form(1);
+    }
+    Names::Unknown
+}
+
 // Which heading of a table a line is, the tables counted from 0.
 pub fn form_of(table: u32, line: &[u8]) -> Names
     ensures { λ r. ⌜ r ≡ formOf table (now (line .entry)) ⌝ }
 {
     if table == 0 {
-        return the_form(decimal::same(line, b"locker rival"));
+        return sizes_form(line);
     }
     if table == 1 {
         return the_form(decimal::same(line, b"sail blocks load write"));
@@ -338,12 +415,25 @@ pub fn names_in(table: u32, form: u32) -> usize
     ensures { λ r. ⌜ r ≤ 4 ⌝ }
 {
     if table == 0 {
+        if form == 1 {
+            return 3;
+        }
         return 2;
     }
     if table == 1 {
         return 4;
     }
     3
+}
+
+// The field of the rule's word: only `locker rival rule` has one, and without it write-first is meant.
+fn rule_field(form: u32, f: Field) -> Field
+    ensures { λ r. ⌜ r ≡ ruleField form f ⌝ }
+{
+    if form == 1 {
+        return f;
+    }
+    Field::Rule(Deduction::WriteFirst)
 }
 
 // A value line under a heading of a table: as many fields as names, then its shape, then its ranges.
@@ -358,7 +448,7 @@ pub fn line_in(table: u32, form: u32, fields: [Field; 4], count: usize, line: u3
     let b = fields[1];
     let c = fields[2];
     if table == 0 {
-        return sizes_line(a, b, line);
+        return sizes_line(a, b, rule_field(form, c), line);
     }
     if table == 1 {
         return item_line(a, b, c, fields[3], line);

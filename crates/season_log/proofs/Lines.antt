@@ -9,8 +9,9 @@ use native.Mathlib.Omega.{arith}
 use borrow.Author.Tests.{leb-true, eqb-true, eq-eqb, ne-eqb, not-true}
 use lib.Dec.{leb, eqb}
 use lib.ListN.{length, getD}
-use Rattle.decimal.specs.Decimal.{allDigits, leadingZero, shaped, valueOf, digitsOf}
+use Rattle.decimal.specs.Decimal.{sameText, allDigits, leadingZero, shaped, valueOf, digitsOf}
 use Rattle.decimal.proofs.Laws.{shaped-digits, value-digits, digits-value, digits-all}
+use Rattle.landlord.specs.declared.Deduction.the-variants.{WriteFirst, LoadFirst}
 use Rattle.landlord.specs.declared.Refusal.{Refusal}
 use Rattle.landlord.specs.declared.Refusal.the-variants.{Malformed}
 use Rattle.landlord.specs.declared.Step.{Step}
@@ -18,9 +19,9 @@ use Rattle.landlord.specs.declared.Step.the-variants.{Read, Write, Flush}
 use Rattle.landlord.specs.Types.{stepKind, stepItem, stepMinutes}
 use Rattle.landlord.specs.Calls.{inRange, stepOf}
 use Rattle.season_lines.specs.declared.Field.{Field}
-use Rattle.season_lines.specs.declared.Field.the-variants.{Number, Letter, Dash, Word, Empty}
+use Rattle.season_lines.specs.declared.Field.the-variants.{Number, Letter, Dash, Word, Empty, Rule}
 use Rattle.season_lines.specs.declared.Line.the-variants.{Step as StepLine, Refused}
-use Rattle.season_lines.specs.Lines.{onto, split, markOf, fieldOf, allFields, fieldsOf, fieldAt, isNumber, isLetter, isDash, valueIn, noneEmpty, namesIn, shapeThenRange, isEither, stepShape, stepLine, valuesIn, lineIn}
+use Rattle.season_lines.specs.Lines.{onto, split, markOf, ruleWord, ruleOrWord, fieldOf, allFields, fieldsOf, fieldAt, isNumber, isLetter, isDash, valueIn, noneEmpty, namesIn, shapeThenRange, isEither, stepShape, stepLine, valuesIn, lineIn}
 use Rattle.season_lines.proofs.Laws.{and-parts, names-2}
 use Rattle.season_lines.proofs.Pieces.{split-some, line-says}
 use Rattle.season_log.specs.Log.{stepText}
@@ -125,11 +126,22 @@ fieldText (Letter b) = b ∷ []
 fieldText Dash = 45 ∷ []
 fieldText Word = []
 fieldText Empty = []
+fieldText (Rule r) = []
 
 one-byte : (s : List ℕ) → length s ≡ 1 → getD s 0 0 ∷ [] ≡ s
 one-byte [] h = absurd (omega arith)
 one-byte (x ∷ []) h = refl
 one-byte (x ∷ y ∷ s) h = absurd (omega arith)
+
+-- a word is none of them, the word of a rule or another
+not-plain : (s : List ℕ) → plain (ruleOrWord s) ≡ false
+unfolding ruleOrWord
+not-plain s = go (sameText s (ruleWord WriteFirst)) (sameText s (ruleWord LoadFirst))
+  where
+    go : (p q : Bool) → plain (cond p (Rule WriteFirst) (cond q (Rule LoadFirst) Word)) ≡ false
+    go true q = refl
+    go false true = refl
+    go false false = refl
 
 -- what reads as such a field is its text
 field-text : (s : List ℕ) → plain (fieldOf s) ≡ true → fieldText (fieldOf s) ≡ s
@@ -150,13 +162,13 @@ field-text s h = go (shaped s) (eqb (length s) 1) (eqb (length s) 0) refl refl h
         (a b c : Bool) →
         shaped s ≡ a →
         eqb (length s) 1 ≡ b →
-        plain (cond a (Number (valueOf s)) (cond b (markOf (getD s 0 0)) (cond c Empty Word))) ≡ true →
-        fieldText (cond a (Number (valueOf s)) (cond b (markOf (getD s 0 0)) (cond c Empty Word))) ≡ s
+        plain (cond a (Number (valueOf s)) (cond b (markOf (getD s 0 0)) (cond c Empty (ruleOrWord s)))) ≡ true →
+        fieldText (cond a (Number (valueOf s)) (cond b (markOf (getD s 0 0)) (cond c Empty (ruleOrWord s)))) ≡ s
     go true b c ea eb h = digits-value s ea
     go false true c ea eb h =
         mark (eqb (getD s 0 0) 45) (leb 65 (getD s 0 0) && leb (getD s 0 0) 90) refl (eqb-true (length s) 1 eb) h
     go false false true ea eb h = absurd (false≢true h)
-    go false false false ea eb h = absurd (false≢true h)
+    go false false false ea eb h = absurd (false≢true (sym (not-plain s) ∙ h))
 
 pieces-text : (ps : List (List ℕ)) → allPlain (allFields ps) ≡ true → map fieldText (allFields ps) ≡ ps
 unfolding allPlain allFields
@@ -262,6 +274,7 @@ letter-is (Letter b) h = refl
 letter-is Dash h = absurd (false≢true h)
 letter-is Word h = absurd (false≢true h)
 letter-is Empty h = absurd (false≢true h)
+letter-is (Rule r) h = absurd (false≢true h)
 
 number-is : (f : Field) → isNumber f ≡ true → f ≡ Number (valueIn f)
 number-is (Number v) h = refl
@@ -269,6 +282,7 @@ number-is (Letter b) h = absurd (false≢true h)
 number-is Dash h = absurd (false≢true h)
 number-is Word h = absurd (false≢true h)
 number-is Empty h = absurd (false≢true h)
+number-is (Rule r) h = absurd (false≢true h)
 
 dash-is : (f : Field) → isDash f ≡ true → f ≡ Dash
 dash-is (Number v) h = absurd (false≢true h)
@@ -276,6 +290,7 @@ dash-is (Letter b) h = absurd (false≢true h)
 dash-is Dash h = refl
 dash-is Word h = absurd (false≢true h)
 dash-is Empty h = absurd (false≢true h)
+dash-is (Rule r) h = absurd (false≢true h)
 
 -- by its kind
 kind-fields :

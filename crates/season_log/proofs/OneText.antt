@@ -123,7 +123,7 @@ lines-written n (l ∷ m ∷ rest) ss e =
     go (StepLine s) (steps later) a b e = one-written l m rest s later ss (a s refl) (b later refl) e
     go (StepLine s) (fault r) a b e = absurd (no-steps r ss e)
     go (Refused r) below a b e = absurd (no-steps r ss e)
-    go (Sizes k h) below a b e = absurd (no-steps (Malformed 0) ss e)
+    go (Sizes k h r) below a b e = absurd (no-steps (Malformed 0) ss e)
     go (ItemLine i blocks load write) below a b e = absurd (no-steps (Malformed 0) ss e)
     go (ActLine place act) below a b e = absurd (no-steps (Malformed 0) ss e)
 

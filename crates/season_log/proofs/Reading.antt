@@ -23,7 +23,7 @@ use Rattle.landlord.specs.declared.Step.{Step}
 use Rattle.landlord.specs.declared.Step.the-variants.{Read, Write, Flush}
 use Rattle.landlord.specs.Types.{stepKind, stepItem, stepMinutes}
 use Rattle.season_lines.specs.declared.Field.{Field}
-use Rattle.season_lines.specs.declared.Field.the-variants.{Number, Letter, Dash, Word, Empty}
+use Rattle.season_lines.specs.declared.Field.the-variants.{Number, Letter, Dash, Word, Empty, Rule}
 use Rattle.season_lines.specs.declared.Names.{Names}
 use Rattle.season_lines.specs.declared.Names.the-variants.{Form, Unknown}
 use Rattle.season_lines.specs.declared.Line.{Line}
@@ -91,6 +91,7 @@ is-empty (Letter b) e = absurd (false≢true e)
 is-empty Dash e = absurd (false≢true e)
 is-empty Word e = absurd (false≢true e)
 is-empty Empty e = refl
+is-empty (Rule r) e = absurd (false≢true e)
 
 -- an empty field has the shape of no step
 none-of-four : (p q r : Bool) → cond p false (cond q false (cond r false false)) ≡ false
@@ -237,7 +238,7 @@ NoStep l = (s : Step) → l ≡ StepLine s → ⊥
 no-step : (l : Line) (rest : Logged) → NoStep l → follows l rest ≡ fault (lineRefusal l)
 no-step (StepLine s) rest h = absurd (h s refl)
 no-step (Refused r) rest h = refl
-no-step (Sizes k w) rest h = refl
+no-step (Sizes k w r) rest h = refl
 no-step (ItemLine i b l w) rest h = refl
 no-step (ActLine place act) rest h = refl
 

@@ -84,7 +84,7 @@ FoundIn text r = 0 < r .bytes → Begins text (r .step) (r .bytes)
 abbrev pub lineRefusal : Line → Refusal
 lineRefusal (StepLine s) = Malformed 0
 lineRefusal (Refused r) = r
-lineRefusal (Sizes k h) = Malformed 0
+lineRefusal (Sizes k h r) = Malformed 0
 lineRefusal (ItemLine i b l w) = Malformed 0
 lineRefusal (ActLine place act) = Malformed 0
 

@@ -72,7 +72,7 @@ listOf (s ∷ rest) = le 4 (stepKind s) ++ (le 4 (stepItem s) ++ (le 4 (stepMinu
 abbrev pub follows : Line → Logged → Logged
 follows (StepLine s) rest = ahead s rest
 follows (Refused r) rest = fault r
-follows (Sizes k h) rest = fault (Malformed 0)
+follows (Sizes k h r) rest = fault (Malformed 0)
 follows (ItemLine i b l w) rest = fault (Malformed 0)
 follows (ActLine place act) rest = fault (Malformed 0)
 

@@ -374,7 +374,11 @@ fn refusal_in(line: Line) -> Refusal
     match line {
         Line::Refused(r) => r,
         Line::Step(_) => Refusal::Malformed { line: 0 },
-        Line::Sizes { k: _, h: _ } => Refusal::Malformed { line: 0 },
+        Line::Sizes {
+            k: _,
+            h: _,
+            rule: _,
+        } => Refusal::Malformed { line: 0 },
         Line::Item {
             number: _,
             blocks: _,

@@ -92,11 +92,11 @@ turn v s (done q c) serves next paid b r did e served f = go (serves q) (served 
 turn v s (faulty w) serves next paid b r did e served f = absurd (fault-some w (sym (did .0) ∙ e))
 
 -- a fault's number is one of the table's
-acts-number : (v : Sofar) (s : ℕ) (d : Done) (paid : ℕ) (b : Acted) → ActsDone v s d paid b → b .number ≢ 0 → (1 ≤ b .number) × (b .number ≤ 17)
+acts-number : (v : Sofar) (s : ℕ) (d : Done) (paid : ℕ) (b : Acted) → ActsDone v s d paid b → b .number ≢ 0 → (1 ≤ b .number) × (b .number ≤ 18)
 acts-number v s (done q c) paid b did e = absurd (e (did .0))
 acts-number v s (faulty f) paid b did e = rw (did .0) (fault-range f)
 
-does-number : (cat : Catalog) (d : Done) (paid : ℕ) (r : Did) → Does cat d paid r → r .number ≢ 0 → (1 ≤ r .number) × (r .number ≤ 17)
+does-number : (cat : Catalog) (d : Done) (paid : ℕ) (r : Did) → Does cat d paid r → r .number ≢ 0 → (1 ≤ r .number) × (r .number ≤ 18)
 does-number cat (done q c) paid r did e = absurd (e (did .0))
 does-number cat (faulty f) paid r did e = rw did (fault-range f)
 
@@ -247,7 +247,7 @@ module _ (x : Seen) (xs calls acts : List ℕ) (pre : Priceable x xs calls acts)
             (sym (drop-cons (v .steps) s Flush (omega (arith, h .stepCount))))
             ∙ so .leads v h sound
 
-        pub pricing-act-number : b .number ≢ 0 → (1 ≤ b .number) × (b .number ≤ 17)
+        pub pricing-act-number : b .number ≢ 0 → (1 ≤ b .number) × (b .number ≤ 18)
         pricing-act-number e = acts-number (pre .text) s (actsOf (pre .text) s (copiesIn xs p)) (p .paid) b (did (pre .text) (pre .holds) (pre .sound)) e
 
         -- 11 or 12, with the act's line and item
@@ -302,7 +302,7 @@ module _ (x : Seen) (xs calls acts : List ℕ) (pre : Priceable x xs calls acts)
                 (subst (λ (t : Step). HoldsCopies (catalogIn xs) (b .copies) q c → Does (catalogIn xs) (planServes (catalogIn xs) (x .h) s t q) c r) same
                 (served s (stepMinutes st) c q)))
 
-            pub pricing-step-number : r .number ≢ 0 → (1 ≤ r .number) × (r .number ≤ 17)
+            pub pricing-step-number : r .number ≢ 0 → (1 ≤ r .number) × (r .number ≤ 18)
             pricing-step-number f =
                 does-number (catalogIn xs) (planServes (catalogIn xs) (x .h) s (stepOf (getD calls (4 * s + 1) 0) (getD calls (4 * s + 2) 0) 0) (copiesIn xs (b .copies))) (b .copies .paid) r
                 (served s 0 (b .copies .paid) (copiesIn xs (b .copies)) (stands-ready xs (b .copies) before-used)) f

@@ -127,8 +127,8 @@ unfolding takes
 grown-by v w table form fs n e = go (lineIn table form fs n) (line-says table form fs n) e
   where
     go : (line : Line) → Says table (length fs) n line → takes v line n ≡ on w → Grows v w true (length fs)
-    go (Sizes k h) l e =
-        grows-to v (withSizes v k h) w true (length fs) (if-on (leb h k) (withSizes v k h) w (PlanTooLarge n) e)
+    go (Sizes k h r) l e =
+        grows-to v (withSizes v k h r) w true (length fs) (if-on (leb h k) (withSizes v k h r) w (PlanTooLarge n) e)
         (record { upto = refl; table = λ u t. t; items = omega arith; steps = inl refl; acts = inl refl })
     go (ItemLine i k l m) q e =
         grows-to v (withItem v k l m) w true (length fs)

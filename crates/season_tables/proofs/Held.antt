@@ -12,6 +12,7 @@ use lib.Dec.{eqb, leb, ltb}
 use borrow.Author.Tests.{lt-ltb, le-ltb, le-leb, lt-leb, eq-eqb, ne-eqb}
 use Rattle.landlord.specs.declared.Step.{Step}
 use Rattle.landlord.specs.declared.Act.{Act}
+use Rattle.landlord.specs.declared.Deduction.{Deduction}
 use Rattle.landlord.specs.declared.Refusal.{Refusal}
 use Rattle.landlord.specs.declared.Refusal.the-variants.{Malformed, Heading, OutOfSequence, PlanTooLarge, UnknownItem, ActOutOfOrder}
 use Rattle.landlord.specs.Types.{stepItem, actItem, telling, told}
@@ -62,6 +63,7 @@ begins upto catalog calls acts =
       last = refl;
       stepsNoted = refl;
       actsNoted = refl;
+      rule = refl;
     }
 
 -- the line of names
@@ -78,6 +80,7 @@ named q f =
       last = q .last;
       upto = q .upto;
       form = f;
+      rule = q .rule;
     }
 
 module _ (q : Seen) (names : Names) (at : ℕ) (r : Scanned) where
@@ -101,6 +104,7 @@ module _ (q : Seen) (names : Names) (at : ℕ) (r : Scanned) where
         last = h .last;
         stepsNoted = h .stepsNoted;
         actsNoted = h .actsNoted;
+        rule = h .rule;
       }))
 
   pub names-wrong : names ≡ Unknown → r .verdict ≡ Refused (Heading at) → LeadsBy q (λ v. namedBy v names at) r
@@ -120,6 +124,7 @@ turned q =
       last = q .last;
       upto = q .upto;
       form = 0;
+      rule = q .rule;
     }
 
 module _ (q : Seen) (bytes at : ℕ) (r : Scanned) where
@@ -142,14 +147,15 @@ module _ (q : Seen) (bytes at : ℕ) (r : Scanned) where
         last = h .last;
         stepsNoted = h .stepsNoted;
         actsNoted = h .actsNoted;
+        rule = h .rule;
       }))
 
   pub blank-missing : (bytes ≡ 0 → ⊥) → r .verdict ≡ Refused (Malformed at) → LeadsBy q (λ v. cond (eqb bytes 0) (on (nextTable v)) (stop (Malformed at))) r
   blank-missing e t catalog calls acts v h = rw (ne-eqb bytes 0 e) t
 
 -- the line of sizes
-abbrev sized : Seen → ℕ → ℕ → Seen
-sized q k h =
+abbrev sized : Seen → ℕ → ℕ → Deduction → Seen
+sized q k h word =
     record {
       table = q .table;
       named = q .named;
@@ -161,14 +167,15 @@ sized q k h =
       last = q .last;
       upto = q .upto;
       form = q .form;
+      rule = word;
     }
 
-module _ (q : Seen) (size plan at : ℕ) (r : Scanned) where
-  pub sizes-fit : plan ≤ size → r .verdict ≡ Taken → r .seen ≡ sized q size plan → LeadsBy q (λ v. takes v (Sizes size plan) at) r
+module _ (q : Seen) (size plan : ℕ) (word : Deduction) (at : ℕ) (r : Scanned) where
+  pub sizes-fit : plan ≤ size → r .verdict ≡ Taken → r .seen ≡ sized q size plan word → LeadsBy q (λ v. takes v (Sizes size plan word) at) r
   unfolding takes
   sizes-fit e t s catalog calls acts v h =
       rw (le-leb plan size e)
-      (goes r (sized q size plan) catalog calls acts _ t s
+      (goes r (sized q size plan word) catalog calls acts _ t s
       (record {
         table = h .table;
         upto = h .upto;
@@ -184,9 +191,10 @@ module _ (q : Seen) (size plan at : ℕ) (r : Scanned) where
         last = h .last;
         stepsNoted = h .stepsNoted;
         actsNoted = h .actsNoted;
+        rule = refl;
       }))
 
-  pub sizes-too-large : size < plan → r .verdict ≡ Refused (PlanTooLarge at) → LeadsBy q (λ v. takes v (Sizes size plan) at) r
+  pub sizes-too-large : size < plan → r .verdict ≡ Refused (PlanTooLarge at) → LeadsBy q (λ v. takes v (Sizes size plan word) at) r
   unfolding takes
   sizes-too-large e t catalog calls acts v h = rw (lt-leb plan size e) t
 
@@ -204,6 +212,7 @@ listed q i =
       last = q .last;
       upto = q .upto;
       form = q .form;
+      rule = q .rule;
     }
 
 one-longer : {A : Type 0} (n : ℕ) (xs : List A) (x : A) → n ≡ length xs → n + 1 ≡ length (xs ++ (x ∷ []))
@@ -242,6 +251,7 @@ module _ (q : Seen) (catalog : List ℕ) (i b l w at : ℕ) (r : Scanned) where
         last = h .last;
         stepsNoted = h .stepsNoted;
         actsNoted = h .actsNoted;
+        rule = h .rule;
       }))
 
   pub item-past :
@@ -278,6 +288,7 @@ stepped q =
       last = q .last;
       upto = q .upto;
       form = q .form;
+      rule = q .rule;
     }
 
 -- what the table says to a step, by what the struct and the bytes hold
@@ -331,6 +342,7 @@ module _ (q : Seen) (catalog calls : List ℕ) (s : Step) (at number : ℕ) (r :
             ∙ noted-more 4 (q .steps) calls (callNumbers (v .steps)) (callNumbers (s ∷ [])) (unfold callNumbers in refl) room (h .stepsNoted)
             ∙ sym (calls-more (v .steps) s);
         actsNoted = h .actsNoted;
+        rule = h .rule;
       }))
 
   pub step-past :
@@ -361,6 +373,7 @@ acted q place =
       last = place;
       upto = q .upto;
       form = q .form;
+      rule = q .rule;
     }
 
 abbrev placed : ℕ → Act → Placed
@@ -426,6 +439,7 @@ module _ (q : Seen) (acts : List ℕ) (place : ℕ) (act : Act) (at : ℕ) (r : 
             ap (take (3 * (q .acts + 1))) put
             ∙ noted-more 3 (q .acts) acts (actNumbers (v .acts)) (actNumbers (placed place act ∷ [])) (unfold actNumbers in refl) room (h .actsNoted)
             ∙ sym (acts-more (v .acts) (placed place act));
+        rule = h .rule;
       }))
 
   pub act-past :

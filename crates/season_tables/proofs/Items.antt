@@ -51,8 +51,8 @@ module _ (k : ℕ) (cat : Catalog) (number : ℕ) where
       of Flush = λ f. absurd (f refl)
 
   module _ (s : Step) (e : number ≡ itemRefusal k cat s) (f : number ≡ 0 → ⊥) where
-    pub step-range : (1 ≤ number) × (number ≤ 17)
-    step-range = six-or-seven (λ m. (1 ≤ m) × (m ≤ 17)) s e f (omega arith) (omega arith)
+    pub step-range : (1 ≤ number) × (number ≤ 18)
+    step-range = six-or-seven (λ m. (1 ≤ m) × (m ≤ 18)) s e f (omega arith) (omega arith)
 
     -- and the refusal is the one of this number
     pub step-told : (n i : ℕ) → told (cond (eqb number 6) (UnknownItem n i) (ItemTooLarge n i)) ≡ telling number n i

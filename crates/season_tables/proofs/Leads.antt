@@ -77,7 +77,7 @@ pub line-numbered : (table form : ℕ) (fs : List Field) (n : ℕ) (line : Line)
 line-numbered table form fs n line e = go line (subst (Says table (length fs) n) (sym e) (line-says table form fs n))
   where
     go : (line : Line) → Says table (length fs) n line → ItemPlaced line
-    go (Sizes k h) s = tt
+    go (Sizes k h r) s = tt
     go (ItemLine i b l w) s = s .1
     go (StepLine step) s = tt
     go (ActLine place act) s = tt

@@ -59,7 +59,7 @@ ByLine n (stop r) = refusalLine r ≡ n
 -- any value line, and any line
 takes-by : (table fields n : ℕ) (v : Sofar) (x : Line) → linesRead v < n → Says table fields n x → ByLine n (takes v x n)
 unfolding takes
-takes-by table fields n v (Sizes k h) l o =
+takes-by table fields n v (Sizes k h r) l o =
     either (ByLine n) (leb h k) _ _ (λ e. omega (arith, above-sizes (v .table) (v .k) k)) (λ e. refl)
 takes-by table fields n v (ItemLine i b c w) l o =
     either (ByLine n) (eqb i (length (v .catalog))) _ _
@@ -75,7 +75,8 @@ takes-by table fields n v (ActLine place act) l o =
     (λ e. either (ByLine n) (ltb (actItem act) (length (v .catalog))) _ _
     (λ k. omega (arith, length-append (v .acts) (a ∷ []))) (λ k. refl))
     (λ e. refl)
-takes-by table fields n v (Refused r) l o = ⊎-elim (λ m. ap refusalLine m) (λ m. ap refusalLine m) o
+takes-by table fields n v (Refused r) l o =
+    ⊎-elim (λ m. ap refusalLine m) (⊎-elim (λ m. ap refusalLine m) (λ m. ap refusalLine m)) o
 
 leads-by : (n : ℕ) (v : Sofar) (l : List ℕ) → linesRead v < n → ByLine n (leads v l n)
 unfolding leads

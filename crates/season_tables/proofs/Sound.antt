@@ -14,6 +14,7 @@ use Rattle.landlord.specs.declared.Step.{Step}
 use Rattle.landlord.specs.declared.Step.the-variants.{Read, Write, Flush}
 use Rattle.landlord.specs.declared.Act.{Act}
 use Rattle.landlord.specs.declared.Act.the-variants.{Fetch}
+use Rattle.landlord.specs.declared.Deduction.{Deduction}
 use Rattle.landlord.specs.Types.{stepKind, stepItem, stepMinutes, actItem}
 use Rattle.landlord.specs.Fold.{fold}
 use Rattle.landlord.specs.Catalog.{Catalog, noItem}
@@ -182,12 +183,12 @@ next-after u i v p e =
 
 -- a value line of each table: what stands in the later tables is not read yet
 sizes-after :
-    (u i fields n : ℕ) (v : Sofar) (k h : ℕ) →
+    (u i fields n : ℕ) (v : Sofar) (k h : ℕ) (r : Deduction) →
     After u i v →
-    Says (v .table) fields n (Sizes k h) →
+    Says (v .table) fields n (Sizes k h r) →
     h ≤ k →
-    After u (suc i) (withSizes v k h)
-sizes-after u i fields n v k h p s l =
+    After u (suc i) (withSizes v k h r)
+sizes-after u i fields n v k h r p s l =
     let q = p .so in
     let noSteps : length (v .steps) ≡ 0 = q .noSteps (omega arith) in
     let noActs : length (v .acts) ≡ 0 = q .noActs (omega arith) in
@@ -332,8 +333,8 @@ act-after u i v place act p t e k =
 takes-after :
     (u i fields n : ℕ) (v : Sofar) (x : Line) → After u i v → Says (v .table) fields n x → Leading (After u (suc i)) (takes v x n)
 unfolding takes
-takes-after u i fields n v (Sizes k h) p s =
-    either (Leading (After u (suc i))) (leb h k) _ _ (λ e. sizes-after u i fields n v k h p s (leb-true h k e)) (λ e. tt)
+takes-after u i fields n v (Sizes k h r) p s =
+    either (Leading (After u (suc i))) (leb h k) _ _ (λ e. sizes-after u i fields n v k h r p s (leb-true h k e)) (λ e. tt)
 takes-after u i fields n v (ItemLine number b l w) p s =
     either (Leading (After u (suc i))) (eqb number (length (v .catalog))) _ _
     (λ e. item-after u i fields n v number b l w p s (eqb-true number (length (v .catalog)) e)) (λ e. tt)

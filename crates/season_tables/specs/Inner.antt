@@ -1,7 +1,7 @@
 -- How the program holds what has been read: the sizes and counts in a struct, the catalog as bytes in one lent slice, the steps and
 -- acts as numbers in two; and what a line leaves of them as it was. Assumes nothing.
 use lib.{ListN.{length, take, drop}, Dec.{eqb, leb}}
-use Rattle.landlord.specs.{Fold.fold, declared.{Step.Step, Refusal.{Refusal, the-variants.Heading}}, Types.{stepKind, stepItem, stepMinutes, actKind, actItem}}
+use Rattle.landlord.specs.{Fold.fold, declared.{Step.Step, Deduction.the-variants.WriteFirst, Refusal.{Refusal, the-variants.Heading}}, Types.{stepKind, stepItem, stepMinutes, actKind, actItem}}
 use mathlib.Core.{Bool.{Bool, true, false, cond, not, _&&_}, List.{List, [], _∷_, _++_, map}, Path._≡_}
 use Rattle.season_tables.specs.declared.{Seen.Seen, Scanned.Scanned, Verdict.{Verdict, the-variants.{Taken, Refused}}}
 use Rattle.season_tables.specs.Tables.{Placed, Sofar, Led, on, stop, mayEnd, mustEnd}
@@ -52,10 +52,11 @@ pub record Holds (q : Seen) (catalog calls acts : List ℕ) (v : Sofar) : Type 0
   pub last : q .last ≡ lastPlace (v .acts)
   pub stepsNoted : take (4 * q .steps) calls ≡ callNumbers (v .steps)
   pub actsNoted : take (3 * q .acts) acts ≡ actNumbers (v .acts)
+  pub rule : q .rule ≡ v .rule
 
 -- the struct before the first line of a text whose last table is the one numbered `upto`
 abbrev pub nothingRead : ℕ → Seen
-nothingRead upto = record { table = 0; named = false; k = 0; h = 0; n = 0; steps = 0; acts = 0; last = 0; upto = upto; form = 0 }
+nothingRead upto = record { table = 0; named = false; k = 0; h = 0; n = 0; steps = 0; acts = 0; last = 0; upto = upto; form = 0; rule = WriteFirst }
 
 -- the verdict at the input's end, on line n
 abbrev pub endVerdict : Seen → ℕ → Verdict
@@ -138,7 +139,7 @@ pub record Room (q : Seen) (catalog calls acts : List ℕ) : Type 0 where
 
 -- an item's number that has a place
 abbrev pub ItemPlaced : Line → Type 0
-ItemPlaced (Sizes k h) = Unit {0}
+ItemPlaced (Sizes k h r) = Unit {0}
 ItemPlaced (ItemLine i b l w) = i ≤ 255
 ItemPlaced (StepLine s) = Unit {0}
 ItemPlaced (ActLine place act) = Unit {0}

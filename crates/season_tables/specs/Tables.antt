@@ -3,7 +3,7 @@
 use mathlib.Core.{Bool.{Bool, true, false, cond, _&&_}, List.{List, [], _∷_, _++_}}
 use Prim.Native.Nat.{ℕ, suc}
 use lib.{ListN.length, Dec.{leb, ltb, eqb}}
-use Rattle.landlord.specs.declared.{Step.Step, Act.Act, Refusal.{Refusal, the-variants.{Malformed, Heading, OutOfSequence, PlanTooLarge, UnknownItem, ItemTooLarge, ActOutOfOrder}}}
+use Rattle.landlord.specs.declared.{Step.Step, Act.Act, Deduction.{Deduction, the-variants.WriteFirst}, Refusal.{Refusal, the-variants.{Malformed, Heading, OutOfSequence, PlanTooLarge, UnknownItem, ItemTooLarge, ActOutOfOrder}}}
 use Rattle.landlord.specs.{Types.{stepItem, actItem}, Fold.fold, Catalog.Catalog, Calls.itemRefusal}
 use Rattle.season_lines.specs.declared.{Names.{Names, the-variants.{Form, Unknown}}, Line.{Line, the-variants.{Sizes, Item as ItemLine, Step as StepLine, Act as ActLine, Refused}}}
 use Rattle.season_lines.specs.Lines.{split, fieldsOf, formOf, itemFrom, lineIn}
@@ -14,7 +14,8 @@ pub record Placed : Type 0 where
   pub act : Act
 
 -- What has been read: in which table, the tables counted from 0, and which of them is the last; whether behind the table's line of
--- names, and which of its headings that was, 0 before it; and what the value lines said. Before the line of sizes k is 0.
+-- names, and which of its headings that was, 0 before it; and what the value lines said. Before the line of sizes k is 0, and the rule
+-- write-first.
 pub record Sofar : Type 0 where
   pub table : ℕ
   pub upto : ℕ
@@ -25,10 +26,11 @@ pub record Sofar : Type 0 where
   pub catalog : Catalog
   pub steps : List Step
   pub acts : List Placed
+  pub rule : Deduction
 
 -- before the first line of a text whose last table is the one numbered `upto`
 abbrev pub atStart : ℕ → Sofar
-atStart upto = record { table = 0; upto = upto; named = false; form = 0; k = 0; h = 0; catalog = []; steps = []; acts = [] }
+atStart upto = record { table = 0; upto = upto; named = false; form = 0; k = 0; h = 0; catalog = []; steps = []; acts = []; rule = WriteFirst }
 
 -- a line leads on, with what has been read then, or stops the reading
 pub data Led : Type 0 where
@@ -38,28 +40,28 @@ pub data Led : Type 0 where
 -- the line of names is read: heading f of its table
 abbrev pub nowNamed : Sofar → ℕ → Sofar
 nowNamed v f =
-    record { table = v .table; upto = v .upto; named = true; form = f; k = v .k; h = v .h; catalog = v .catalog; steps = v .steps; acts = v .acts }
+    record { table = v .table; upto = v .upto; named = true; form = f; k = v .k; h = v .h; catalog = v .catalog; steps = v .steps; acts = v .acts; rule = v .rule }
 
 -- the blank line is read: the next table's names are due
 abbrev pub nextTable : Sofar → Sofar
 nextTable v =
-    record { table = suc (v .table); upto = v .upto; named = false; form = 0; k = v .k; h = v .h; catalog = v .catalog; steps = v .steps; acts = v .acts }
+    record { table = suc (v .table); upto = v .upto; named = false; form = 0; k = v .k; h = v .h; catalog = v .catalog; steps = v .steps; acts = v .acts; rule = v .rule }
 
-abbrev pub withSizes : Sofar → ℕ → ℕ → Sofar
-withSizes v k h =
-    record { table = v .table; upto = v .upto; named = v .named; form = v .form; k = k; h = h; catalog = v .catalog; steps = v .steps; acts = v .acts }
+abbrev pub withSizes : Sofar → ℕ → ℕ → Deduction → Sofar
+withSizes v k h r =
+    record { table = v .table; upto = v .upto; named = v .named; form = v .form; k = k; h = h; catalog = v .catalog; steps = v .steps; acts = v .acts; rule = r }
 
 abbrev pub withItem : Sofar → ℕ → ℕ → ℕ → Sofar
 withItem v b l w =
-    record { table = v .table; upto = v .upto; named = v .named; form = v .form; k = v .k; h = v .h; catalog = v .catalog ++ (itemFrom b l w ∷ []); steps = v .steps; acts = v .acts }
+    record { table = v .table; upto = v .upto; named = v .named; form = v .form; k = v .k; h = v .h; catalog = v .catalog ++ (itemFrom b l w ∷ []); steps = v .steps; acts = v .acts; rule = v .rule }
 
 abbrev pub withStep : Sofar → Step → Sofar
 withStep v s =
-    record { table = v .table; upto = v .upto; named = v .named; form = v .form; k = v .k; h = v .h; catalog = v .catalog; steps = v .steps ++ (s ∷ []); acts = v .acts }
+    record { table = v .table; upto = v .upto; named = v .named; form = v .form; k = v .k; h = v .h; catalog = v .catalog; steps = v .steps ++ (s ∷ []); acts = v .acts; rule = v .rule }
 
 abbrev pub withAct : Sofar → ℕ → Act → Sofar
 withAct v place act =
-    record { table = v .table; upto = v .upto; named = v .named; form = v .form; k = v .k; h = v .h; catalog = v .catalog; steps = v .steps; acts = v .acts ++ (record { place = place; act = act } ∷ []) }
+    record { table = v .table; upto = v .upto; named = v .named; form = v .form; k = v .k; h = v .h; catalog = v .catalog; steps = v .steps; acts = v .acts ++ (record { place = place; act = act } ∷ []); rule = v .rule }
 
 -- "10 out of turn: `at` falls, or is not below the number of steps"; before the first act it falls from 0
 abbrev pub inTurn : Sofar → ℕ → Bool
@@ -71,7 +73,7 @@ unlessRefused number n item w = cond (eqb number 0) (on w) (stop (cond (eqb numb
 
 -- A value line that is shaped and in range, on line n: "then for `locker rival` 5, for sails 4, for steps 6, 7, for acts 10, 6".
 unfoldable pub takes : Sofar → Line → ℕ → Led
-takes v (Sizes k h) n = cond (leb h k) (on (withSizes v k h)) (stop (PlanTooLarge n))
+takes v (Sizes k h r) n = cond (leb h k) (on (withSizes v k h r)) (stop (PlanTooLarge n))
 takes v (ItemLine i b l w) n = cond (eqb i (length (v .catalog))) (on (withItem v b l w)) (stop (OutOfSequence n))
 takes v (StepLine s) n = unlessRefused (itemRefusal (v .k) (v .catalog) s) n (stepItem s) (withStep v s)
 takes v (ActLine place act) n =

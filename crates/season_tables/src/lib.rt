@@ -14,6 +14,7 @@ ghost use Rattle.season_tables.specs.declared.Verdict.the-variants.{Take
 ghost use Rattle.season_tables.specs.Tables.{on, stop, mayEnd, mustEnd, namedBy, nextTable, takes, leads, atEnd};
 ghost use Rattle.season_tables.specs.Inner.{nothingRead, endVerdict, LeadsFrom, LeadsBy, NotesItem, NotesStep, NotesAct, KeepsSeen, KeepsPast, Keeps, Takeable, Leadable, wantsValues, callNumbers, actNumbers, putAt};
 use landlord::Act;
+use landlord::Deduction;
 use landlord::Refusal;
 use landlord::Step;
 use season_lines::Field;
@@ -22,7 +23,7 @@ use season_lines::Names;
 
 // What has been read: in which table, and whether behind its line of names; the sizes, k 0 before they are read; how many items,
 // steps and acts, which stand in lent slices; the place of the last act; which table is the last, and which of its headings this table
-// has, 0 before its line of names.
+// has, 0 before its line of names; the rule of deduction, write-first before the sizes are read.
 pub struct Seen {
     pub table: u32,
     pub named: bool,
@@ -34,6 +35,7 @@ pub struct Seen {
     pub last: u32,
     pub upto: u32,
     pub form: u32,
+    pub rule: Deduction,
 }
 
 pub enum Verdict {
@@ -97,6 +99,7 @@ pub fn at_start(upto: u32) -> Seen
         last: 0,
         upto: upto,
         form: 0,
+        rule: Deduction::WriteFirst,
     }
 }
 
@@ -151,17 +154,26 @@ fn take_blank(seen: Seen, bytes: usize, at: u32) -> Scanned
     taken(q)
 }
 
-fn take_sizes(seen: Seen, k: u32, h: u32, at: u32) -> Scanned
-    ensures { λ r. ⌜ LeadsBy seen (λ v. takes v (Sizes k h) at) r ⌝ }
+fn take_sizes(seen: Seen, k: u32, h: u32, rule: Deduction, at: u32) -> Scanned
+    ensures { λ r. ⌜ LeadsBy seen (λ v. takes v (Sizes k h rule) at) r ⌝ }
     ensures { λ r. ⌜ KeepsSeen seen r ⌝ }
 {
     if k < h {
         return stopped(seen, Refusal::PlanTooLarge { line: at });
     }
-    let mut q = seen;
-    q.k = k;
-    q.h = h;
-    taken(q)
+    taken(Seen {
+        table: seen.table,
+        named: seen.named,
+        k: k,
+        h: h,
+        n: seen.n,
+        steps: seen.steps,
+        acts: seen.acts,
+        last: seen.last,
+        upto: seen.upto,
+        form: seen.form,
+        rule: rule,
+    })
 }
 
 fn take_item(
@@ -292,7 +304,7 @@ fn take_line(
     ensures { λ r. ⌜ Keeps seen (now (catalog .entry)) (now (calls .entry)) (now (acts .entry)) r (now (catalog .exit)) (now (calls .exit)) (now (acts .exit)) ⌝ }
 {
     match line {
-        Line::Sizes { k, h } => take_sizes(seen, k, h, at),
+        Line::Sizes { k, h, rule } => take_sizes(seen, k, h, rule, at),
         Line::Item {
             number,
             blocks,

@@ -80,6 +80,7 @@ items-hold x catalog calls acts v h =
       last = h .last;
       stepsNoted = h .stepsNoted;
       actsNoted = h .actsNoted;
+      rule = h .rule;
     }
 
 -- no more items are read than a catalog may have

@@ -7,10 +7,11 @@ use native.Mathlib.Omega.{arith}
 use lib.ListN.{length, getD, take, drop, set, length-drop}
 use lib.Seq.{length-take-le, take-append-add, set-split}
 use Rattle.landlord.specs.declared.Step.{Step}
-use Rattle.landlord.specs.Types.{stepKind, stepItem, stepMinutes}
+use Rattle.landlord.specs.Types.{stepKind, stepItem, stepMinutes, deductionNumber, deductionOf}
 use Rattle.landlord.specs.Fold.{tabFrom}
 use Rattle.landlord.specs.Calls.{Call, close, callOf}
 use Rattle.landlord.proofs.Folds.{tab-of}
+use Rattle.landlord.proofs.Slots.{deduction-number}
 use Rattle.landlord.proofs.Ranges.{opening-accepts}
 use Rattle.catalog_bytes.specs.Catalogs.{catalogIn}
 use Rattle.cache.specs.Contract.{lent, openingNumber, Season, SeasonLent, callsOf, RanLent}
@@ -62,11 +63,12 @@ store-closes l n b =
 
 -- whatever accepted text the slices hold, the run of it and of the closing behind it is that of the text's calls
 pub season-closes :
-    (x : Seen) (xs calls state before after : List ℕ) (number : ℕ) (left : List ℕ) →
+    (x : Seen) (xs calls state before after : List ℕ) (rule number : ℕ) (left : List ℕ) →
     Closable x xs calls state →
-    RanLent state (x .k) xs (callsOf (take (4 * x .steps + 4) (set calls (4 * x .steps) 1))) before after number left →
+    rule ≡ deductionNumber (x .rule) →
+    RanLent state (x .k) rule xs (callsOf (take (4 * x .steps + 4) (set calls (4 * x .steps) 1))) before after number left →
     Closes x xs calls left
-season-closes x xs calls state before after number left c ran acts v h ok =
+season-closes x xs calls state before after rule number left c is ran acts v h ok =
     let end : ℕ = 4 * x .steps in
     let room : end + 4 ≤ length calls = omega (arith, c .few, c .places) in
     let more : List ℕ = take 3 (drop (suc end) calls) in
@@ -75,10 +77,12 @@ season-closes x xs calls state before after number left c ran acts v h ok =
     let same : callsOf (take (end + 4) (set calls end 1)) ≡ callsIn v =
     ap callsOf (store-closes calls end room ∙ ap (λ (z : List ℕ). z ++ (1 ∷ more)) (h .stepsNoted)) ∙ numbers-close (v .steps) more three
     in
-    let opens : openingNumber (length state) (x .k) xs ≡ 0 =
-    asks (length state) (x .k) xs (record { state = c .room; whole = omega (arith, c .items); few = omega (arith, c .items, h .few) })
-    ∙ rw (h .k, items) (opening-accepts (v .k) (v .catalog) (ok .capacity) (ok .catalog))
+    let own : rule ≡ deductionNumber (v .rule) = is ∙ ap deductionNumber (h .rule) in
+    let opens : openingNumber (length state) (x .k) rule xs ≡ 0 =
+    asks (length state) (x .k) rule xs (record { state = c .room; whole = omega (arith, c .items); few = omega (arith, c .items, h .few) })
+    ∙ rw (h .k, own, items) (opening-accepts (v .k) (deductionNumber (v .rule)) (v .catalog) (ok .capacity) (ok .catalog) (deduction-number (v .rule) .1))
     in
-    let run : SeasonLent (x .k) (catalogIn xs) (callsOf (take (end + 4) (set calls end 1))) (ran .numbers) left = ran .season (ran .answer ∙ opens) .0 in
-    let so : Season lent (v .k) (v .catalog) (callsIn v) (ran .numbers) left = rw (h .k, items, same) at (run .season) in
+    let run : SeasonLent (x .k) (deductionOf rule) (catalogIn xs) (callsOf (take (end + 4) (set calls end 1))) (ran .numbers) left = ran .season (ran .answer ∙ opens) .0 in
+    let its : deductionOf rule ≡ v .rule = ap deductionOf own ∙ deduction-number (v .rule) .0 in
+    let so : Season lent (v .k) (v .rule) (v .catalog) (callsIn v) (ran .numbers) left = rw (h .k, its, items, same) at (run .season) in
     record { valid = so .valid; stands = text-stands v ok (ran .numbers) left so }

@@ -8,21 +8,24 @@ use native.Mathlib.Omega.{arith}
 use native.Mathlib.Decide.{ℕ-discrete}
 use lib.ListN.{length, getD, take, length-append, length-map}
 use lib.Seq.{length-take-le, getD-take, getD-at}
+use Rattle.landlord.specs.declared.Deduction.{Deduction}
 use Rattle.landlord.specs.declared.Step.{Step}
 use Rattle.landlord.specs.declared.Step.the-variants.{Flush}
 use Rattle.landlord.specs.Fold.{fold}
 use Rattle.landlord.specs.Catalog.{Catalog}
-use Rattle.landlord.specs.Slot.{writeFirst}
+use Rattle.landlord.specs.Types.{deductionNumber}
+use Rattle.landlord.specs.Slot.{splitOf}
 use Rattle.landlord.specs.Figures.{ran, totalCost, leftSide, rightSide}
 use Rattle.landlord.specs.Plan.{costs}
 use Rattle.landlord.specs.Calls.{Call, close, callOf, Log, noLog, refusalAt, refusalIn, refusal, joins, logOf, ruleOver}
 use Rattle.landlord.specs.Claims.{AllowedLog}
 use Rattle.landlord.proofs.Folds.{fold-append}
-use Rattle.landlord.proofs.Slots.{write-first-ok}
+use Rattle.landlord.proofs.Slots.{deduction-ok, deduction-number}
 use Rattle.landlord.proofs.Calls.{allowed-logged}
 use Rattle.landlord.proofs.Logs.{all-served, ran-stands, closes-stands}
 use Rattle.landlord.proofs.Competitive.{competitive-bound}
 use Rattle.landlord.proofs.Ranges.{opening-accepts}
+use Rattle.catalog_bytes.specs.Catalogs.{catalogIn}
 use Rattle.cache_state.specs.Cache.{view}
 use Rattle.layout.specs.Layout.{cacheOf}
 use Rattle.cache.specs.Contract.{lent, Season}
@@ -67,9 +70,9 @@ module _ (v : Sofar) (ok : Sound v) where
       ∙ ap (λ (l : Log). joins (v .k) (v .catalog) l close) (allowed-logged (v .k) (v .catalog) (v .steps) (ok .allowed))
 
   -- where the season theorem says that a state stands after these calls
-  pub text-stands : (numbers d : List ℕ) → Season lent (v .k) (v .catalog) (callsIn v) numbers d → view (cacheOf d) ≡ closedSeason v
+  pub text-stands : (numbers d : List ℕ) → Season lent (v .k) (v .rule) (v .catalog) (callsIn v) numbers d → view (cacheOf d) ≡ closedSeason v
   unfolding ruleOver
-  text-stands numbers d so = so .stands ∙ ap (ruleOver writeFirst (v .k) (v .catalog)) text-log
+  text-stands numbers d so = so .stands ∙ ap (ruleOver (splitOf (v .rule)) (v .k) (v .catalog)) text-log
 
   -- the rule keeps the text's capacity
   pub season-capacity : closedSeason v .k ≡ v .k
@@ -77,14 +80,14 @@ module _ (v : Sofar) (ok : Sound v) where
       let k = v .k in
       let cat = v .catalog in
       let steps = v .steps in
-      closes-stands k cat (length steps) (ran writeFirst k cat steps)
-      (ran-stands writeFirst k cat steps write-first-ok (ok .catalog) (all-served k cat steps (ok .allowed))) .capacity
+      closes-stands k cat (length steps) (ran (splitOf (v .rule)) k cat steps)
+      (ran-stands (splitOf (v .rule)) k cat steps (deduction-ok (v .rule)) (ok .catalog) (all-served k cat steps (ok .allowed))) .capacity
 
   -- "The steps of an accepted text, with its closing, are such a list."
   pub calls-accepted : AllAccepted v
   calls-accepted =
       record {
-        opening = opening-accepts (v .k) (v .catalog) (ok .capacity) (ok .catalog);
+        opening = opening-accepts (v .k) (deductionNumber (v .rule)) (v .catalog) (ok .capacity) (ok .catalog) (deduction-number (v .rule) .1);
         each = λ i l. at i (ℕ-discrete i (length (v .steps))) (omega (arith, length-append (map callOf (v .steps)) (close ∷ []), length-map (v .steps) callOf));
       }
     where
@@ -104,8 +107,11 @@ pub text-compared : (v : Sofar) (cost : ℕ) → Sound v → priceOf v ≡ costs
 text-compared v cost ok e =
     record {
       figures = λ xs numbers d same chain.
-          text-stands v ok numbers d (subst (λ (cat : Catalog). Season lent (v .k) cat (callsIn v) numbers d) same (season-lent (v .k) xs (callsIn v) numbers d chain .season));
+          text-stands v ok numbers d
+          (subst (λ (cat : Catalog). Season lent (v .k) (v .rule) cat (callsIn v) numbers d) same
+          (subst (λ (r : Deduction). Season lent (v .k) r (catalogIn xs) (callsIn v) numbers d) (deduction-number (v .rule) .0)
+          (season-lent (v .k) (deductionNumber (v .rule)) xs (callsIn v) numbers d chain .season)));
       capacity = season-capacity v ok;
       bound = subst (λ (k : ℕ). leftSide k (v .h) (totalCost (closedSeason v .figures)) ≤ rightSide k cost) (sym (season-capacity v ok))
-          (competitive-bound writeFirst write-first-ok (v .k) (v .catalog) (ok .catalog) (v .steps) (ok .allowed) (v .h) (ok .rivalLow) (ok .rivalHigh) (planOf (v .acts)) cost e);
+          (competitive-bound (splitOf (v .rule)) (deduction-ok (v .rule)) (v .k) (v .catalog) (ok .catalog) (v .steps) (ok .allowed) (v .h) (ok .rivalLow) (ok .rivalHigh) (planOf (v .acts)) cost e);
     }

@@ -124,7 +124,7 @@ blank-unnamed table = go (eqb table 0) (eqb table 1) (eqb table 2)
     go :
         (p q r : Bool) →
         formAmong 0
-        (cond p (textOf "locker rival" ∷ [])
+        (cond p (textOf "locker rival" ∷ textOf "locker rival rule" ∷ [])
         (cond q (textOf "sail blocks load write" ∷ [])
         (cond r (textOf "step sail minutes" ∷ [])
         (textOf "at act sail" ∷ []))))
@@ -149,12 +149,12 @@ blank-refused table form (x ∷ l) n z = absurd (omega arith)
 
 -- a step line is one under any heading of the table and on any line
 step-anywhere : (l : List ℕ) (form m n : ℕ) (s : Step) → lineIn 2 form (fieldsOf l) m ≡ StepLine s → lineIn 2 0 (fieldsOf l) n ≡ StepLine s
-unfolding lineIn
+unfolding lineIn valuesIn
 step-anywhere l form m n s e =
     let fs = fieldsOf l in
     let names : namesIn 2 0 ≡ namesIn 2 form = names-2 2 0 refl ∙ sym (names-2 2 form refl) in
     let first : lineIn 2 0 fs m ≡ lineIn 2 form fs m =
-    ap (λ (k : ℕ). cond (eqb (length fs) k && noneEmpty fs) (valuesIn 2 fs m) (Refused (Malformed m))) names in
+    ap (λ (k : ℕ). cond (eqb (length fs) k && noneEmpty fs) (valuesIn 2 form fs m) (Refused (Malformed m))) names in
     let w = step-written l m s (first ∙ e) in
     step-reads l n s (w .1) (w .0)
 
@@ -257,7 +257,7 @@ module _ (x : Logged) (l : List ℕ) (rest : List (List ℕ)) (h : lacks 10 l �
         Says (v .table) (length (fieldsOf l)) n y →
         Leading (Kept x rest) (takes v y n)
     unfolding takes
-    takes-kept n (Sizes k j) e s =
+    takes-kept n (Sizes k j r) e s =
         either (Leading (Kept x rest)) (leb j k) _ _
         (λ _. record { last = q .last; line = q .line; says = other (λ t. omega (arith, s .0)) }) (λ _. tt)
     takes-kept n (ItemLine i c d w) e s =

@@ -4,7 +4,7 @@ use mathlib.Core.{Path._≡_, Bool.cond, List.{List, _++_, [], _∷_, map}}
 use Prim.Native.Nat.{ℕ, _≤_, _<_}
 use lib.{ListN.{length, drop, getD, take}, Dec.leb}
 use Rattle.landlord.specs.declared.Refusal.{Refusal, the-variants.{InputTooLong, ShortBuffer}}
-use Rattle.landlord.specs.{Types.told, Slot.writeFirst, Figures.{Standing, season, totalCost, leftSide, rightSide}, Plan.{faultRefusal, Priced, costs, fault}, Calls.{Call, close, callOf, openingRefusal, refusal}}
+use Rattle.landlord.specs.{Types.{told, deductionNumber}, Slot.splitOf, Figures.{Standing, season, totalCost, leftSide, rightSide}, Plan.{faultRefusal, Priced, costs, fault}, Calls.{Call, close, callOf, openingRefusal, refusal}}
 use Rattle.decimal.specs.Decimal.{fits, wroteOf, pageOf}
 use Rattle.report.specs.{declared.{Rival.the-variants.Against, Written.Written}, Report.{reportOf, refusalText, writtenTold, Put, longest}}
 use Rattle.season_tables.specs.Tables.{Sofar, Led, on, stop, readingOf}
@@ -12,9 +12,9 @@ use Rattle.season_plan.specs.Plans.{faultLine, priceOf}
 use Rattle.catalog_bytes.specs.Catalogs.{catalogIn}
 use Rattle.cache.specs.Contract.{lent, ChainLent}
 
--- where the rule stands over the text's steps; "The program closes the log itself"
+-- where the text's rule stands over its steps; "The program closes the log itself"
 abbrev pub closedSeason : Sofar → Standing
-closedSeason v = season writeFirst (v .k) (v .catalog) (v .steps)
+closedSeason v = season (splitOf (v .rule)) (v .k) (v .catalog) (v .steps)
 
 -- the report of an accepted text whose plan costs so much
 abbrev pub reportAgainst : Sofar → ℕ → List ℕ
@@ -71,7 +71,7 @@ callsIn v = map callOf (v .steps) ++ (close ∷ [])
 
 -- the opening and each of these calls is accepted
 pub record AllAccepted (v : Sofar) : Type 0 where
-  pub opening : openingRefusal (v .k) (v .catalog) ≡ 0
+  pub opening : openingRefusal (v .k) (deductionNumber (v .rule)) (v .catalog) ≡ 0
   pub each : (i : ℕ) → i < length (callsIn v) → refusal (v .k) (v .catalog) (take i (callsIn v)) (getD (callsIn v) i close) ≡ 0
 
 -- The figures reported are those of the state that any chain of these calls ends in, from any bytes of the same catalog, of which the
@@ -80,7 +80,7 @@ pub record Compared (v : Sofar) (cost : ℕ) : Type 0 where
   pub figures :
       (xs numbers d : List ℕ) →
       catalogIn xs ≡ v .catalog →
-      ChainLent (v .k) xs (callsIn v) numbers d →
+      ChainLent (v .k) (deductionNumber (v .rule)) xs (callsIn v) numbers d →
       lent .view d ≡ closedSeason v
   pub capacity : closedSeason v .k ≡ v .k
   pub bound : leftSide (closedSeason v .k) (v .h) (totalCost (closedSeason v .figures)) ≤ rightSide (closedSeason v .k) cost

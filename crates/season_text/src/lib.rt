@@ -21,7 +21,15 @@ fn close_season(seen: Seen, catalog: &[u8], calls: &mut [u32], state: &mut [u8])
     calls[end] = 1;
     // Every call is accepted, so no answer is kept.
     let mut answers = [0u32; 1];
-    cache::run(state, seen.k, catalog, &calls[..end + 4], &mut answers);
+    let rule = seen.rule;
+    cache::run(
+        state,
+        seen.k,
+        rule.number(),
+        catalog,
+        &calls[..end + 4],
+        &mut answers,
+    );
 }
 
 // The report of an accepted text whose plan costs so much.

@@ -2,10 +2,11 @@
 //!   largest SAILS >text
 //! The steps ask for the first SAILS of 256 items, and k is one block less than these have together. Each step asks for the
 //! next of them in turn that the cache does not hold just then. A plan of k blocks knows what is to come and needs few
-//! acts, so that nearly every byte behind the catalog goes to a step. What came of it is said on standard error.
+//! acts, so that nearly every byte behind the catalog goes to a step. What came of it is said on standard error. The text names no
+//! rule, so that it is replayed write-first, as one was before there was a choice.
 
 use plain_season::cache::Cache;
-use plain_season::{text, Act, Item, Step, MAX_BYTES};
+use plain_season::{text, Act, Deduction, Item, Step, MAX_BYTES};
 
 const ITEMS: usize = 256;
 
@@ -43,7 +44,7 @@ fn catalog(r: &mut Random) -> Vec<Item> {
 /// As many steps as a text can have, each a miss; half of them write. The first `sails` items do not all fit into `k` blocks,
 /// so there is always one that is not held.
 fn misses(r: &mut Random, catalog: &[Item], k: u32, sails: usize) -> Vec<Step> {
-    let mut cache = Cache::open(k, catalog);
+    let mut cache = Cache::open(k, Deduction::WriteFirst, catalog);
     let mut steps = Vec::new();
     let mut item = 0;
     for _ in 0..MAX_BYTES / SHORTEST_STEP {
@@ -138,7 +139,7 @@ fn main() {
     let mut steps = misses(r, &catalog, k, sails);
 
     // The most steps for which there is room, together with the acts that they need.
-    let with_plan = |steps: &[Step]| text(k, k, &catalog, steps, &plan(&catalog, k, steps));
+    let with_plan = |steps: &[Step]| text([k, k], None, &catalog, steps, &plan(&catalog, k, steps));
     let (mut fits, mut too_many) = (0, steps.len());
     while fits + 1 < too_many {
         let middle = (fits + too_many) / 2;
@@ -154,7 +155,7 @@ fn main() {
 
     let text = with_plan(&steps);
     let acts = plan(&catalog, k, &steps).len();
-    let mut cache = Cache::open(k, &catalog);
+    let mut cache = Cache::open(k, Deduction::WriteFirst, &catalog);
     for &step in &steps {
         cache.step(step);
     }

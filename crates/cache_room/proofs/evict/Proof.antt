@@ -7,7 +7,7 @@ use lib.ListN.{getD}
 use Rattle.layout.specs.Layout.{cacheOf}
 use Rattle.layout.proofs.Places.{readable}
 use Rattle.cache_room.proofs.Views.{rankOf}
-use Rattle.cache_room.proofs.Bytes.{chargeable, victim-place, victim-ranked, victim-bound, countable-at, evicted-at}
+use Rattle.cache_room.proofs.Bytes.{chargeable, victim-place, victim-ranked, countable-at, evicted-at}
 use Rattle.cache_room.proofs.evict.Statement.{statement}
 use Rattle.cache_room.proofs.evict.Tie as tie
 
@@ -51,8 +51,7 @@ is-dirty-requires c κs =
 charge-requires : tie.Need-charge-requires
 charge-requires c κs =
     let s = c .before .before .before .before .before .before .before .before .before .before .before .before .before in
-    chargeable (s .pre .valid)
-    (omega (arith, worth (c .before .before .before), victim-bound (s .args .b .now) (s .args .n) (s .pre) (c .before .before .before .before .before .before .before .before .before .before .victim .ensures)))
+    chargeable (s .args .b .now) (s .args .n) (s .pre) (c .before .before .before .before .before .before .before .before .before .before .victim .ensures) (worth (c .before .before .before))
 
 drop-item-requires : tie.Need-drop-item-requires
 drop-item-requires c κs =

@@ -1,4 +1,4 @@
--- `season_lines::field_of` meets its contract: what the text is as a number decides, and where it is none, its one byte.
+-- `season_lines::field_of` meets its contract: what the text is as a number decides, and where it is none, its one byte or its word.
 -- Assumes nothing.
 use mathlib.Core.Path.{sym, _∙_}
 use native.Mathlib.Omega.{arith}
@@ -46,6 +46,9 @@ returns-2 c =
     let told = c .before .before .enum-told2 .given in
     field-empty s (sym (told .1) ∙ c .before .before .before .before .read .ensures) (c .if2 .taken)
 
+rule-or-word-requires : tie.Need-rule-or-word-requires
+rule-or-word-requires c κs = search needs
+
 returns-3 : tie.Need-returns-3
 returns-3 c =
     let s = c .before .before .before .before .before .args .s .now in
@@ -60,9 +63,9 @@ returns-4 c =
 
 returns-5 : tie.Need-returns-5
 returns-5 c =
-    let s = c .before .before .before .before .before .before .args .s .now in
-    let told = c .before .before .enum-told2 .given in
-    field-word s (sym (told .1) ∙ c .before .before .before .before .read .ensures) (c .before .if1 .left) (c .if2 .left)
+    let s = c .before .before .before .before .before .before .before .args .s .now in
+    let told = c .before .before .before .enum-told2 .given in
+    c .rule-or-word .ensures ∙ field-word s (sym (told .1) ∙ c .before .before .before .before .before .read .ensures) (c .before .before .if1 .left) (c .before .if2 .left)
 
 pub field-of-spec : {M : Type 1} → statement M
 field-of-spec =
@@ -77,6 +80,7 @@ field-of-spec =
     mark-of-requires
     returns
     returns-2
+    rule-or-word-requires
     returns-3
     returns-4
     returns-5)

@@ -26,13 +26,17 @@ array-copy-out-b c = search needs
 array-copy-out-c : tie.Need-array-copy-out-c
 array-copy-out-c c = search needs
 
+rule-field-requires : tie.Need-rule-field-requires
+rule-field-requires c κs = search needs
+
 sizes-line-requires : tie.Need-sizes-line-requires
 sizes-line-requires c κs = search needs
 
 returns-2 : tie.Need-returns-2
 returns-2 c =
-    let whole = c .before .before .before .before .before in
-    c .sizes-line .ensures ∙ line-0 _ _ _ _ _ (omega arith) (whole .before .before .pre .some) (full whole) (c .before .if2 .taken)
+    let whole = c .before .before .before .before .before .before in
+    c .sizes-line .ensures
+    ∙ line-0 _ _ _ _ _ (omega arith) (whole .before .before .pre .some) (full whole) (c .before .before .if2 .taken) _ (c .before .rule-field .ensures)
 
 array-copy-out-item-line : tie.Need-array-copy-out-item-line
 array-copy-out-item-line c = search needs
@@ -70,6 +74,7 @@ line-in-spec =
     array-copy-out-a
     array-copy-out-b
     array-copy-out-c
+    rule-field-requires
     sizes-line-requires
     returns-2
     array-copy-out-item-line

@@ -28,7 +28,7 @@ returns-2 : tie.Need-returns-2
 returns-2 c = rw (c .before .before .step2 .given .1) (c .item-refused2 .ensures)
 
 returns-3 : tie.Need-returns-3
-returns-3 c = search needs
+returns-3 c = rw (c .enum-told .given .1)
 
 pub step-refused-spec : {M : Type 1} → statement M
 step-refused-spec =

@@ -18,6 +18,9 @@ mul-calls c = search needs
 slice-write-calls : tie.Need-slice-write-calls
 slice-write-calls c = search needs
 
+number-requires : tie.Need-number-requires
+number-requires c κs = search needs
+
 add-run : tie.Need-add-run
 add-run c = search needs
 
@@ -26,7 +29,7 @@ slice-reshare-prefix-run c = simp length-set (omega arith)
 
 slice-aggregate-run : tie.Need-slice-aggregate-run
 slice-aggregate-run c =
-    let a = c .before .before .before .before .before .args in
+    let a = c .before .before .before .before .before .before .args in
     let end = 4 * a .seen .steps in
     sym (length-take-le (end + 4) (set (a .calls .now) end _) (simp length-set (omega arith)))
 
@@ -44,9 +47,9 @@ same-length-2 c = search needs
 
 returns : tie.Need-returns
 returns c =
-    let s = c .before .before .before .before .before .before .before .before .before .before in
+    let s = c .before .before .before .before .before .before .before .before .before .before .before in
     let run = c .before .before .before .run in
-    season-closes (s .args .seen) (s .args .catalog .now) (s .args .calls .now) (s .args .state .now) _ _ (run .result) _ (s .pre) (run .ensures)
+    season-closes (s .args .seen) (s .args .catalog .now) (s .args .calls .now) (s .args .state .now) _ _ _ (run .result) _ (s .pre) (c .before .before .before .before .before .before .number .ensures) (run .ensures)
 
 pub close-season-spec : {M : Type 1} → statement M
 close-season-spec =
@@ -55,6 +58,7 @@ close-season-spec =
     mul-end
     mul-calls
     slice-write-calls
+    number-requires
     add-run
     slice-reshare-prefix-run
     slice-aggregate-run

@@ -1,4 +1,4 @@
--- `cache_value::bytes::put_catalog` meets its contract: the four stores, each at its place. Assumes nothing.
+-- `cache_value::bytes::put_catalog` meets its contract: the five stores, each at its place. Assumes nothing.
 use borrow.Author.Needs.{needs}
 use Rattle.cache_value.proofs.bytes.put_catalog.Statement.{statement}
 use Rattle.cache_value.proofs.bytes.put_catalog.Tie as tie
@@ -15,15 +15,26 @@ put-run1-requires c κs = search needs
 put-flags-requires : tie.Need-put-flags-requires
 put-flags-requires c κs = search needs
 
+number-requires : tie.Need-number-requires
+number-requires c κs = search needs
+
+cast-put : tie.Need-cast-put
+cast-put c = search needs
+
+put-requires : tie.Need-put-requires
+put-requires c κs = search needs
+
 same-length : tie.Need-same-length
 same-length c = search needs
 
 returns : tie.Need-returns
 returns c = rw (
-  c .before .before .put-flags .ensures,
-  c .before .before .before .before .before .before .put-run1 .ensures,
-  c .before .before .before .before .before .before .before .before .before .before .put-run22 .ensures,
-  c .before .before .before .before .before .before .before .before .before .before .before .before .before .before .put-run2 .ensures,
+  c .before .before .put .ensures,
+  c .before .before .before .number .ensures,
+  c .before .before .before .before .before .before .before .put-flags .ensures,
+  c .before .before .before .before .before .before .before .before .before .before .before .put-run1 .ensures,
+  c .before .before .before .before .before .before .before .before .before .before .before .before .before .before .before .put-run22 .ensures,
+  c .before .before .before .before .before .before .before .before .before .before .before .before .before .before .before .before .before .before .before .put-run2 .ensures,
 )
 
 pub put-catalog-spec : {M : Type 1} → statement M
@@ -34,5 +45,8 @@ put-catalog-spec =
     put-run2-requires-2
     put-run1-requires
     put-flags-requires
+    number-requires
+    cast-put
+    put-requires
     same-length
     returns)
