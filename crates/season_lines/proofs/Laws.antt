@@ -1,6 +1,6 @@
 -- The laws that the proofs of the functions cite: what each test that comes out so says of a field or of a line. Those that a
 -- scan over lines and fields cites are in proofs/Pieces.antt. Assumes nothing.
-use mathlib.Core.Path.{_≡_, refl, sym, ap, _∙_}
+use mathlib.Core.Path.{_≡_, refl, sym, _∙_}
 use mathlib.Core.Bool.{Bool, true, false, cond, not, _&&_, and-false, false≢true}
 use mathlib.Core.List.{List, [], _∷_}
 use mathlib.Core.Logic.{_⊎_, ⊎-elim}
@@ -447,12 +447,6 @@ slot-is [] count j h k = absurd (omega arith)
 slot-is (f ∷ fs) zero j h k = absurd (omega arith)
 slot-is (f ∷ fs) (suc count) zero h k = refl
 slot-is (f ∷ fs) (suc count) (suc j) h k = slot-is fs count j (omega arith) (omega arith)
-
--- past the last field of a line there is nothing
-past : (fs : List Field) (j : ℕ) → length fs ≤ j → fieldAt fs j ≡ Empty
-past [] j h = refl
-past (f ∷ fs) zero h = absurd (omega arith)
-past (f ∷ fs) (suc j) h = past fs j (omega arith)
 
 module _ (table form : ℕ) (fields : List Field) (count n : ℕ) (few : count ≤ length fields) where
   -- more of them than names, or fewer
