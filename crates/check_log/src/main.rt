@@ -21,8 +21,8 @@ fn output(text: &[u8], page: &mut [u8]) -> usize
     ensures { λ n. ⌜ n ≤ length (now (page .exit)) ⌝ }
 {
     // Room for the steps of any log.
-    let mut list = [0u8; season_log::ROOM];
-    match season_log::read_log(text, &mut list) {
+    let mut list = [0u8; log_reader::ROOM];
+    match log_reader::read_log(text, &mut list) {
         LogAnswer::Refused(r) => put_refusal(r, page),
         LogAnswer::Count(steps) => {
             let bytes = 12 * steps;

@@ -2,6 +2,4 @@
 pub mod Lines
 pub mod OneText
 pub mod Writing
-pub mod Finding
-pub mod Reading
 pub mod Answers

@@ -8,7 +8,7 @@ use native.Mathlib.Omega.{arith}
 use borrow.Author.Tests.{le-leb, leb-true, eqb-true}
 use lib.Dec.{leb, eqb}
 use lib.ListN.{length, take, drop, length-append}
-use lib.Seq.{drop-at}
+use lib.Seq.{drop-at, append-snoc}
 use Rattle.decimal.specs.Decimal.{sameText}
 use Rattle.decimal.proofs.Texts.{same-true}
 use Rattle.fields.specs.LittleEndian.{un, le}
@@ -29,6 +29,21 @@ use Rattle.season_lines.proofs.Laws.{and-parts, both-yes}
 use Rattle.season_lines.proofs.Pieces.{split-some, step-range}
 use Rattle.season_log.specs.Log.{Logged, steps, fault, ahead, stepText, stepLines, logText, listNumber, toldLine, listedFrom, listed, listOf, follows, readLines, headed, readTable, readLog, stepsInRange, OneText}
 use Rattle.season_log.proofs.Lines.{lacks, joined, split-first, join-split, ranged, lineOf, step-line, line-lacks, step-written, step-reads}
+
+-- ## Steps one behind the other
+
+-- steps in front of what follows them
+abbrev pub onward : List Step → Logged → Logged
+onward ss (steps rest) = steps (ss ++ rest)
+onward ss (fault r) = fault r
+
+pub onward-none : (rest : Logged) → onward [] rest ≡ rest
+onward-none (steps ss) = refl
+onward-none (fault r) = refl
+
+pub onward-more : (ss : List Step) (s : Step) (rest : Logged) → onward (ss ++ (s ∷ [])) rest ≡ onward ss (ahead s rest)
+onward-more ss s (steps rest) = ap steps (append-snoc ss s rest)
+onward-more ss s (fault r) = refl
 
 -- ## What is written is read
 

@@ -26,8 +26,7 @@ use Rattle.season_tables.specs.Inner.{isBlank}
 use Rattle.season_tables.proofs.Sound.{Leading, goes-on}
 use Rattle.season_log.specs.Log.{Logged, steps, fault, ahead, logText, follows, readLines, headed, readTable, readLog, stepsInRange}
 use Rattle.season_log.proofs.Lines.{lacks, split-first, step-written, step-reads}
-use Rattle.season_log.proofs.OneText.{lines-first, table-first, one-text}
-use Rattle.season_log.proofs.Reading.{onward, onward-none, onward-more}
+use Rattle.season_log.proofs.OneText.{onward, onward-none, onward-more, lines-first, table-first, one-text}
 use Rattle.season_text.specs.ThirdTable.{tableText, behindBlank, thirdTable, TwoReaders}
 
 -- ## The lines of a table and its text

@@ -1,0 +1,3 @@
+-- The laws of the reader, and the proofs of the functions. Assumes nothing.
+pub mod Finding
+pub mod Reading
