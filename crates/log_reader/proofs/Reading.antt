@@ -22,16 +22,17 @@ use Rattle.landlord.specs.declared.Refusal.the-variants.{Malformed, Heading, Sh
 use Rattle.landlord.specs.declared.Step.{Step}
 use Rattle.landlord.specs.declared.Step.the-variants.{Read, Write, Flush}
 use Rattle.landlord.specs.Types.{stepKind, stepItem, stepMinutes}
-use Rattle.season_lines.specs.declared.Field.{Field}
-use Rattle.season_lines.specs.declared.Field.the-variants.{Number, Letter, Dash, Word, Empty, Rule}
+use Rattle.line_fields.specs.declared.Field.{Field}
+use Rattle.line_fields.specs.declared.Field.the-variants.{Number, Letter, Dash, Word, Empty, Rule}
 use Rattle.season_lines.specs.declared.Names.{Names}
 use Rattle.season_lines.specs.declared.Names.the-variants.{Form, Unknown}
 use Rattle.season_lines.specs.declared.Line.{Line}
 use Rattle.season_lines.specs.declared.Line.the-variants.{Sizes, Item as ItemLine, Step as StepLine, Act as ActLine, Refused}
-use Rattle.season_lines.specs.Lines.{split, fieldOf, allFields, fieldsOf, isNumber, isDash, isEmpty, noneEmpty, headings, namesIn, formOf, isEither, stepShape, stepLine, valuesIn, lineIn}
-use Rattle.season_lines.specs.Inner.{before, heldField}
+use Rattle.line_fields.specs.Fields.{split, fieldOf, allFields, fieldsOf, isNumber, isDash, isEmpty, noneEmpty, isEither}
+use Rattle.season_lines.specs.Lines.{headings, namesIn, formOf, stepShape, stepLine, valuesIn, lineIn}
+use Rattle.line_fields.specs.Inner.{before, heldField}
 use Rattle.season_lines.proofs.Laws.{names-2}
-use Rattle.season_lines.proofs.Pieces.{before-le, before-take, split-last, split-more, split-some, fields-counts}
+use Rattle.line_fields.proofs.Pieces.{before-le, before-take, split-last, split-more, split-some, fields-counts}
 use Rattle.season_lines.proofs.Held.{held-line}
 use Rattle.season_log.specs.declared.LogAnswer.{LogAnswer}
 use Rattle.season_log.specs.declared.LogAnswer.the-variants.{Count, Refused as Not}

@@ -6,7 +6,8 @@ use Rattle.decimal.specs.{Decimal.{allDigits, valueOf, digitsOf}, InnerPages.te
 use Rattle.landlord.specs.declared.{Step.Step, Refusal.{Refusal, the-variants.Malformed}}
 use Rattle.landlord.specs.{Types.{stepKind, stepItem, stepMinutes}, Calls.inRange}
 use Rattle.season_lines.specs.declared.Line.{Line, the-variants.{Sizes, Item as ItemLine, Step as StepLine, Act as ActLine, Refused}}
-use Rattle.season_lines.specs.{Lines.{fieldsOf, lineIn}, Inner.before}
+use Rattle.season_lines.specs.Lines.{lineIn}
+use Rattle.line_fields.specs.{Fields.fieldsOf, Inner.before}
 use Rattle.season_log.specs.declared.LogAnswer.{LogAnswer, the-variants.{Count, Refused as Not}}
 use Rattle.season_log.specs.Log.{Logged, steps, fault, stepText, listOf, follows}
 use Rattle.log_reader.specs.declared.{Found.Found, Next.{Next, the-variants.{Step as NextStep, Refused as NextRefused}}}

@@ -8,7 +8,8 @@ ghost use lib.ListN.{length, take, getD};
 ghost use lib.Dec.{ltb, eqb};
 ghost use lib.Seq.{sets};
 ghost use Rattle.decimal.specs.Decimal.{textOf};
-ghost use Rattle.season_lines.specs.Lines.{split, fieldsOf, lineIn};
+ghost use Rattle.line_fields.specs.Fields.{split, fieldsOf};
+ghost use Rattle.season_lines.specs.Lines.{lineIn};
 ghost use Rattle.season_log.specs.Log.{listOf, readLines, readTable, readLog, readAnswer, readList};
 ghost use Rattle.log_reader.specs.Inner.{DigitsAt, NumberAt, FoundIn, lineRefusal, firstLine, FirstIs, ReadInto};
 use landlord::Refusal;
@@ -170,23 +171,23 @@ fn judge(l: &[u8], line: u32) -> Line
     ensures { λ r. ⌜ r ≡ lineIn 2 0 (fieldsOf (now (l .entry))) line ⌝ }
 {
     let n = l.len();
-    let a = season_lines::find(l, b' ');
+    let a = line_fields::find(l, b' ');
     if n <= a {
         return Line::Refused(Refusal::Malformed { line: line });
     }
     let p = a + 1;
-    let b = p + season_lines::find(&l[p..], b' ');
+    let b = p + line_fields::find(&l[p..], b' ');
     if n <= b {
         return Line::Refused(Refusal::Malformed { line: line });
     }
     let q = b + 1;
-    let c = q + season_lines::find(&l[q..], b' ');
+    let c = q + line_fields::find(&l[q..], b' ');
     if c < n {
         return Line::Refused(Refusal::Malformed { line: line });
     }
-    let kind = season_lines::field_of(&l[..a]);
-    let item = season_lines::field_of(&l[p..b]);
-    let minutes = season_lines::field_of(&l[q..]);
+    let kind = line_fields::field_of(&l[..a]);
+    let item = line_fields::field_of(&l[p..b]);
+    let minutes = line_fields::field_of(&l[q..]);
     season_lines::step_line(kind, item, minutes, line)
 }
 
@@ -216,7 +217,7 @@ fn refusal_in(line: Line) -> Refusal
 fn judged_line(text: &[u8], line: u32) -> Next
     ensures { λ r. ⌜ FirstIs (firstLine line (now (text .entry))) (now (text .entry)) r ⌝ }
 {
-    let end = season_lines::find(text, b'\n');
+    let end = line_fields::find(text, b'\n');
     if text.len() <= end {
         return Next::Refused(Refusal::Malformed { line: line });
     }
@@ -287,7 +288,7 @@ fn read_table(text: &[u8], list: &mut [u8]) -> LogAnswer
     if text.len() == 0 {
         return LogAnswer::Refused(Refusal::Heading { line: 1 });
     }
-    let end = season_lines::find(text, b'\n');
+    let end = line_fields::find(text, b'\n');
     if text.len() <= end {
         return LogAnswer::Refused(Refusal::Malformed { line: 1 });
     }

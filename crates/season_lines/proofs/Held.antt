@@ -1,129 +1,29 @@
 -- A field as the program holds it makes the line that the field itself makes: each range ends far below `beyond`, so every test gives
 -- the same, and a line in range has the same numbers. Assumes nothing.
-use mathlib.Core.Path.{_≡_, refl, sym, ap, _∙_}
+use mathlib.Core.Path.{_≡_, refl, ap}
 use mathlib.Core.Bool.{Bool, true, false, cond, false≢true}
-use mathlib.Core.List.{List, [], _∷_, map}
-use mathlib.Core.Logic.{_⊎_, inl, inr}
-use Prim.Native.Nat.{ℕ, _≤_, _<_}
+use mathlib.Core.List.{List, map}
+use Prim.Native.Nat.{ℕ}
 use native.Mathlib.Omega.{arith}
-use borrow.Author.Tests.{le-leb, lt-leb, leb-true, leb-false, ne-eqb}
+use borrow.Author.Tests.{leb-true}
 use lib.Dec.{leb, eqb}
-use lib.ListN.{length-map, List·getD-map}
+use lib.ListN.{length-map}
 use Rattle.landlord.specs.declared.Step.the-variants.{Read, Write, Flush}
 use Rattle.landlord.specs.declared.Deduction.the-variants.{WriteFirst}
 use Rattle.landlord.specs.declared.Refusal.the-variants.{UnknownRule}
 use Rattle.landlord.specs.Calls.{inRange, stepOf}
 use Rattle.landlord.specs.Catalog.{itemInRange}
-use Rattle.season_lines.specs.declared.Field.{Field}
-use Rattle.season_lines.specs.declared.Field.the-variants.{Number, Letter, Dash, Word, Empty, Rule}
+use Rattle.line_fields.specs.declared.Field.{Field}
+use Rattle.line_fields.specs.declared.Field.the-variants.{Rule}
+use Rattle.line_fields.specs.Fields.{fieldAt, isRule, valueIn, ruleIn}
+use Rattle.line_fields.specs.Inner.{heldField}
+use Rattle.line_fields.proofs.Laws.{and-parts}
+use Rattle.line_fields.proofs.Held.{held-number, held-dash, held-letter, held-rule, held-rule-in, held-most, held-least, held-is, held-same, at-held, none-held}
 use Rattle.season_lines.specs.declared.Line.{Line}
 use Rattle.season_lines.specs.declared.Line.the-variants.{Sizes, Item as ItemLine, Step, Act as Placed, Refused}
-use Rattle.season_lines.specs.Lines.{fieldAt, isNumber, isDash, isLetter, isRule, isEmpty, valueIn, ruleIn, noneEmpty, shapeThenRange, sizesLine, ruleField, itemFrom, itemLine, stepShape, stepLine, actOf, actLine, valuesIn, lineIn}
-use Rattle.season_lines.specs.Inner.{beyond, heldField}
-use Rattle.season_lines.proofs.Laws.{and-parts, item-bounds, sizesShape, itemShape, stepsShape, actsShape, sizesRange, itemsRange, actsRange}
+use Rattle.season_lines.specs.Lines.{shapeThenRange, sizesLine, ruleField, itemFrom, itemLine, stepShape, stepLine, actOf, actLine, valuesIn, lineIn}
+use Rattle.season_lines.proofs.Laws.{item-bounds, sizesShape, itemShape, stepsShape, actsShape, sizesRange, itemsRange, actsRange}
 use Rattle.season_lines.proofs.Pieces.{sizes-bounds, acts-bounds}
-
--- ## A field
-
-held-number : (f : Field) → isNumber (heldField f) ≡ isNumber f
-held-number (Number v) = refl
-held-number (Letter b) = refl
-held-number Dash = refl
-held-number Word = refl
-held-number Empty = refl
-held-number (Rule r) = refl
-
-held-dash : (f : Field) → isDash (heldField f) ≡ isDash f
-held-dash (Number v) = refl
-held-dash (Letter b) = refl
-held-dash Dash = refl
-held-dash Word = refl
-held-dash Empty = refl
-held-dash (Rule r) = refl
-
-held-letter : (f : Field) → isLetter (heldField f) ≡ isLetter f
-held-letter (Number v) = refl
-held-letter (Letter b) = refl
-held-letter Dash = refl
-held-letter Word = refl
-held-letter Empty = refl
-held-letter (Rule r) = refl
-
-held-rule : (f : Field) → isRule (heldField f) ≡ isRule f
-held-rule (Number v) = refl
-held-rule (Letter b) = refl
-held-rule Dash = refl
-held-rule Word = refl
-held-rule Empty = refl
-held-rule (Rule r) = refl
-
-held-rule-in : (f : Field) → ruleIn (heldField f) ≡ ruleIn f
-held-rule-in (Number v) = refl
-held-rule-in (Letter b) = refl
-held-rule-in Dash = refl
-held-rule-in Word = refl
-held-rule-in Empty = refl
-held-rule-in (Rule r) = refl
-
-held-empty : (f : Field) → isEmpty (heldField f) ≡ isEmpty f
-held-empty (Number v) = refl
-held-empty (Letter b) = refl
-held-empty Dash = refl
-held-empty Word = refl
-held-empty Empty = refl
-held-empty (Rule r) = refl
-
--- a number and what is held of it: the same, or both are beyond every range
-abbrev HeldAs : ℕ → ℕ → Type 0
-HeldAs x v = (x ≡ v) ⊎ ((x ≡ beyond) × (beyond < v))
-
-held-value : (f : Field) → HeldAs (valueIn (heldField f)) (valueIn f)
-held-value (Number v) = go (leb v beyond) refl
-  where
-    go : (t : Bool) → leb v beyond ≡ t → HeldAs (cond t v beyond) v
-    go true e = inl refl
-    go false e = inr (refl, leb-false v beyond e)
-held-value (Letter b) = inl refl
-held-value Dash = inl refl
-held-value Word = inl refl
-held-value Empty = inl refl
-held-value (Rule r) = inl refl
-
--- so each test against a number below `beyond` gives the same
-module _ (f : Field) (m : ℕ) (low : m < beyond) where
-  abbrev held : ℕ
-  held = valueIn (heldField f)
-
-  abbrev value : ℕ
-  value = valueIn f
-
-  held-most : leb held m ≡ leb value m
-  held-most = go (held-value f)
-    where
-      go : HeldAs held value → leb held m ≡ leb value m
-      go (inl e) = ap (λ (x : ℕ). leb x m) e
-      go (inr w) = lt-leb held m (omega (arith, w .0)) ∙ sym (lt-leb value m (omega (arith, w .1)))
-
-  held-least : leb m held ≡ leb m value
-  held-least = go (held-value f)
-    where
-      go : HeldAs held value → leb m held ≡ leb m value
-      go (inl e) = ap (λ (x : ℕ). leb m x) e
-      go (inr w) = le-leb m held (omega (arith, w .0)) ∙ sym (le-leb m value (omega (arith, w .1)))
-
-  held-is : eqb held m ≡ eqb value m
-  held-is = go (held-value f)
-    where
-      go : HeldAs held value → eqb held m ≡ eqb value m
-      go (inl e) = ap (λ (x : ℕ). eqb x m) e
-      go (inr w) = ne-eqb held m (λ e. omega (arith, w .0)) ∙ sym (ne-eqb value m (λ e. omega (arith, w .1)))
-
-  held-same : value ≤ m → held ≡ value
-  held-same h = go (held-value f)
-    where
-      go : HeldAs held value → held ≡ value
-      go (inl e) = e
-      go (inr w) = absurd (omega (arith, w .1))
 
 -- ## The line of each table
 
@@ -328,15 +228,6 @@ held-act place kind item n = same-judged _ _ _ _ _ _ n shape range says
         )
 
 -- ## A line
-
--- field j of the fields as they are held
-at-held : (fs : List Field) (j : ℕ) → fieldAt (map heldField fs) j ≡ heldField (fieldAt fs j)
-at-held fs j = List·getD-map heldField fs j Empty
-
-none-held : (fs : List Field) → noneEmpty (map heldField fs) ≡ noneEmpty fs
-unfolding noneEmpty
-none-held [] = refl
-none-held (f ∷ fs) = rw (held-empty f, none-held fs)
 
 rule-held : (form : ℕ) (f : Field) → ruleField form (heldField f) ≡ heldField (ruleField form f)
 rule-held form f = go (eqb form 1)

@@ -1,4 +1,4 @@
--- The laws of fields, headings and lines, and the proofs of the functions. Assumes nothing.
+-- The laws of headings and lines, and the proofs of the functions. Assumes nothing.
 pub mod Laws
 pub mod Pieces
 pub mod Held

@@ -1,29 +1,20 @@
-// A line of the text input: which heading of its table it is, its fields, and what a value line says under a heading. Nothing here
+// A line of the text input: which heading of its table it is, and what a value line says under a heading, by its fields. Nothing here
 // knows a catalogue or a place among the tables.
 ghost use mathlib.Core.Path.{_≡_};
 ghost use mathlib.Core.Bool.{cond, _&&_};
 ghost use Prim.Native.Nat.{_≤_};
-ghost use lib.ListN.{length, take};
+ghost use lib.ListN.{take};
 ghost use Rattle.landlord.specs.Catalog.{itemInRange, capacityInRange};
 ghost use Rattle.landlord.specs.Calls.{stepOf};
+ghost use Rattle.line_fields.specs.Fields.{isNumber, isEither};
 ghost use Rattle.season_lines.specs.declared.Names.the-variants.{Form, Unknown};
-ghost use Rattle.season_lines.specs.Lines.{fieldOf, markOf, ruleOrWord, isNumber, isDash, isLetter, isRule, isEmpty, valueIn, ruleIn, ruleField, namesIn, formOf, itemFrom, isEither, stepShape, isActKind, actOf, sizesLine, itemLine, stepLine, actLine, lineIn};
-ghost use Rattle.season_lines.specs.Inner.{before, heldField, Judgeable};
+ghost use Rattle.season_lines.specs.Lines.{ruleField, namesIn, formOf, itemFrom, stepShape, isActKind, actOf, sizesLine, itemLine, stepLine, actLine, lineIn};
+ghost use Rattle.season_lines.specs.Inner.{Judgeable};
 use landlord::Act;
 use landlord::Deduction;
 use landlord::Refusal;
 use landlord::Step;
-
-// What a field is, as the program holds it: a number above 4,294,967,295 counts as that one, which is outside every range too. A word
-// is a field of one byte or more that is nothing else, not the word of a rule either.
-pub enum Field {
-    Number(u32),
-    Letter(u8),
-    Dash,
-    Word,
-    Empty,
-    Rule(Deduction),
-}
+use line_fields::Field;
 
 // Which heading of its table a line is, the table's headings counted from 0.
 pub enum Names {
@@ -52,160 +43,6 @@ pub enum Line {
     Refused(Refusal),
 }
 
-// How many bytes stand before the first `b`; all of them if there is none.
-pub fn find(s: &[u8], b: u8) -> usize
-    ensures { λ r. ⌜ r ≡ length (before b (now (s .entry))) ⌝ }
-{
-    let mut i = 0;
-    while i < s.len() {
-        if s[i] == b {
-            return i;
-        }
-        i += 1;
-    }
-    i
-}
-
-// What a field of one byte is that is no number.
-fn mark_of(b: u8) -> Field
-    ensures { λ r. ⌜ r ≡ markOf b ⌝ }
-{
-    if b == b'-' {
-        return Field::Dash;
-    }
-    if 65 <= b {
-        if b <= 90 {
-            return Field::Letter(b);
-        }
-    }
-    Field::Word
-}
-
-// The rule of deduction whose word a field of some bytes is, or a word that is none.
-fn rule_or_word(s: &[u8]) -> Field
-    ensures { λ r. ⌜ r ≡ ruleOrWord (now (s .entry)) ⌝ }
-{
-    if decimal::same(s, b"write-first") {
-        return Field::Rule(Deduction::WriteFirst);
-    }
-    if decimal::same(s, b"load-first") {
-        return Field::Rule(Deduction::LoadFirst);
-    }
-    Field::Word
-}
-
-pub fn field_of(s: &[u8]) -> Field
-    ensures { λ r. ⌜ r ≡ heldField (fieldOf (now (s .entry))) ⌝ }
-{
-    match decimal::read(s, 4294967295) {
-        decimal::Number::Value(v) => Field::Number(v as u32),
-        decimal::Number::OutOfRange => Field::Number(4294967295),
-        decimal::Number::Malformed => {
-            if s.len() == 1 {
-                return mark_of(s[0]);
-            }
-            if s.len() == 0 {
-                return Field::Empty;
-            }
-            rule_or_word(s)
-        }
-    }
-}
-
-fn is_number(f: Field) -> bool
-    ensures { λ r. ⌜ r ≡ isNumber f ⌝ }
-{
-    match f {
-        Field::Number(_) => true,
-        Field::Letter(_) => false,
-        Field::Dash => false,
-        Field::Word => false,
-        Field::Empty => false,
-        Field::Rule(_) => false,
-    }
-}
-
-fn is_letter(f: Field) -> bool
-    ensures { λ r. ⌜ r ≡ isLetter f ⌝ }
-{
-    match f {
-        Field::Number(_) => false,
-        Field::Letter(_) => true,
-        Field::Dash => false,
-        Field::Word => false,
-        Field::Empty => false,
-        Field::Rule(_) => false,
-    }
-}
-
-fn is_dash(f: Field) -> bool
-    ensures { λ r. ⌜ r ≡ isDash f ⌝ }
-{
-    match f {
-        Field::Number(_) => false,
-        Field::Letter(_) => false,
-        Field::Dash => true,
-        Field::Word => false,
-        Field::Empty => false,
-        Field::Rule(_) => false,
-    }
-}
-
-// Whether a field has no byte, as between two spaces: no line has such a one.
-pub fn is_empty(f: Field) -> bool
-    ensures { λ r. ⌜ r ≡ isEmpty f ⌝ }
-{
-    match f {
-        Field::Number(_) => false,
-        Field::Letter(_) => false,
-        Field::Dash => false,
-        Field::Word => false,
-        Field::Empty => true,
-        Field::Rule(_) => false,
-    }
-}
-
-fn is_rule(f: Field) -> bool
-    ensures { λ r. ⌜ r ≡ isRule f ⌝ }
-{
-    match f {
-        Field::Number(_) => false,
-        Field::Letter(_) => false,
-        Field::Dash => false,
-        Field::Word => false,
-        Field::Empty => false,
-        Field::Rule(_) => true,
-    }
-}
-
-// The rule whose word a field is; write-first if it is none's.
-fn rule_in(f: Field) -> Deduction
-    ensures { λ r. ⌜ r ≡ ruleIn f ⌝ }
-{
-    match f {
-        Field::Number(_) => Deduction::WriteFirst,
-        Field::Letter(_) => Deduction::WriteFirst,
-        Field::Dash => Deduction::WriteFirst,
-        Field::Word => Deduction::WriteFirst,
-        Field::Empty => Deduction::WriteFirst,
-        Field::Rule(word) => word,
-    }
-}
-
-// The number that a field is, or the code of its letter; 0 if it is neither.
-fn value_in(f: Field) -> u32
-    ensures { λ r. ⌜ r ≡ valueIn f ⌝ }
-{
-    match f {
-        Field::Number(v) => v,
-        Field::Letter(b) => b as u32,
-        Field::Dash => 0,
-        Field::Word => 0,
-        Field::Empty => 0,
-        Field::Rule(_) => 0,
-    }
-}
-
 fn is_size(x: u32) -> bool
     ensures { λ r. ⌜ r ≡ capacityInRange x ⌝ }
 {
@@ -223,13 +60,13 @@ fn are_sizes(k: u32, h: u32) -> bool
 fn sizes_line(k: Field, h: Field, rule: Field, line: u32) -> Line
     ensures { λ r. ⌜ r ≡ sizesLine k h rule line ⌝ }
 {
-    if !is_number(k) || !is_number(h) {
+    if !line_fields::is_number(k) || !line_fields::is_number(h) {
         return Line::Refused(Refusal::Malformed { line: line });
     }
-    let a = value_in(k);
-    let b = value_in(h);
+    let a = line_fields::value_in(k);
+    let b = line_fields::value_in(h);
     let sized = are_sizes(a, b);
-    let known = is_rule(rule);
+    let known = line_fields::is_rule(rule);
     if !sized {
         return Line::Refused(Refusal::OutOfRange { line: line });
     }
@@ -239,7 +76,7 @@ fn sizes_line(k: Field, h: Field, rule: Field, line: u32) -> Line
     Line::Sizes {
         k: a,
         h: b,
-        rule: rule_in(rule),
+        rule: line_fields::rule_in(rule),
     }
 }
 
@@ -254,13 +91,17 @@ fn is_item(blocks: u32, load: u32, write: u32) -> bool
 fn item_line(number: Field, blocks: Field, load: Field, write: Field, line: u32) -> Line
     ensures { λ r. ⌜ r ≡ itemLine number blocks load write line ⌝ }
 {
-    if !is_number(number) || !is_number(blocks) || !is_number(load) || !is_number(write) {
+    if !line_fields::is_number(number)
+        || !line_fields::is_number(blocks)
+        || !line_fields::is_number(load)
+        || !line_fields::is_number(write)
+    {
         return Line::Refused(Refusal::Malformed { line: line });
     }
-    let i = value_in(number);
-    let b = value_in(blocks);
-    let l = value_in(load);
-    let w = value_in(write);
+    let i = line_fields::value_in(number);
+    let b = line_fields::value_in(blocks);
+    let l = line_fields::value_in(load);
+    let w = line_fields::value_in(write);
     if 255 < i || !is_item(b, l, w) {
         return Line::Refused(Refusal::OutOfRange { line: line });
     }
@@ -272,26 +113,20 @@ fn item_line(number: Field, blocks: Field, load: Field, write: Field, line: u32)
     }
 }
 
-fn is_either(f: Field) -> bool
-    ensures { λ r. ⌜ r ≡ isEither f ⌝ }
-{
-    is_number(f) || is_dash(f)
-}
-
 // Whether the fields behind a step's kind are numbers and `-` where they are due.
 fn step_shaped(kind: u32, item: Field, minutes: Field) -> bool
     ensures { λ r. ⌜ r ≡ stepShape kind item minutes ⌝ }
 {
     if kind == 82 {
-        return is_number(item) && is_dash(minutes);
+        return line_fields::is_number(item) && line_fields::is_dash(minutes);
     }
     if kind == 87 {
-        return is_number(item) && is_number(minutes);
+        return line_fields::is_number(item) && line_fields::is_number(minutes);
     }
     if kind == 76 {
-        return is_dash(item) && is_dash(minutes);
+        return line_fields::is_dash(item) && line_fields::is_dash(minutes);
     }
-    is_either(item) && is_either(minutes)
+    line_fields::is_either(item) && line_fields::is_either(minutes)
 }
 
 // The step of a kind that is in range; values that it lacks are not looked at.
@@ -314,12 +149,12 @@ fn step_of(kind: u32, item: u32, minutes: u32) -> Step
 pub fn step_line(kind: Field, item: Field, minutes: Field, line: u32) -> Line
     ensures { λ r. ⌜ r ≡ stepLine kind item minutes line ⌝ }
 {
-    let letter = value_in(kind);
-    if !is_letter(kind) || !step_shaped(letter, item, minutes) {
+    let letter = line_fields::value_in(kind);
+    if !line_fields::is_letter(kind) || !step_shaped(letter, item, minutes) {
         return Line::Refused(Refusal::Malformed { line: line });
     }
-    let i = value_in(item);
-    let m = value_in(minutes);
+    let i = line_fields::value_in(item);
+    let m = line_fields::value_in(minutes);
     if !landlord::in_range(letter, i, m) {
         return Line::Refused(Refusal::OutOfRange { line: line });
     }
@@ -346,21 +181,24 @@ fn act_shaped(kind: u32, item: Field) -> bool
     ensures { λ r. ⌜ r ≡ cond (isActKind kind) (isNumber item) (isEither item) ⌝ }
 {
     if is_act(kind) {
-        return is_number(item);
+        return line_fields::is_number(item);
     }
-    is_either(item)
+    line_fields::is_either(item)
 }
 
 // A line of `at act sail`.
 fn act_line(place: Field, kind: Field, item: Field, line: u32) -> Line
     ensures { λ r. ⌜ r ≡ actLine place kind item line ⌝ }
 {
-    let letter = value_in(kind);
-    if !is_number(place) || !is_letter(kind) || !act_shaped(letter, item) {
+    let letter = line_fields::value_in(kind);
+    if !line_fields::is_number(place)
+        || !line_fields::is_letter(kind)
+        || !act_shaped(letter, item)
+    {
         return Line::Refused(Refusal::Malformed { line: line });
     }
-    let before = value_in(place);
-    let i = value_in(item);
+    let before = line_fields::value_in(place);
+    let i = line_fields::value_in(item);
     if 999999 < before || !is_act(letter) || 255 < i {
         return Line::Refused(Refusal::OutOfRange { line: line });
     }

@@ -18,12 +18,15 @@ use Rattle.landlord.specs.declared.Step.{Step}
 use Rattle.landlord.specs.declared.Step.the-variants.{Read, Write, Flush}
 use Rattle.landlord.specs.Types.{stepKind, stepItem, stepMinutes}
 use Rattle.landlord.specs.Calls.{inRange, stepOf}
-use Rattle.season_lines.specs.declared.Field.{Field}
-use Rattle.season_lines.specs.declared.Field.the-variants.{Number, Letter, Dash, Word, Empty, Rule}
+use Rattle.line_fields.specs.declared.Field.{Field}
+use Rattle.line_fields.specs.declared.Field.the-variants.{Number, Letter, Dash, Word, Empty, Rule}
 use Rattle.season_lines.specs.declared.Line.the-variants.{Step as StepLine, Refused}
-use Rattle.season_lines.specs.Lines.{onto, split, markOf, ruleWord, ruleOrWord, fieldOf, allFields, fieldsOf, fieldAt, isNumber, isLetter, isDash, valueIn, noneEmpty, namesIn, shapeThenRange, isEither, stepShape, stepLine, valuesIn, lineIn}
-use Rattle.season_lines.proofs.Laws.{and-parts, names-2}
-use Rattle.season_lines.proofs.Pieces.{split-some, line-says}
+use Rattle.line_fields.specs.Fields.{onto, split, markOf, ruleWord, ruleOrWord, fieldOf, allFields, fieldsOf, fieldAt, isNumber, isLetter, isDash, valueIn, noneEmpty, isEither}
+use Rattle.season_lines.specs.Lines.{namesIn, shapeThenRange, stepShape, stepLine, valuesIn, lineIn}
+use Rattle.line_fields.proofs.Laws.{and-parts}
+use Rattle.season_lines.proofs.Laws.{names-2}
+use Rattle.line_fields.proofs.Pieces.{split-some}
+use Rattle.season_lines.proofs.Pieces.{line-says}
 use Rattle.season_log.specs.Log.{stepText}
 
 -- ## Texts joined, and a text split

@@ -24,9 +24,12 @@ use Rattle.season_lines.specs.declared.Line.{Line}
 use Rattle.season_lines.specs.declared.Line.the-variants.{Sizes, Item as ItemLine, Step as StepLine, Act as ActLine, Refused}
 use Rattle.season_lines.specs.declared.Names.{Names}
 use Rattle.season_lines.specs.declared.Names.the-variants.{Form, Unknown}
-use Rattle.season_lines.specs.Lines.{split, fieldsOf, headings, headingOf, formAmong, formOf, lineIn}
-use Rattle.season_lines.proofs.Laws.{and-parts, both-yes}
-use Rattle.season_lines.proofs.Pieces.{split-some, step-range}
+use Rattle.line_fields.specs.Fields.{split, fieldsOf}
+use Rattle.season_lines.specs.Lines.{headings, headingOf, formAmong, formOf, lineIn}
+use Rattle.line_fields.proofs.Laws.{and-parts}
+use Rattle.season_lines.proofs.Laws.{both-yes}
+use Rattle.line_fields.proofs.Pieces.{split-some}
+use Rattle.season_lines.proofs.Pieces.{step-range}
 use Rattle.season_log.specs.Log.{Logged, steps, fault, ahead, stepText, stepLines, logText, listNumber, toldLine, listedFrom, listed, listOf, follows, readLines, headed, readTable, readLog, stepsInRange, OneText}
 use Rattle.season_log.proofs.Lines.{lacks, joined, split-first, join-split, ranged, lineOf, step-line, line-lacks, step-written, step-reads}
 

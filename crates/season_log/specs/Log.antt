@@ -7,7 +7,8 @@ use Rattle.fields.specs.LittleEndian.{un, le}
 use Rattle.landlord.specs.declared.{Step.{Step, the-variants.{Read, Write, Flush}}, Refusal.{Refusal, the-variants.{Malformed, Heading, OutOfRange, ShortBuffer, InputTooLong}}}
 use Rattle.landlord.specs.{Types.{stepKind, stepItem, stepMinutes}, Calls.{inRange, stepOf}}
 use Rattle.season_lines.specs.declared.{Names.{Names, the-variants.{Form, Unknown}}, Line.{Line, the-variants.{Sizes, Item as ItemLine, Step as StepLine, Act as ActLine, Refused}}}
-use Rattle.season_lines.specs.Lines.{split, fieldsOf, headingOf, formOf, lineIn}
+use Rattle.line_fields.specs.Fields.{split, fieldsOf}
+use Rattle.season_lines.specs.Lines.{headingOf, formOf, lineIn}
 use Rattle.season_log.specs.declared.LogAnswer.{LogAnswer, the-variants.{Count, Refused as Not}}
 
 -- the steps of a list or of a text, or the refusal of its first fault

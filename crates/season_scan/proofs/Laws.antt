@@ -16,18 +16,20 @@ use Rattle.landlord.specs.declared.Refusal.{Refusal}
 use Rattle.landlord.specs.declared.Refusal.the-variants.{Malformed, Heading, OutOfSequence, PlanTooLarge, UnknownItem, ItemTooLarge, ActOutOfOrder}
 use Rattle.landlord.specs.Types.{stepItem, actItem}
 use Rattle.landlord.specs.Calls.{itemRefusal}
-use Rattle.season_lines.specs.declared.Field.{Field}
+use Rattle.line_fields.specs.declared.Field.{Field}
 use Rattle.season_lines.specs.declared.Names.{Names}
 use Rattle.season_lines.specs.declared.Names.the-variants.{Form, Unknown}
 use Rattle.season_lines.specs.declared.Line.{Line}
 use Rattle.season_lines.specs.declared.Line.the-variants.{Sizes, Item as ItemLine, Step as StepLine, Act as ActLine, Refused}
-use Rattle.season_lines.specs.Lines.{split, fieldOf, fieldsOf, formOf, itemFrom, lineIn}
-use Rattle.season_lines.specs.Inner.{before}
+use Rattle.line_fields.specs.Fields.{split, fieldOf, fieldsOf}
+use Rattle.season_lines.specs.Lines.{formOf, itemFrom, lineIn}
+use Rattle.line_fields.specs.Inner.{before}
 use Rattle.season_tables.specs.Tables.{Sofar, on, stop, mayEnd, mustEnd, nowNamed, namedBy, nextTable, withSizes, withItem, withStep, withAct, inTurn, takes, leads, atEnd, goesOn, readFrom}
 use Rattle.season_tables.specs.Inner.{isBlank, isSized, wantsValues}
 use Rattle.season_scan.specs.Inner.{onward, readUntil}
 use Rattle.season_tables.proofs.Leads.{leads-values}
-use Rattle.season_lines.proofs.Pieces.{before-le, before-take, split-last, split-more, split-some, fields-last, fields-more, Says, line-says}
+use Rattle.line_fields.proofs.Pieces.{before-le, before-take, split-last, split-more, split-some, fields-last, fields-more}
+use Rattle.season_lines.proofs.Pieces.{Says, line-says}
 
 -- ## The first line of what is left
 

@@ -13,18 +13,20 @@ use lib.ListN.{length, take, drop, set, length-append, length-drop, length-set, 
 use lib.Seq.{take-suc-set, length-take-le, getD-at, drop-drop}
 use Rattle.landlord.specs.declared.Refusal.{Refusal}
 use Rattle.landlord.specs.declared.Refusal.the-variants.{Malformed, Heading}
-use Rattle.season_lines.specs.declared.Field.{Field}
-use Rattle.season_lines.specs.declared.Field.the-variants.{Empty}
+use Rattle.line_fields.specs.declared.Field.{Field}
+use Rattle.line_fields.specs.declared.Field.the-variants.{Empty}
 use Rattle.season_lines.specs.declared.Line.the-variants.{Refused as Torn}
-use Rattle.season_lines.specs.Lines.{split, fieldOf, fieldsOf, fieldAt, isEmpty, noneEmpty, namesIn, lineIn}
-use Rattle.season_lines.specs.Inner.{before, heldField}
+use Rattle.line_fields.specs.Fields.{split, fieldOf, fieldsOf, fieldAt, isEmpty, noneEmpty}
+use Rattle.season_lines.specs.Lines.{namesIn, lineIn}
+use Rattle.line_fields.specs.Inner.{before, heldField}
 use Rattle.season_tables.specs.declared.Seen.{Seen}
 use Rattle.season_tables.specs.declared.Scanned.{Scanned}
 use Rattle.season_tables.specs.declared.Verdict.the-variants.{Taken, Refused}
 use Rattle.season_tables.specs.Tables.{Sofar, Led, on, stop, atStart, leads, atEnd, goesOn, readFrom, readingTo}
 use Rattle.season_tables.specs.Inner.{Holds, nothingRead, Leads, LeadsFrom, LeadsBy, Untouched, Keeps, Roomy, Leadable, wantsValues}
 use Rattle.season_scan.specs.Inner.{Few, onward, readUntil, readIn, Leaves}
-use Rattle.season_lines.proofs.Pieces.{before-le, before-take, no-bytes, none-empty-more, many-malformed, empty-malformed}
+use Rattle.line_fields.proofs.Pieces.{before-le, before-take, no-bytes, none-empty-more}
+use Rattle.season_lines.proofs.Pieces.{many-malformed, empty-malformed}
 use Rattle.season_lines.proofs.Held.{held-line}
 use Rattle.season_tables.proofs.Keeps.{not-refused, untouched-later}
 use Rattle.season_tables.proofs.Held.{begins as nothing-held}

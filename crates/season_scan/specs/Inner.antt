@@ -2,7 +2,7 @@
 -- slices, whether it takes the text or refuses it. Assumes nothing.
 use mathlib.Core.List.{List, [], _∷_}
 use Prim.Native.Nat.{ℕ, suc, _≤_}
-use Rattle.season_lines.specs.Lines.{split}
+use Rattle.line_fields.specs.Fields.{split}
 use Rattle.season_tables.specs.{declared.Scanned.Scanned, Tables.{Sofar, Led, on, stop, atStart, leads}, Inner.{Holds, Untouched}}
 
 -- an accepted text has no more

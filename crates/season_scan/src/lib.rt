@@ -3,7 +3,7 @@ ghost use Rattle.season_tables.specs.Tables.{readingTo};
 ghost use Rattle.season_tables.specs.Inner.{Leads, Scannable};
 ghost use Rattle.season_scan.specs.Inner.{Few, Leaves};
 use landlord::Refusal;
-use season_lines::Field;
+use line_fields::Field;
 use season_tables::Scanned;
 use season_tables::Verdict;
 
@@ -22,7 +22,7 @@ pub fn scan(s: &[u8], upto: u32, catalog: &mut [u8], calls: &mut [u32], acts: &m
         if s.len() <= at {
             break season_tables::ended(seen, line);
         }
-        let end = at + season_lines::find(&s[at..], b'\n');
+        let end = at + line_fields::find(&s[at..], b'\n');
         if s.len() <= end {
             break season_tables::stopped(seen, Refusal::Malformed { line: line });
         }
@@ -38,10 +38,10 @@ pub fn scan(s: &[u8], upto: u32, catalog: &mut [u8], calls: &mut [u32], acts: &m
             end - at,
         );
         while more {
-            let j = i + season_lines::find(&s[i..end], b' ');
-            let field = season_lines::field_of(&s[i..j]);
+            let j = i + line_fields::find(&s[i..end], b' ');
+            let field = line_fields::field_of(&s[i..j]);
             // No line has an empty field, and none has more fields than its heading has names.
-            if season_lines::is_empty(field) || names <= count {
+            if line_fields::is_empty(field) || names <= count {
                 break 'lines season_tables::stopped(seen, Refusal::Malformed { line: line });
             }
             fields[count] = field;

@@ -7,11 +7,12 @@ use Prim.Native.Nat.{ℕ}
 use lib.ListN.{length}
 use lib.Dec.{eqb, leb, ltb}
 use Rattle.landlord.specs.declared.Refusal.the-variants.{Malformed}
-use Rattle.season_lines.specs.declared.Field.{Field}
+use Rattle.line_fields.specs.declared.Field.{Field}
 use Rattle.season_lines.specs.declared.Line.{Line}
 use Rattle.season_lines.specs.declared.Line.the-variants.{Sizes, Item as ItemLine, Step as StepLine, Act as ActLine, Refused as RefusedLine}
 use Rattle.season_lines.specs.declared.Names.{Names}
-use Rattle.season_lines.specs.Lines.{fieldsOf, formOf, lineIn}
+use Rattle.line_fields.specs.Fields.{fieldsOf}
+use Rattle.season_lines.specs.Lines.{formOf, lineIn}
 use Rattle.season_lines.proofs.Pieces.{Says, line-says}
 use Rattle.season_lines.proofs.Held.{held-line}
 use Rattle.season_tables.specs.declared.Seen.{Seen}

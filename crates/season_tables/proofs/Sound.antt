@@ -26,8 +26,9 @@ use Rattle.season_lines.specs.declared.Names.{Names}
 use Rattle.season_lines.specs.declared.Names.the-variants.{Form, Unknown}
 use Rattle.season_lines.specs.declared.Line.{Line}
 use Rattle.season_lines.specs.declared.Line.the-variants.{Sizes, Item as ItemLine, Step as StepLine, Act as ActLine, Refused}
-use Rattle.season_lines.specs.Lines.{onto, split, fieldsOf, formOf, itemFrom}
-use Rattle.season_lines.proofs.Laws.{and-parts}
+use Rattle.line_fields.specs.Fields.{onto, split, fieldsOf}
+use Rattle.season_lines.specs.Lines.{formOf, itemFrom}
+use Rattle.line_fields.proofs.Laws.{and-parts}
 use Rattle.season_lines.proofs.Pieces.{Says, line-says}
 use Rattle.season_tables.specs.Tables.{Placed, Sofar, Led, on, stop, atStart, nowNamed, nextTable, withSizes, withItem, withStep, withAct, inTurn, takes, mayEnd, mustEnd, namedBy, leads, atEnd, goesOn, readFrom, readingTo, readingOf}
 use Rattle.season_tables.specs.Inner.{isBlank, lastPlace}

@@ -7,8 +7,8 @@ use Rattle.season_tables.specs.declared.{Seen.Seen, Scanned.Scanned, Ver
 use Rattle.season_tables.specs.Tables.{Placed, Sofar, Led, on, stop, mayEnd, mustEnd}
 use Prim.Native.Nat.{ℕ, _+_, _*_, _≤_}
 use Rattle.catalog_bytes.specs.Inner.{catalogOfFirst}
-use Rattle.season_lines.specs.declared.{Field.Field, Line.{Line, the-variants.{Sizes, Item as ItemLine, Step as StepLine, Act as ActLine, Refused as RefusedLine}}}
-use Rattle.season_lines.specs.{Lines.fieldsOf, Inner.{heldField, Judgeable}}
+use Rattle.line_fields.specs.{declared.Field.Field, Fields.fieldsOf, Inner.heldField}
+use Rattle.season_lines.specs.{declared.Line.{Line, the-variants.{Sizes, Item as ItemLine, Step as StepLine, Act as ActLine, Refused as RefusedLine}}, Inner.Judgeable}
 
 -- a blank line
 abbrev pub isBlank : List ℕ → Bool

@@ -6,7 +6,8 @@ use lib.{ListN.length, Dec.{leb, ltb, eqb}}
 use Rattle.landlord.specs.declared.{Step.Step, Act.Act, Deduction.{Deduction, the-variants.WriteFirst}, Refusal.{Refusal, the-variants.{Malformed, Heading, OutOfSequence, PlanTooLarge, UnknownItem, ItemTooLarge, ActOutOfOrder}}}
 use Rattle.landlord.specs.{Types.{stepItem, actItem}, Fold.fold, Catalog.Catalog, Calls.itemRefusal}
 use Rattle.season_lines.specs.declared.{Names.{Names, the-variants.{Form, Unknown}}, Line.{Line, the-variants.{Sizes, Item as ItemLine, Step as StepLine, Act as ActLine, Refused}}}
-use Rattle.season_lines.specs.Lines.{split, fieldsOf, formOf, itemFrom, lineIn}
+use Rattle.line_fields.specs.Fields.{split, fieldsOf}
+use Rattle.season_lines.specs.Lines.{formOf, itemFrom, lineIn}
 
 -- an act of the text: the 0-based step before which it stands, and what it does
 pub record Placed : Type 0 where

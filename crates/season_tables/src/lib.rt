@@ -17,7 +17,7 @@ use landlord::Act;
 use landlord::Deduction;
 use landlord::Refusal;
 use landlord::Step;
-use season_lines::Field;
+use line_fields::Field;
 use season_lines::Line;
 use season_lines::Names;
 

@@ -18,9 +18,12 @@ use Rattle.season_lines.specs.declared.Names.{Names}
 use Rattle.season_lines.specs.declared.Names.the-variants.{Form, Unknown}
 use Rattle.season_lines.specs.declared.Line.{Line}
 use Rattle.season_lines.specs.declared.Line.the-variants.{Sizes, Item as ItemLine, Step as StepLine, Act as ActLine, Refused}
-use Rattle.season_lines.specs.Lines.{onto, split, allFields, fieldsOf, noneEmpty, headings, namesIn, formAmong, formOf, valuesIn, lineIn}
-use Rattle.season_lines.proofs.Laws.{and-parts, names-2}
-use Rattle.season_lines.proofs.Pieces.{no-bytes, empty-malformed, Says, line-says}
+use Rattle.line_fields.specs.Fields.{onto, split, allFields, fieldsOf, noneEmpty}
+use Rattle.season_lines.specs.Lines.{headings, namesIn, formAmong, formOf, valuesIn, lineIn}
+use Rattle.line_fields.proofs.Laws.{and-parts}
+use Rattle.season_lines.proofs.Laws.{names-2}
+use Rattle.line_fields.proofs.Pieces.{no-bytes}
+use Rattle.season_lines.proofs.Pieces.{empty-malformed, Says, line-says}
 use Rattle.season_tables.specs.Tables.{Sofar, Led, on, atStart, nowNamed, nextTable, withStep, inTurn, takes, mayEnd, mustEnd, namedBy, leads, atEnd, readFrom, readingOf}
 use Rattle.season_tables.specs.Inner.{isBlank}
 use Rattle.season_tables.proofs.Sound.{Leading, goes-on}

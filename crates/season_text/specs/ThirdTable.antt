@@ -3,7 +3,7 @@
 use mathlib.Core.{Path._≡_, Bool.cond, List.{List, [], _∷_, _++_}}
 use Prim.Native.Nat.{ℕ, _≤_}
 use lib.{ListN.length, Dec.eqb}
-use Rattle.season_lines.specs.Lines.{split}
+use Rattle.line_fields.specs.Fields.{split}
 use Rattle.season_tables.specs.Tables.{Sofar, on, readingOf}
 use Rattle.season_log.specs.Log.{steps, readLog}
 

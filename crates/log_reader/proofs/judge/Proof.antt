@@ -3,7 +3,7 @@ use mathlib.Core.Path.{_∙_}
 use native.Mathlib.Omega.{arith}
 use borrow.Author.Needs.{needs}
 use lib.Seq.{length-take-le}
-use Rattle.season_lines.proofs.Pieces.{before-le}
+use Rattle.line_fields.proofs.Pieces.{before-le}
 use Rattle.log_reader.proofs.Reading.{FoundTwo, FoundThree, one-field, second-le, two-fields, third-le, four-fields, three-fields}
 use Rattle.log_reader.proofs.judge.Statement.{statement}
 use Rattle.log_reader.proofs.judge.Tie as tie

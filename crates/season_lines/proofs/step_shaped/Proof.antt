@@ -2,7 +2,7 @@
 -- Assumes nothing.
 use mathlib.Core.Path.{sym, _∙_}
 use borrow.Author.Needs.{needs}
-use Rattle.season_lines.specs.Lines.{isNumber, isDash, isEither}
+use Rattle.line_fields.specs.Fields.{isNumber, isDash, isEither}
 use Rattle.season_lines.proofs.Laws.{and-yes, and-no, shape-read, shape-write, shape-flush, shape-unknown}
 use Rattle.season_lines.proofs.step_shaped.Statement.{statement}
 use Rattle.season_lines.proofs.step_shaped.Tie as tie

@@ -10,9 +10,9 @@ use native.Mathlib.Omega.{arith}
 use borrow.Author.Needs.{needs}
 use borrow.Author.Tests.{leb-true, leb-false}
 use lib.ListN.{length, take, drop, length-drop}
-use Rattle.season_lines.specs.Lines.{fieldOf}
-use Rattle.season_lines.specs.Inner.{before, heldField}
-use Rattle.season_lines.proofs.Pieces.{before-le}
+use Rattle.line_fields.specs.Fields.{fieldOf}
+use Rattle.line_fields.specs.Inner.{before, heldField}
+use Rattle.line_fields.proofs.Pieces.{before-le}
 use Rattle.season_scan.proofs.Laws.{line-end, length-part}
 use Rattle.season_scan.proofs.Turns.{AsLong, Lined, Fielded, begins, ends, no-line-feed, field-none, field-more, field-malformed, malformed-here, can-lead, line-refused, line-taken}
 use Rattle.season_scan.proofs.scan.Statement.{statement}

@@ -1,7 +1,7 @@
--- `season_lines::mark_of` meets its contract: each way through the tests is a law of proofs/Laws.antt. Assumes nothing.
-use Rattle.season_lines.proofs.Laws.{mark-dash, mark-letter, mark-high, mark-low}
-use Rattle.season_lines.proofs.mark_of.Statement.{statement}
-use Rattle.season_lines.proofs.mark_of.Tie as tie
+-- `line_fields::mark_of` meets its contract: each way through the tests is a law of proofs/Laws.antt. Assumes nothing.
+use Rattle.line_fields.proofs.Laws.{mark-dash, mark-letter, mark-high, mark-low}
+use Rattle.line_fields.proofs.mark_of.Statement.{statement}
+use Rattle.line_fields.proofs.mark_of.Tie as tie
 
 returns : tie.Need-returns
 returns c = mark-dash (c .before .args .b) (c .if1 .taken)

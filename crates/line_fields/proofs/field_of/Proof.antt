@@ -1,13 +1,13 @@
--- `season_lines::field_of` meets its contract: what the text is as a number decides, and where it is none, its one byte or its word.
+-- `line_fields::field_of` meets its contract: what the text is as a number decides, and where it is none, its one byte or its word.
 -- Assumes nothing.
 use mathlib.Core.Path.{sym, _∙_}
 use native.Mathlib.Omega.{arith}
 use borrow.Author.Needs.{needs}
 use Rattle.decimal.proofs.Laws.{read-value}
-use Rattle.season_lines.specs.Inner.{beyond}
-use Rattle.season_lines.proofs.Laws.{field-number, field-beyond, field-mark, field-empty, field-word}
-use Rattle.season_lines.proofs.field_of.Statement.{statement}
-use Rattle.season_lines.proofs.field_of.Tie as tie
+use Rattle.line_fields.specs.Inner.{beyond}
+use Rattle.line_fields.proofs.Laws.{field-number, field-beyond, field-mark, field-empty, field-word}
+use Rattle.line_fields.proofs.field_of.Statement.{statement}
+use Rattle.line_fields.proofs.field_of.Tie as tie
 
 read-requires : tie.Need-read-requires
 read-requires c κs = search needs

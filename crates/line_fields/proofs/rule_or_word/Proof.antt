@@ -1,9 +1,9 @@
--- `season_lines::rule_or_word` meets its contract: each test compares with the word of a rule. Assumes nothing.
+-- `line_fields::rule_or_word` meets its contract: each test compares with the word of a rule. Assumes nothing.
 use mathlib.Core.Path.{sym, _∙_}
 use borrow.Author.Needs.{needs}
-use Rattle.season_lines.proofs.Laws.{word-write, word-load, word-other}
-use Rattle.season_lines.proofs.rule_or_word.Statement.{statement}
-use Rattle.season_lines.proofs.rule_or_word.Tie as tie
+use Rattle.line_fields.proofs.Laws.{word-write, word-load, word-other}
+use Rattle.line_fields.proofs.rule_or_word.Statement.{statement}
+use Rattle.line_fields.proofs.rule_or_word.Tie as tie
 
 slice-aggregate-same : tie.Need-slice-aggregate-same
 slice-aggregate-same c = search needs

@@ -1,14 +1,14 @@
--- `season_lines::find` meets its contract. The loop's invariant: the bytes passed and those before the first b of the rest are
+-- `line_fields::find` meets its contract. The loop's invariant: the bytes passed and those before the first b of the rest are
 -- those before the first b of all. Assumes nothing.
 use Prim.Native.Nat.{_+_, _-_, _≤_}
 use mathlib.Core.Path.{_≡_}
 use native.Mathlib.Omega.{arith}
 use borrow.Author.Needs.{needs}
 use lib.ListN.{length, drop}
-use Rattle.season_lines.specs.Inner.{before}
-use Rattle.season_lines.proofs.Laws.{before-end, before-hit, before-miss}
-use Rattle.season_lines.proofs.find.Statement.{statement}
-use Rattle.season_lines.proofs.find.Tie as tie
+use Rattle.line_fields.specs.Inner.{before}
+use Rattle.line_fields.proofs.Laws.{before-end, before-hit, before-miss}
+use Rattle.line_fields.proofs.find.Statement.{statement}
+use Rattle.line_fields.proofs.find.Tie as tie
 
 abbrev Inv-loop : tie.InvT-loop
 Inv-loop s b i₀ i = (i ≤ length s) × (i + length (before b (drop i s)) ≡ length (before b s))

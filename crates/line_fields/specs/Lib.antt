@@ -1,0 +1,3 @@
+-- The definitions that the contracts of `line_fields` cite. Assumes nothing.
+pub mod Fields
+pub mod Inner
