@@ -2,8 +2,5 @@ pub mod Season
 pub mod Table
 pub mod Calls
 pub mod Steps
-pub mod Empty
-pub mod Blocks
-pub mod Openings
 pub mod Runs
 pub mod Tells

@@ -10,7 +10,8 @@ use lib.Seq.{sets, drop-cons, append-snoc}
 use borrow.Author.Tests.{eq-eqb, ne-eqb}
 use Rattle.landlord.specs.Calls.{Call, stepCall, close}
 use Rattle.landlord.proofs.Folds.{tab-length, tab-at}
-use Rattle.cache.specs.Contract.{Kind, lent, Answers, OpenedLent, Follows, none, then, callsOf, RanLent}
+use Rattle.cache_open.specs.Opening.{OpenedLent}
+use Rattle.cache.specs.Contract.{Kind, lent, Answers, Follows, none, then, callsOf, RanLent}
 use Rattle.cache.specs.Inner.{callAt, callFrom, RanCalls}
 use Rattle.cache.proofs.Season.{season-lent}
 use Rattle.cache.proofs.Calls.{answers-called}

@@ -1,13 +1,15 @@
 -- The calls in place: what each promises, the season theorem's hypothesis and conclusions, and a list of calls run by one function.
--- One record, `Called`, is what a call promises of any kind of state; the contracts and the season theorem both cite it. Assumes nothing.
-use mathlib.Core.{Path._≡_, Logic._≢_, Bool.{cond, _&&_}, List.{List, [], _∷_}}
-use Prim.Native.Nat.{ℕ, _%_, _<_, _+_, _*_, _/_}
-use lib.{Dec.{eqb, leb}, ListN.{length, getD, take, drop}, Seq.sets}
+-- One record, `Called`, is what a call promises of any kind of state; the contracts and the season theorem both cite it. What an
+-- opening promises stands in crates/cache_open/specs/Opening.antt. Assumes nothing.
+use mathlib.Core.{Path._≡_, Logic._≢_, Bool.cond, List.{List, [], _∷_}}
+use Prim.Native.Nat.{ℕ, _<_, _+_, _*_, _/_}
+use lib.{Dec.eqb, ListN.{length, getD, take, drop}, Seq.sets}
 use Rattle.landlord.specs.declared.Deduction.{Deduction}
-use Rattle.landlord.specs.{Types.deductionOf, Slot.splitOf, Figures.{Standing, opened, season, totalCost}, Calls.{Call, openingRefusal, refusalNow, after, close, logOf, refusal, ruleOver, stepCall}, Catalog.Catalog, Claims.WithinBound, Fold.tab}
+use Rattle.landlord.specs.{Types.deductionOf, Slot.splitOf, Figures.{Standing, season, totalCost}, Calls.{Call, refusalNow, after, close, logOf, refusal, ruleOver, stepCall}, Catalog.Catalog, Claims.WithinBound, Fold.tab}
 use Rattle.catalog_bytes.specs.Catalogs.{catalogIn}
-use Rattle.cache_state.specs.Cache.{view, EmptyPlace}
-use Rattle.layout.specs.Layout.{stateBytes, cacheOf, ValidBytes, numberAt}
+use Rattle.cache_state.specs.Cache.{view}
+use Rattle.layout.specs.Layout.{cacheOf, ValidBytes, numberAt}
+use Rattle.cache_open.specs.Opening.{openingNumber, OpenedLent}
 
 -- a kind of state: where the rule stands in one, and which are valid
 pub record Kind (C : Type 0) : Type 1 where
@@ -30,20 +32,6 @@ pub record Answers {C : Type 0} (kind : Kind C) (c : C) (call : Call) (number : 
 pub record Called {C : Type 0} (kind : Kind C) (c : C) (call : Call) (number : ℕ) (d : C) : Type 0 where
   pub fine : kind .Valid c → Answers kind c call number d
   pub invalid : (kind .Valid c → ⊥) → (number ≡ 17) × (d ≡ c)
-
--- The opening in lent bytes checks the state's length (17), then k and the catalog (3), whose length is a multiple of 5 and at most
--- 1,280, then the rule's number (18). It looks at how many bytes the state has, and at none of them.
-unfoldable pub openingNumber : ℕ → ℕ → ℕ → List ℕ → ℕ
-openingNumber size k rule xs =
-    cond (eqb size stateBytes) (cond (eqb (length xs % 5) 0 && leb (length xs) 1280) (openingRefusal k rule (catalogIn xs)) 3) 17
-
-pub record OpenedLent (b : List ℕ) (k rule : ℕ) (xs : List ℕ) (number : ℕ) (left : List ℕ) : Type 0 where
-  pub answer : number ≡ openingNumber (length b) k rule xs
-  pub valid : number ≡ 0 → ValidBytes left
-  pub stands : number ≡ 0 → view (cacheOf left) ≡ opened (splitOf (deductionOf rule)) k (catalogIn xs)
-  -- "It has 256 places, one for each sail number, empty at opening"
-  pub empty : number ≡ 0 → (i : ℕ) → i < 256 → EmptyPlace (cacheOf left) i
-  pub refused : number ≢ 0 → left ≡ b
 
 -- ---- the season as one list: each call is handed the state that the last one handed back or left in the lent bytes
 

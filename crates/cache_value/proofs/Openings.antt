@@ -25,9 +25,9 @@ use Rattle.validity.specs.InnerDecided.{Decided}
 use Rattle.cache_state.specs.Cache.{EmptyPlace}
 use Rattle.cache_state.specs.InnerBecomes.{Becomes}
 use Rattle.cache_state.specs.Cache as records
-use Rattle.cache.specs.Inner.{BlocksOk, emptyWith}
-use Rattle.cache.proofs.Blocks.{catalog-few, catalog-blocks, blocks-catalog}
-use Rattle.cache.proofs.Empty.{empty-place, empty-becomes}
+use Rattle.cache_open.specs.Inner.{BlocksOk, emptyWith}
+use Rattle.cache_open.proofs.Blocks.{catalog-few, catalog-blocks, blocks-catalog}
+use Rattle.cache_open.proofs.Empty.{empty-place, empty-becomes}
 use Rattle.cache_value.specs.declared.Cache.{Cache}
 use Rattle.cache_value.specs.Contract.{recordOf, catalogFrom, refusedOpening}
 use Rattle.cache_value.specs.Inner.{FirstOf, Opens, nothingOpened, Opened}

@@ -5,7 +5,8 @@ use lib.{ListN.{getD, replicate}, Dec.eqb}
 use Rattle.landlord.specs.declared.Deduction.the-variants.{WriteFirst}
 use Rattle.landlord.specs.{Types.deductionOf, Slot.splitOf, Catalog.{Catalog, CapacityOk}, Figures.opened, Calls.{Call, openingRefusal}}
 use Rattle.cache_state.specs.Cache.{Cache as Record, EmptyPlace}
-use Rattle.cache.specs.{Contract.Follows, Inner.{BlocksOk, Column, emptyWith}}
+use Rattle.cache_open.specs.Inner.{BlocksOk, Column, emptyWith}
+use Rattle.cache.specs.Contract.{Follows}
 use Rattle.cache_value.specs.{declared.Cache.Cache, Contract.{recordOf, byValue, refusedOpening}}
 
 -- the first n entries of xs, and 0 past them

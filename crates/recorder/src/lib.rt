@@ -1,7 +1,8 @@
 // The functions that the firmware calls from C, on lent bytes. Each answers 0 or the refusal's number, the log's with its line; refused,
 // every lent byte is as before. Nothing is asked of the caller: any bytes, any lengths and any numbers are answered.
 ghost use Rattle.landlord.specs.Calls.{stepCall, close};
-ghost use Rattle.cache.specs.Contract.{lent, Called, OpenedLent};
+ghost use Rattle.cache_open.specs.Opening.{OpenedLent};
+ghost use Rattle.cache.specs.Contract.{lent, Called};
 ghost use Rattle.recorder.specs.Reports.{ReportedLent, SaidLent, LoggedLent};
 use report::Rival;
 use report::Written;
@@ -13,7 +14,7 @@ use season_log::LogAnswer;
 pub extern "C" fn recorder_open(state: &mut [u8], k: u32, rule: u32, catalog: &[u8]) -> u32
     ensures { λ r. ⌜ OpenedLent (now (state .entry)) k rule (now (catalog .entry)) r (now (state .exit)) ⌝ }
 {
-    cache::open(state, k, rule, catalog)
+    cache_open::open(state, k, rule, catalog)
 }
 
 // Takes one step: `kind` is the code of its letter, 82 for R, 87 for W, 76 for L.

@@ -14,9 +14,10 @@ use Rattle.landlord.proofs.Folds.{tab-of}
 use Rattle.landlord.proofs.Slots.{deduction-number}
 use Rattle.landlord.proofs.Ranges.{opening-accepts}
 use Rattle.catalog_bytes.specs.Catalogs.{catalogIn}
-use Rattle.cache.specs.Contract.{lent, openingNumber, Season, SeasonLent, callsOf, RanLent}
+use Rattle.cache_open.specs.Opening.{openingNumber}
+use Rattle.cache_open.proofs.Openings.{asks}
+use Rattle.cache.specs.Contract.{lent, Season, SeasonLent, callsOf, RanLent}
 use Rattle.cache.specs.Inner.{callAt, callFrom}
-use Rattle.cache.proofs.Openings.{asks}
 use Rattle.cache.proofs.Runs.{count-is, call-at}
 use Rattle.season_tables.specs.declared.Seen.{Seen}
 use Rattle.season_tables.specs.Inner.{callNumbers}

@@ -4,8 +4,8 @@ use Prim.Native.Nat.{_≤_, _-_}
 use native.Mathlib.Omega.{arith}
 use lib.ListN.{getD}
 use Rattle.validity.proofs.Decides.{no, sure}
-use Rattle.cache.specs.Inner.{BlocksOk}
-use Rattle.cache.proofs.Blocks.{no-blocks, more-blocks, blocks-low, blocks-high}
+use Rattle.cache_open.specs.Inner.{BlocksOk}
+use Rattle.cache_open.proofs.Blocks.{no-blocks, more-blocks, blocks-low, blocks-high}
 use Rattle.cache_value.proofs.blocks_ok.Statement.{statement}
 use Rattle.cache_value.proofs.blocks_ok.Tie as tie
 

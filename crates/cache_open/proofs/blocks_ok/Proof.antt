@@ -1,14 +1,14 @@
--- `cache::blocks_ok` meets its contract: the items passed are in range. Assumes nothing.
+-- `cache_open::blocks_ok` meets its contract: the items passed are in range. Assumes nothing.
 use mathlib.Core.Path.{_≡_}
 use Prim.Native.Nat.{_≤_, _-_}
 use native.Mathlib.Omega.{arith}
 use Rattle.validity.proofs.Decides.{no, sure}
 use Rattle.catalog_bytes.specs.Catalogs.{itemIn}
-use Rattle.cache.specs.Inner.{BlocksOk}
-use Rattle.cache.proofs.Blocks.{no-blocks, more-blocks, blocks-low, blocks-high}
-use Rattle.cache.proofs.Openings.{has-item}
-use Rattle.cache.proofs.blocks_ok.Statement.{statement}
-use Rattle.cache.proofs.blocks_ok.Tie as tie
+use Rattle.cache_open.specs.Inner.{BlocksOk}
+use Rattle.cache_open.proofs.Blocks.{no-blocks, more-blocks, blocks-low, blocks-high}
+use Rattle.cache_open.proofs.Openings.{has-item}
+use Rattle.cache_open.proofs.blocks_ok.Statement.{statement}
+use Rattle.cache_open.proofs.blocks_ok.Tie as tie
 
 abbrev Inv-loop : tie.InvT-loop
 Inv-loop catalog n i₀ i = (i ≤ n) × BlocksOk i (λ j. itemIn catalog j .blocks)

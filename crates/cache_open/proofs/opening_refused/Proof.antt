@@ -1,10 +1,10 @@
--- `cache::opening_refused` meets its contract: each answer is a law of proofs/Openings.antt. Assumes nothing.
+-- `cache_open::opening_refused` meets its contract: each answer is a law of proofs/Openings.antt. Assumes nothing.
 use mathlib.Core.Path.{refl}
 use native.Mathlib.Omega.{arith}
 use Rattle.validity.proofs.Decides.{denied, granted}
-use Rattle.cache.proofs.Openings.{wrong-size, ragged, too-long, no-capacity, blocks-refused, rule-odd, all-taken}
-use Rattle.cache.proofs.opening_refused.Statement.{statement}
-use Rattle.cache.proofs.opening_refused.Tie as tie
+use Rattle.cache_open.proofs.Openings.{wrong-size, ragged, too-long, no-capacity, blocks-refused, rule-odd, all-taken}
+use Rattle.cache_open.proofs.opening_refused.Statement.{statement}
+use Rattle.cache_open.proofs.opening_refused.Tie as tie
 
 returns : tie.Need-returns
 returns c = wrong-size (c .before .before .args .size) (c .before .before .args .k) (c .before .before .args .rule) (c .before .before .args .catalog .now) (c .if1 .taken)

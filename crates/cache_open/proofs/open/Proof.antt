@@ -1,11 +1,12 @@
--- `cache::open` meets its contract: refused, the bytes stay; else they are cleared, and the rule and the catalog are stored. Assumes nothing.
+-- `cache_open::open` meets its contract: refused, the bytes stay; else they are cleared, and the rule and the catalog are stored.
+-- Assumes nothing.
 use mathlib.Core.Path.{refl}
 use native.Mathlib.Omega.{arith}
 use borrow.Author.Needs.{needs}
 use Rattle.layout.proofs.Places.{readable}
-use Rattle.cache.proofs.Openings.{right, opening-refused, opening-done}
-use Rattle.cache.proofs.open.Statement.{statement}
-use Rattle.cache.proofs.open.Tie as tie
+use Rattle.cache_open.proofs.Openings.{right, opening-refused, opening-done}
+use Rattle.cache_open.proofs.open.Statement.{statement}
+use Rattle.cache_open.proofs.open.Tie as tie
 
 opening-refused-requires : tie.Need-opening-refused-requires
 opening-refused-requires c κs = search needs

@@ -1,14 +1,14 @@
--- `cache::put_items` meets its contract: after i turns the first i items stand in their places. Assumes nothing.
+-- `cache_open::put_items` meets its contract: after i turns the first i items stand in their places. Assumes nothing.
 use mathlib.Core.Path.{_≡_, _∙_, sym}
 use Prim.Native.Nat.{_≤_, _-_}
 use native.Mathlib.Omega.{arith}
 use Rattle.layout.specs.Layout.{cacheOf}
 use Rattle.layout.specs.Inner.{Stands}
 use Rattle.layout.proofs.Places.{readable}
-use Rattle.cache.specs.Inner.{enteredOf}
-use Rattle.cache.proofs.Openings.{has-item, entered-none, entered-more}
-use Rattle.cache.proofs.put_items.Statement.{statement}
-use Rattle.cache.proofs.put_items.Tie as tie
+use Rattle.cache_open.specs.Inner.{enteredOf}
+use Rattle.cache_open.proofs.Openings.{has-item, entered-none, entered-more}
+use Rattle.cache_open.proofs.put_items.Statement.{statement}
+use Rattle.cache_open.proofs.put_items.Tie as tie
 
 abbrev Inv-loop : tie.InvT-loop
 Inv-loop b₀ catalog n i₀ b i = (i ≤ n) × Stands b (enteredOf (cacheOf b₀) catalog i)

@@ -29,10 +29,10 @@ use Rattle.layout.specs.Inner.{Stands, cleared}
 use Rattle.layout.proofs.Places.{stands-as, stands-become, becomes-valid}
 use Rattle.cache_room.specs.InnerStores.{storeTo}
 use Rattle.cache_room.proofs.Laws.{store-more, store-past, store-at}
-use Rattle.cache.specs.Contract.{openingNumber, OpenedLent}
-use Rattle.cache.specs.Inner.{BlocksOk, WholeCatalog, enteredOf, Column}
-use Rattle.cache.proofs.Blocks.{catalog-blocks, blocks-catalog}
-use Rattle.cache.proofs.Empty.{empty-place, empty-becomes}
+use Rattle.cache_open.specs.Opening.{openingNumber, OpenedLent}
+use Rattle.cache_open.specs.Inner.{BlocksOk, WholeCatalog, enteredOf, Column}
+use Rattle.cache_open.proofs.Blocks.{catalog-blocks, blocks-catalog}
+use Rattle.cache_open.proofs.Empty.{empty-place, empty-becomes}
 
 -- ---- the tests
 

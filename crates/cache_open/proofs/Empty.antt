@@ -18,7 +18,7 @@ use Rattle.marks.specs.Marks.{bit, marked}
 use Rattle.cache_state.specs.Cache.{Cache, slotOf, catalogOf, slotsOf, usesOf, EmptyPlace, Blank}
 use Rattle.cache_state.specs.InnerView.{usageOf}
 use Rattle.cache_state.specs.InnerBecomes.{Becomes}
-use Rattle.cache.specs.Inner.{emptyWith, Column}
+use Rattle.cache_open.specs.Inner.{emptyWith, Column}
 
 -- no mark is set in words that are 0
 unmarked : (i : ℕ) → i < 256 → marked (replicate 4 0) i ≡ false

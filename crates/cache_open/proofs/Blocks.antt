@@ -11,7 +11,7 @@ use Rattle.landlord.specs.Catalog.{Catalog, CatalogOk, Item, itemAt, noItem, bl
 use Rattle.landlord.specs.Inner.{ItemFacts}
 use Rattle.landlord.proofs.Folds.{tab-length, tab-at}
 use Rattle.landlord.proofs.Ranges.{catalog-facts, catalog-ok, blocks-facts, blocks-ok}
-use Rattle.cache.specs.Inner.{BlocksOk}
+use Rattle.cache_open.specs.Inner.{BlocksOk}
 
 pub no-blocks : (blocks : ℕ → ℕ) → BlocksOk 0 blocks
 no-blocks blocks = record { each = λ i l. absurd (let z : i < 0 = l in omega arith) }

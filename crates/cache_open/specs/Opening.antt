@@ -1,0 +1,22 @@
+-- The opening of a state in lent bytes: the number of its answer, and what it leaves. Assumes nothing.
+use mathlib.Core.{Path._≡_, Logic._≢_, Bool.{cond, _&&_}, List.List}
+use Prim.Native.Nat.{ℕ, _%_, _<_}
+use lib.{Dec.{eqb, leb}, ListN.length}
+use Rattle.landlord.specs.{Types.deductionOf, Slot.splitOf, Figures.opened, Calls.openingRefusal}
+use Rattle.catalog_bytes.specs.Catalogs.{catalogIn}
+use Rattle.cache_state.specs.Cache.{view, EmptyPlace}
+use Rattle.layout.specs.Layout.{stateBytes, cacheOf, ValidBytes}
+
+-- The opening in lent bytes checks the state's length (17), then k and the catalog (3), whose length is a multiple of 5 and at most
+-- 1,280, then the rule's number (18). It looks at how many bytes the state has, and at none of them.
+unfoldable pub openingNumber : ℕ → ℕ → ℕ → List ℕ → ℕ
+openingNumber size k rule xs =
+    cond (eqb size stateBytes) (cond (eqb (length xs % 5) 0 && leb (length xs) 1280) (openingRefusal k rule (catalogIn xs)) 3) 17
+
+pub record OpenedLent (b : List ℕ) (k rule : ℕ) (xs : List ℕ) (number : ℕ) (left : List ℕ) : Type 0 where
+  pub answer : number ≡ openingNumber (length b) k rule xs
+  pub valid : number ≡ 0 → ValidBytes left
+  pub stands : number ≡ 0 → view (cacheOf left) ≡ opened (splitOf (deductionOf rule)) k (catalogIn xs)
+  -- "It has 256 places, one for each sail number, empty at opening"
+  pub empty : number ≡ 0 → (i : ℕ) → i < 256 → EmptyPlace (cacheOf left) i
+  pub refused : number ≢ 0 → left ≡ b
