@@ -1,14 +1,13 @@
-// The calls on a state, in place on its bytes: step and close; and a list of them run, from an opening on. Every refusal is decided
-// before the first store, so a refused call leaves every byte as it was.
+// The calls on a state, in place on its bytes: step and close. Every refusal is decided before the first store, so a refused call leaves
+// every byte as it was.
 ghost use mathlib.Core.Path.{_≡_};
-ghost use lib.ListN.{set};
 ghost use Rattle.landlord.specs.Figures.{took};
 ghost use Rattle.landlord.specs.Calls.{refusalNow, stepOf, stepCall, close};
 ghost use Rattle.cache_state.specs.Cache.{view};
 ghost use Rattle.layout.specs.Layout.{cacheOf, ValidBytes};
 ghost use Rattle.layout.specs.Inner.{BecomesAt};
-ghost use Rattle.cache.specs.Contract.{lent, Answers, Called, callsOf, RanLent};
-ghost use Rattle.cache.specs.Inner.{callFrom, RanCalls, TablePasses};
+ghost use Rattle.cache.specs.Contract.{lent, Answers, Called};
+ghost use Rattle.cache.specs.Inner.{TablePasses};
 
 // ---- a step
 
@@ -59,7 +58,7 @@ fn serve(b: &mut [u8], kind: u32, item: u32, minutes: u32)
 }
 
 // A step by its numbers, on a valid state: as the table says.
-fn step_valid(b: &mut [u8], kind: u32, item: u32, minutes: u32) -> u32
+pub fn step_valid(b: &mut [u8], kind: u32, item: u32, minutes: u32) -> u32
     requires { ⌜ ValidBytes (now b) ⌝ }
     ensures { λ r. ⌜ Answers lent (now (b .entry)) (stepCall kind item minutes) r (now (b .exit)) ⌝ }
 {
@@ -85,7 +84,7 @@ pub fn step(b: &mut [u8], kind: u32, item: u32, minutes: u32) -> u32
 // ---- the closing
 
 // On a valid state: 9 if it is closed. It flushes, is no step, and closes.
-fn close_valid(b: &mut [u8]) -> u32
+pub fn close_valid(b: &mut [u8]) -> u32
     requires { ⌜ ValidBytes (now b) ⌝ }
     ensures { λ r. ⌜ Answers lent (now (b .entry)) close r (now (b .exit)) ⌝ }
 {
@@ -105,63 +104,4 @@ pub fn close(b: &mut [u8]) -> u32
         return 17;
     }
     close_valid(b)
-}
-
-// ---- a list of calls
-
-// A call from four numbers, on a valid state: 0 and then a step's kind, item and minutes; or another number, and it is the closing.
-fn call(b: &mut [u8], which: u32, kind: u32, item: u32, minutes: u32) -> u32
-    requires { ⌜ ValidBytes (now b) ⌝ }
-    ensures { λ r. ⌜ Answers lent (now (b .entry)) (callFrom which kind item minutes) r (now (b .exit)) ⌝ }
-{
-    if which == 0 {
-        return step_valid(b, kind, item, minutes);
-    }
-    close_valid(b)
-}
-
-// Notes the answer to call `i`, if there is a place for it.
-fn note(answers: &mut [u32], i: usize, number: u32)
-    ensures { λ _. ⌜ now (answers .exit) ≡ set (now (answers .entry)) i number ⌝ }
-{
-    if i < answers.len() {
-        answers[i] = number;
-    }
-}
-
-// Makes the calls that the numbers stand for, four to a call; a remainder is no call. A call on a valid state leaves a valid one, so
-// none of them tests it again. The answers are noted as far as there is place.
-pub fn run_calls(b: &mut [u8], calls: &[u32], answers: &mut [u32])
-    requires { ⌜ ValidBytes (now b) ⌝ }
-    ensures { λ _. ⌜ RanCalls lent (now (b .entry)) (callsOf (now (calls .entry))) (now (answers .entry)) (now (answers .exit)) (now (b .exit)) ⌝ }
-    ensures { λ _. ⌜ ValidBytes (now (b .exit)) ⌝ }
-{
-    let count = calls.len() / 4;
-    let mut at = 0;
-    let mut i = 0;
-    while i < count {
-        let number = call(b, calls[at], calls[at + 1], calls[at + 2], calls[at + 3]);
-        note(answers, i, number);
-        at += 4;
-        i += 1;
-    }
-}
-
-// A whole list of calls on lent bytes, from an opening on; it answers the opening's number.
-pub fn run(
-    b: &mut [u8],
-    k: u32,
-    rule: u32,
-    catalog: &[u8],
-    calls: &[u32],
-    answers: &mut [u32],
-) -> u32
-    ensures { λ r. ⌜ RanLent (now (b .entry)) k rule (now (catalog .entry)) (callsOf (now (calls .entry))) (now (answers .entry)) (now (answers .exit)) r (now (b .exit)) ⌝ }
-{
-    let number = cache_open::open(b, k, rule, catalog);
-    if number != 0 {
-        return number;
-    }
-    run_calls(b, calls, answers);
-    0
 }

@@ -7,8 +7,8 @@ use Rattle.landlord.specs.Types.{telling, deductionOf}
 use Rattle.landlord.specs.Catalog.{Catalog}
 use Rattle.landlord.specs.Calls.{Call, close, callItem}
 use Rattle.cache.specs.Contract.{Follows, none, then, Season, Prefix}
-use Rattle.cache.specs.Inner.{BeginsAt}
-use Rattle.cache.proofs.Season.{season-theorem, season-prefix}
+use Rattle.cache_run.specs.Inner.{BeginsAt}
+use Rattle.cache_run.proofs.Season.{season-theorem, season-prefix}
 use Rattle.cache_value.specs.declared.Cache.{Cache}
 use Rattle.cache_value.specs.declared.Answer.{Answer}
 use Rattle.cache_value.specs.declared.Answer.the-variants.{Taken}

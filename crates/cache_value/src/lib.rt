@@ -8,7 +8,7 @@ ghost use Rattle.landlord.specs.Calls.{close, callOf};
 ghost use Rattle.validity.specs.InnerDecided.{Decided};
 ghost use Rattle.cache_open.specs.Inner.{BlocksOk, emptyWith};
 ghost use Rattle.cache.specs.Contract.{lent, Called, callsOf};
-ghost use Rattle.cache.specs.Inner.{callFrom};
+ghost use Rattle.cache_run.specs.Inner.{callFrom};
 ghost use Rattle.cache_value.specs.Contract.{recordOf, byValue, catalogFrom, answerTold, CalledBy, OpenedBy, Ran};
 ghost use Rattle.cache_value.specs.Inner.{FirstOf, Opens, nothingOpened, Opened};
 use landlord::Deduction;
@@ -330,7 +330,7 @@ pub fn run(
     }
     let mut b = [0u8; layout::STATE_BYTES];
     bytes::encode(c, &mut b);
-    cache::run_calls(&mut b, calls, answers);
+    cache_run::run_calls(&mut b, calls, answers);
     let end = bytes::decode(&b);
     Answered {
         answer: Answer::Taken,

@@ -17,8 +17,8 @@ use Rattle.catalog_bytes.specs.Catalogs.{catalogIn}
 use Rattle.cache_open.specs.Opening.{openingNumber}
 use Rattle.cache_open.proofs.Openings.{asks}
 use Rattle.cache.specs.Contract.{lent, Season, SeasonLent, callsOf, RanLent}
-use Rattle.cache.specs.Inner.{callAt, callFrom}
-use Rattle.cache.proofs.Runs.{count-is, call-at}
+use Rattle.cache_run.specs.Inner.{callAt, callFrom}
+use Rattle.cache_run.proofs.Runs.{count-is, call-at}
 use Rattle.season_tables.specs.declared.Seen.{Seen}
 use Rattle.season_tables.specs.Inner.{callNumbers}
 use Rattle.season_plan.proofs.Places.{catalog-is}

@@ -22,7 +22,7 @@ fn close_season(seen: Seen, catalog: &[u8], calls: &mut [u32], state: &mut [u8])
     // Every call is accepted, so no answer is kept.
     let mut answers = [0u32; 1];
     let rule = seen.rule;
-    cache::run(
+    cache_run::run(
         state,
         seen.k,
         rule.number(),

@@ -1,14 +1,14 @@
--- `cache::run_calls` meets its contract: what is left to do leads to the answers from the start. Assumes nothing.
+-- `cache_run::run_calls` meets its contract: what is left to do leads to the answers from the start. Assumes nothing.
 use mathlib.Core.Path.{_≡_, refl, sym, ap, _∙_}
 use Prim.Native.Nat.{_≤_, _*_, _/_, _-_}
 use native.Mathlib.Omega.{arith}
 use lib.ListN.{length}
 use lib.Seq.{length-sets}
 use borrow.Author.Needs.{needs}
 use Rattle.cache.specs.Contract.{lent, callsOf}
-use Rattle.cache.proofs.Runs.{count-is, call-at, CallsGoing, going-starts, going-on, going-ends}
-use Rattle.cache.proofs.run_calls.Statement.{statement}
-use Rattle.cache.proofs.run_calls.Tie as tie
+use Rattle.cache_run.proofs.Runs.{count-is, call-at, CallsGoing, going-starts, going-on, going-ends}
+use Rattle.cache_run.proofs.run_calls.Statement.{statement}
+use Rattle.cache_run.proofs.run_calls.Tie as tie
 
 abbrev Inv-loop : tie.InvT-loop
 Inv-loop b₀ calls answers₀ count at₀ i₀ b answers at i =

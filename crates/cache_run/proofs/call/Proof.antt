@@ -1,8 +1,8 @@
--- `cache::call` meets its contract: a step, or the closing. Assumes nothing.
+-- `cache_run::call` meets its contract: a step, or the closing. Assumes nothing.
 use borrow.Author.Needs.{needs}
-use Rattle.cache.proofs.Runs.{call-takes, call-closes}
-use Rattle.cache.proofs.call.Statement.{statement}
-use Rattle.cache.proofs.call.Tie as tie
+use Rattle.cache_run.proofs.Runs.{call-takes, call-closes}
+use Rattle.cache_run.proofs.call.Statement.{statement}
+use Rattle.cache_run.proofs.call.Tie as tie
 
 step-valid-requires : tie.Need-step-valid-requires
 step-valid-requires c κs = search needs

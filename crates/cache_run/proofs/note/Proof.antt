@@ -1,10 +1,10 @@
--- `cache::note` meets its contract: past the end there is no place. Assumes nothing.
+-- `cache_run::note` meets its contract: past the end there is no place. Assumes nothing.
 use mathlib.Core.Path.{sym}
 use native.Mathlib.Omega.{arith}
 use lib.Seq.{set-out}
 use borrow.Author.Needs.{needs}
-use Rattle.cache.proofs.note.Statement.{statement}
-use Rattle.cache.proofs.note.Tie as tie
+use Rattle.cache_run.proofs.note.Statement.{statement}
+use Rattle.cache_run.proofs.note.Tie as tie
 
 mul-answers : tie.Need-mul-answers
 mul-answers c = search needs

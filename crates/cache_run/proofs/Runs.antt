@@ -11,10 +11,10 @@ use borrow.Author.Tests.{eq-eqb, ne-eqb}
 use Rattle.landlord.specs.Calls.{Call, stepCall, close}
 use Rattle.landlord.proofs.Folds.{tab-length, tab-at}
 use Rattle.cache_open.specs.Opening.{OpenedLent}
 use Rattle.cache.specs.Contract.{Kind, lent, Answers, Follows, none, then, callsOf, RanLent}
-use Rattle.cache.specs.Inner.{callAt, callFrom, RanCalls}
-use Rattle.cache.proofs.Season.{season-lent}
 use Rattle.cache.proofs.Calls.{answers-called}
+use Rattle.cache_run.specs.Inner.{callAt, callFrom, RanCalls}
+use Rattle.cache_run.proofs.Season.{season-lent}
 
 -- a call from four numbers
 pub call-takes : (b left : List ℕ) (which kind i m n : ℕ) → which ≡ 0 → Answers lent b (stepCall kind i m) n left → Answers lent b (callFrom which kind i m) n left

@@ -1,9 +1,9 @@
--- `cache::run` meets its contract: the season theorem of its arguments. Assumes nothing.
+-- `cache_run::run` meets its contract: the season theorem of its arguments. Assumes nothing.
 use borrow.Author.Needs.{needs}
 use Rattle.cache.specs.Contract.{callsOf}
-use Rattle.cache.proofs.Runs.{run-refused, run-taken}
-use Rattle.cache.proofs.run.Statement.{statement}
-use Rattle.cache.proofs.run.Tie as tie
+use Rattle.cache_run.proofs.Runs.{run-refused, run-taken}
+use Rattle.cache_run.proofs.run.Statement.{statement}
+use Rattle.cache_run.proofs.run.Tie as tie
 
 open-requires : tie.Need-open-requires
 open-requires c κs = search needs

@@ -1,0 +1,2 @@
+pub mod Season
+pub mod Runs

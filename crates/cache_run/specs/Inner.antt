@@ -1,0 +1,26 @@
+-- What is said of calls made one after another. Assumes nothing.
+use mathlib.Core.{Bool.cond, Path._≡_, List.List}
+use Prim.Native.Nat.{ℕ, _+_, _*_}
+use lib.{Dec.eqb, Seq.sets, ListN.getD}
+use Rattle.landlord.specs.{Types.deductionOf, Slot.splitOf, Catalog.Catalog, Figures.opened, Calls.{openingRefusal, Call, close, stepCall}}
+use Rattle.cache.specs.Contract.{Kind, Follows}
+
+-- a call from four numbers
+abbrev pub callFrom : ℕ → ℕ → ℕ → ℕ → Call
+callFrom which kind item minutes = cond (eqb which 0) (stepCall kind item minutes) close
+
+-- call i of a list of numbers
+abbrev pub callAt : List ℕ → ℕ → Call
+callAt xs i = callFrom (getD xs (4 * i) 0) (getD xs (4 * i + 1) 0) (getD xs (4 * i + 2) 0) (getD xs (4 * i + 3) 0)
+
+-- the calls were made, each on the state that the last one left, and their answers noted as far as there was place
+pub record RanCalls {C : Type 0} (kind : Kind C) (c : C) (calls : List Call) (before after : List ℕ) (d : C) : Type 0 where
+  pub numbers : List ℕ
+  pub follows : Follows kind c calls numbers d
+  pub noted : after ≡ sets before 0 numbers
+
+-- what an opening that was not refused gives
+pub record BeginsAt {C : Type 0} (kind : Kind C) (k rule : ℕ) (cat : Catalog) (first : C) : Type 0 where
+  pub accepted : openingRefusal k rule cat ≡ 0
+  pub valid : kind .Valid first
+  pub stands : kind .view first ≡ opened (splitOf (deductionOf rule)) k cat
