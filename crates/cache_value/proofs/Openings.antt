@@ -1,13 +1,11 @@
--- Laws of an opening: its tests are the table's, the copied arrays, and the cache that it hands back. Assumes nothing.
+-- Laws of an opening: its tests are the table's, and the cache that it hands back. Assumes nothing.
 use mathlib.Core.Path.{_≡_, refl, sym, ap, subst, _∙_}
-use mathlib.Core.Bool.{Bool, true, false, cond}
+use mathlib.Core.Bool.{true, false, cond}
 use mathlib.Core.List.{List, []}
-use Prim.Native.Nat.{ℕ, _+_, _≤_, _<_}
+use Prim.Native.Nat.{ℕ, _≤_, _<_}
 use native.Mathlib.Omega.{arith}
 use lib.Dec.{eqb}
-use lib.ListN.{length, getD, set, replicate, getD-replicate}
-use lib.Seq.{getD-set-same, getD-set-other}
-use borrow.Author.Count.{below-more}
+use lib.ListN.{getD, replicate}
 use borrow.Author.Tests.{le-leb, lt-leb}
 use Rattle.landlord.specs.declared.Deduction.{Deduction}
 use Rattle.landlord.specs.declared.Deduction.the-variants.{WriteFirst}
@@ -20,42 +18,18 @@ use Rattle.landlord.specs.Figures.{Standing, opened, closes}
 use Rattle.landlord.specs.Calls.{openingRefusal}
 use Rattle.landlord.specs.Valid.{StandingOk}
 use Rattle.landlord.proofs.Valid.{ok-opened, ok-closes}
-use Rattle.landlord.proofs.Ranges.{capacity-ok, opening-accepts, range-refused, rule-refused}
-use Rattle.validity.specs.InnerDecided.{Decided}
+use Rattle.landlord.proofs.Ranges.{opening-accepts, range-refused, rule-refused}
 use Rattle.cache_state.specs.Cache.{EmptyPlace}
 use Rattle.cache_state.specs.InnerBecomes.{Becomes}
 use Rattle.cache_state.specs.Cache as records
-use Rattle.cache_open.specs.Inner.{BlocksOk, emptyWith}
+use Rattle.cache_open.specs.Inner.{emptyWith}
 use Rattle.cache_open.proofs.Blocks.{catalog-few, catalog-blocks, blocks-catalog}
 use Rattle.cache_open.proofs.Empty.{empty-place, empty-becomes}
+use Rattle.cache_parts.specs.Inner.{FirstOf, Opens}
+use Rattle.cache_parts.proofs.Arrays.{first-none}
 use Rattle.cache_value.specs.declared.Cache.{Cache}
 use Rattle.cache_value.specs.Contract.{recordOf, catalogFrom, refusedOpening}
-use Rattle.cache_value.specs.Inner.{FirstOf, Opens, nothingOpened, Opened}
-
--- ---- the tests
-
--- the last test decides where the others have come out so
-pub opens-so : (k n : ℕ) (blocks : List ℕ) (r : Bool) → 1 ≤ k → k ≤ 4096 → n ≤ 256 → Decided (BlocksOk n (λ i. getD blocks i 0)) r → Decided (Opens k n blocks) r
-opens-so k n blocks r low high few d =
-    let capacity = capacity-ok k (record { low = low; high = high }) in
-    record { yes = λ e. record { capacity = capacity; few = few; each = d .yes e }; only = λ o. d .only (o .each) }
-
--- ---- the copied arrays
-
-pub first-none : (xs : List ℕ) → FirstOf 0 xs (replicate 256 0)
-first-none xs = record { front = λ i l. absurd (let z : i < 0 = l in omega arith); rest = λ i l u. getD-replicate 256 i 0 0 u }
-
--- one entry more copied
-pub first-more : (xs out : List ℕ) (i : ℕ) → i < length out → FirstOf i xs out → FirstOf (i + 1) xs (set out i (getD xs i 0))
-first-more xs out i l f =
-    record {
-      front =
-          below-more (λ j. getD (set out i (getD xs i 0)) j 0 ≡ getD xs j 0) i
-          (λ j b. getD-set-other out i j (getD xs i 0) 0 (omega arith) ∙ f .front j b) (getD-set-same out i (getD xs i 0) 0 l);
-      rest = λ j b u. getD-set-other out i j (getD xs i 0) 0 (omega arith) ∙ f .rest j (omega arith) u;
-    }
-
--- ---- the cache
+use Rattle.cache_value.specs.Inner.{nothingOpened, Opened}
 
 -- where an opening stands, by the number of its answer
 abbrev pub atOpening : ℕ → ℕ → Catalog → ℕ → Standing

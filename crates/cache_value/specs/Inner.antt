@@ -1,23 +1,13 @@
 -- What the functions of an opening give. Assumes nothing.
 use mathlib.Core.{Path._≡_, Bool.{cond, true}, List.List}
-use Prim.Native.Nat.{ℕ, _≤_, _<_}
-use lib.{ListN.{getD, replicate}, Dec.eqb}
+use Prim.Native.Nat.{ℕ, _<_}
+use lib.{ListN.replicate, Dec.eqb}
 use Rattle.landlord.specs.declared.Deduction.the-variants.{WriteFirst}
-use Rattle.landlord.specs.{Types.deductionOf, Slot.splitOf, Catalog.{Catalog, CapacityOk}, Figures.opened, Calls.{Call, openingRefusal}}
+use Rattle.landlord.specs.{Types.deductionOf, Slot.splitOf, Catalog.Catalog, Figures.opened, Calls.{Call, openingRefusal}}
 use Rattle.cache_state.specs.Cache.{Cache as Record, EmptyPlace}
-use Rattle.cache_open.specs.Inner.{BlocksOk, Column, emptyWith}
+use Rattle.cache_open.specs.Inner.{emptyWith}
 use Rattle.cache.specs.Contract.{Follows}
 use Rattle.cache_value.specs.{declared.Cache.Cache, Contract.{recordOf, byValue, refusedOpening}}
-
--- the first n entries of xs, and 0 past them
-abbrev pub FirstOf : ℕ → List ℕ → List ℕ → Type 0
-FirstOf n xs r = Column n (λ i. getD xs i 0) r
-
--- what an opening asks of its arguments; load and write costs are in range by their width
-pub record Opens (k n : ℕ) (blocks : List ℕ) : Type 0 where
-  pub capacity : CapacityOk k
-  pub few : n ≤ 256
-  pub each : BlocksOk n (λ i. getD blocks i 0)
 
 -- the fields of a refused opening's cache: 1 block, no items, closed, write-first
 abbrev pub nothingOpened : Record

@@ -2,15 +2,13 @@
 // A method stores the struct in bytes, makes the call in place there, and reads it back; only this form pays for that.
 ghost use mathlib.Core.Path.{_≡_};
 ghost use Prim.Native.Nat.{_≤_};
-ghost use lib.ListN.{getD};
 ghost use Rattle.landlord.specs.Types.{telling};
 ghost use Rattle.landlord.specs.Calls.{close, callOf};
-ghost use Rattle.validity.specs.InnerDecided.{Decided};
-ghost use Rattle.cache_open.specs.Inner.{BlocksOk, emptyWith};
+ghost use Rattle.cache_open.specs.Inner.{emptyWith};
 ghost use Rattle.cache.specs.Contract.{lent, Called, callsOf};
 ghost use Rattle.cache_run.specs.Inner.{callFrom};
 ghost use Rattle.cache_value.specs.Contract.{recordOf, byValue, catalogFrom, answerTold, CalledBy, OpenedBy, Ran};
-ghost use Rattle.cache_value.specs.Inner.{FirstOf, Opens, nothingOpened, Opened};
+ghost use Rattle.cache_value.specs.Inner.{nothingOpened, Opened};
 use landlord::Deduction;
 use landlord::Refusal;
 use landlord::Step;
@@ -67,68 +65,6 @@ struct Reply {
 }
 
 // ---- the opening
-
-// Whether each of the first `n` items has 1 to 16 blocks.
-fn blocks_ok(n: usize, blocks: [u8; 256]) -> bool
-    requires { ⌜ n ≤ 256 ⌝ }
-    ensures { λ r. ⌜ Decided (BlocksOk n (λ i. getD blocks i 0)) r ⌝ }
-{
-    let mut i = 0;
-    while i < n {
-        if blocks[i] < 1 {
-            return false;
-        }
-        if 16 < blocks[i] {
-            return false;
-        }
-        i = i + 1;
-    }
-    true
-}
-
-// Whether an opening is accepted. The costs are in range by their width.
-fn opens(k: u32, n: usize, blocks: [u8; 256]) -> bool
-    ensures { λ r. ⌜ Decided (Opens k n blocks) r ⌝ }
-{
-    if k < 1 {
-        return false;
-    }
-    if 4096 < k {
-        return false;
-    }
-    if 256 < n {
-        return false;
-    }
-    blocks_ok(n, blocks)
-}
-
-// The first `n` of the bytes, and 0 past them.
-fn first_bytes(n: usize, xs: [u8; 256]) -> [u8; 256]
-    requires { ⌜ n ≤ 256 ⌝ }
-    ensures { λ r. ⌜ FirstOf n xs r ⌝ }
-{
-    let mut out = [0u8; 256];
-    let mut i = 0;
-    while i < n {
-        out[i] = xs[i];
-        i = i + 1;
-    }
-    out
-}
-
-// The first `n` of the costs, and 0 past them.
-fn first_costs(n: usize, xs: [u16; 256]) -> [u16; 256]
-    requires { ⌜ n ≤ 256 ⌝ }
-    ensures { λ r. ⌜ FirstOf n xs r ⌝ }
-{
-    let mut out = [0u16; 256];
-    let mut i = 0;
-    while i < n {
-        out[i] = xs[i];
-        i = i + 1;
-    }
-    out
-}
 
 // A cache in which nothing is held and nothing counted.
 fn empty(
@@ -199,15 +135,15 @@ fn opening(
 ) -> Reply
     ensures { λ r. ⌜ Opened k rule (catalogFrom n blocks load write) (r .number) (r .cache) ⌝ }
 {
-    if !opens(k, n, blocks) {
+    if !cache_parts::opens(k, n, blocks) {
         return refused_opening(3);
     }
     if 1 < rule {
         return refused_opening(18);
     }
-    let b = first_bytes(n, blocks);
-    let l = first_costs(n, load);
-    let w = first_costs(n, write);
+    let b = cache_parts::first_bytes(n, blocks);
+    let l = cache_parts::first_costs(n, load);
+    let w = cache_parts::first_costs(n, write);
     Reply {
         number: 0,
         cache: empty(k, n, b, l, w, false, landlord::deduction_of(rule)),

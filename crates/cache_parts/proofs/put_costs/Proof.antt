@@ -1,10 +1,10 @@
--- `cache_value::bytes::put_costs` meets its contract: the stores of two numbers, and the four of the marks, which are one store of them all. Assumes nothing.
+-- `cache_parts::put_costs` meets its contract: the stores of two numbers, and the four of the marks, which are one store of them all. Assumes nothing.
 use mathlib.Core.Path.{_≡_}
 use lib.ListN.{length}
 use borrow.Author.Needs.{needs}
 use Rattle.layout.proofs.Stores.{store-four}
-use Rattle.cache_value.proofs.bytes.put_costs.Statement.{statement}
-use Rattle.cache_value.proofs.bytes.put_costs.Tie as tie
+use Rattle.cache_parts.proofs.put_costs.Statement.{statement}
+use Rattle.cache_parts.proofs.put_costs.Tie as tie
 
 put-requires : tie.Need-put-requires
 put-requires c κs = search needs

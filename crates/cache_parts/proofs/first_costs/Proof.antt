@@ -1,13 +1,13 @@
--- `cache_value::first_costs` meets its contract: the entries passed are copied, and the rest are 0. Assumes nothing.
+-- `cache_parts::first_costs` meets its contract: the entries passed are copied, and the rest are 0. Assumes nothing.
 use mathlib.Core.Path.{_≡_, _∙_}
 use Prim.Native.Nat.{ℕ, _≤_, _-_}
 use native.Mathlib.Omega.{arith}
 use lib.ListN.{length, replicate, length-set, length-replicate}
 use borrow.Author.Needs.{needs}
-use Rattle.cache_value.specs.Inner.{FirstOf}
-use Rattle.cache_value.proofs.Openings.{first-none, first-more}
-use Rattle.cache_value.proofs.first_costs.Statement.{statement}
-use Rattle.cache_value.proofs.first_costs.Tie as tie
+use Rattle.cache_parts.specs.Inner.{FirstOf}
+use Rattle.cache_parts.proofs.Arrays.{first-none, first-more}
+use Rattle.cache_parts.proofs.first_costs.Statement.{statement}
+use Rattle.cache_parts.proofs.first_costs.Tie as tie
 
 abbrev Inv-loop : tie.InvT-loop
 Inv-loop n xs out₀ i₀ out i = (i ≤ n) × (length out ≡ 256) × FirstOf i xs out

@@ -1,7 +1,7 @@
--- `cache_value::bytes::put_totals` meets its contract: the four stores, each at its place. Assumes nothing.
+-- `cache_parts::put_totals` meets its contract: the four stores, each at its place. Assumes nothing.
 use borrow.Author.Needs.{needs}
-use Rattle.cache_value.proofs.bytes.put_totals.Statement.{statement}
-use Rattle.cache_value.proofs.bytes.put_totals.Tie as tie
+use Rattle.cache_parts.proofs.put_totals.Statement.{statement}
+use Rattle.cache_parts.proofs.put_totals.Tie as tie
 
 put-requires : tie.Need-put-requires
 put-requires c κs = search needs

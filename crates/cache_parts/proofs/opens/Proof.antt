@@ -1,10 +1,10 @@
--- `cache_value::opens` meets its contract. Assumes nothing.
+-- `cache_parts::opens` meets its contract. Assumes nothing.
 use native.Mathlib.Omega.{arith}
 use borrow.Author.Needs.{needs}
 use Rattle.validity.proofs.Decides.{no}
-use Rattle.cache_value.proofs.Openings.{opens-so}
-use Rattle.cache_value.proofs.opens.Statement.{statement}
-use Rattle.cache_value.proofs.opens.Tie as tie
+use Rattle.cache_parts.proofs.Arrays.{opens-so}
+use Rattle.cache_parts.proofs.opens.Statement.{statement}
+use Rattle.cache_parts.proofs.opens.Tie as tie
 use Rattle.landlord.proofs.Ranges.{capacity-facts}
 
 returns : tie.Need-returns

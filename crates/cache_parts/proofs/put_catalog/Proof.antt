@@ -1,7 +1,7 @@
--- `cache_value::bytes::put_catalog` meets its contract: the five stores, each at its place. Assumes nothing.
+-- `cache_parts::put_catalog` meets its contract: the five stores, each at its place. Assumes nothing.
 use borrow.Author.Needs.{needs}
-use Rattle.cache_value.proofs.bytes.put_catalog.Statement.{statement}
-use Rattle.cache_value.proofs.bytes.put_catalog.Tie as tie
+use Rattle.cache_parts.proofs.put_catalog.Statement.{statement}
+use Rattle.cache_parts.proofs.put_catalog.Tie as tie
 
 put-run2-requires : tie.Need-put-run2-requires
 put-run2-requires c κs = search needs

@@ -1,7 +1,7 @@
--- `cache_value::bytes::put_uses` meets its contract: the three stores, each at its place. Assumes nothing.
+-- `cache_parts::put_uses` meets its contract: the three stores, each at its place. Assumes nothing.
 use borrow.Author.Needs.{needs}
-use Rattle.cache_value.proofs.bytes.put_uses.Statement.{statement}
-use Rattle.cache_value.proofs.bytes.put_uses.Tie as tie
+use Rattle.cache_parts.proofs.put_uses.Statement.{statement}
+use Rattle.cache_parts.proofs.put_uses.Tie as tie
 
 put-run4-requires : tie.Need-put-run4-requires
 put-run4-requires c κs = search needs

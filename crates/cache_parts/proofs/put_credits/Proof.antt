@@ -1,7 +1,7 @@
--- `cache_value::bytes::put_credits` meets its contract: the two stores, each at its place. Assumes nothing.
+-- `cache_parts::put_credits` meets its contract: the two stores, each at its place. Assumes nothing.
 use borrow.Author.Needs.{needs}
-use Rattle.cache_value.proofs.bytes.put_credits.Statement.{statement}
-use Rattle.cache_value.proofs.bytes.put_credits.Tie as tie
+use Rattle.cache_parts.proofs.put_credits.Statement.{statement}
+use Rattle.cache_parts.proofs.put_credits.Tie as tie
 
 put-run8-requires : tie.Need-put-run8-requires
 put-run8-requires c κs = search needs

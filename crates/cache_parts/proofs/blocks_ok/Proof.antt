@@ -1,4 +1,4 @@
--- `cache_value::blocks_ok` meets its contract: the items passed are in range. Assumes nothing.
+-- `cache_parts::blocks_ok` meets its contract: the items passed are in range. Assumes nothing.
 use mathlib.Core.Path.{_≡_}
 use Prim.Native.Nat.{_≤_, _-_}
 use native.Mathlib.Omega.{arith}
@@ -6,8 +6,8 @@ use lib.ListN.{getD}
 use Rattle.validity.proofs.Decides.{no, sure}
 use Rattle.cache_open.specs.Inner.{BlocksOk}
 use Rattle.cache_open.proofs.Blocks.{no-blocks, more-blocks, blocks-low, blocks-high}
-use Rattle.cache_value.proofs.blocks_ok.Statement.{statement}
-use Rattle.cache_value.proofs.blocks_ok.Tie as tie
+use Rattle.cache_parts.proofs.blocks_ok.Statement.{statement}
+use Rattle.cache_parts.proofs.blocks_ok.Tie as tie
 
 abbrev Inv-loop : tie.InvT-loop
 Inv-loop n blocks i₀ i = (i ≤ n) × BlocksOk i (λ j. getD blocks j 0)
