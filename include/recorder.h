@@ -52,7 +52,7 @@ extern "C" {
  * another number, close the open season and report it with the old one; or keep the steps, and replay them after an
  * opening with the new one.
  */
-#define RECORDER_FORMAT 2
+#define RECORDER_FORMAT 3
 
 /* The bytes of the longest report there can be, here or in the office: a page of this size is never too short. */
 #define RECORDER_REPORT_BYTES 7931
@@ -276,7 +276,7 @@ enum recorder_place {
     RECORDER_AT_DIRTY = 56,            /* four u64: 256 marks, item i is bit i % 64 of word i / 64 */
     RECORDER_AT_LOAD_CREDIT = 88,      /* run of u64, in units of 1 / RECORDER_UNIT of a cost */
     RECORDER_AT_WRITE_CREDIT = 2136,   /* run of u64, likewise */
-    RECORDER_AT_TENTHS = 4184,         /* run of u32: tenths of an hour written */
+    RECORDER_AT_MINUTES = 4184,        /* run of u32: minutes written; the report prints a sixth of them, rounded down */
     RECORDER_AT_ITEM_LOADS = 5208,     /* run of u32 */
     RECORDER_AT_ITEM_WRITEBACKS = 6232, /* run of u32 */
     RECORDER_AT_LOAD = 7256,           /* run of u16: load costs of the catalog */

@@ -133,7 +133,7 @@ fn damage(r: &mut Random, s: &mut Pair) {
             head,
             at::LOAD_CREDIT + 8 * i,
             at::WRITE_CREDIT + 8 * i,
-            at::TENTHS + 4 * i,
+            at::MINUTES + 4 * i,
             at::ITEM_LOADS + 4 * i,
             at::ITEM_WRITEBACKS + 4 * i,
             at::LOAD + 2 * i,

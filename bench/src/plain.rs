@@ -29,7 +29,7 @@ pub const WRITE_FIRST: u32 = 0;
 pub const LOAD_FIRST: u32 = 1;
 
 /// The number of the layout, which stands at the head of the bytes.
-pub const FORMAT: u32 = 2;
+pub const FORMAT: u32 = 3;
 
 /// Where each field stands.
 pub mod at {
@@ -49,7 +49,7 @@ pub mod at {
     pub const DIRTY: usize = 56;
     pub const LOAD_CREDIT: usize = 88;
     pub const WRITE_CREDIT: usize = 2136;
-    pub const TENTHS: usize = 4184;
+    pub const MINUTES: usize = 4184;
     pub const ITEM_LOADS: usize = 5208;
     pub const ITEM_WRITEBACKS: usize = 6232;
     pub const LOAD: usize = 7256;
@@ -185,18 +185,18 @@ fn used_if_valid(s: &Bytes) -> Option<u32> {
 
     let blank = blank_past::<{ at::LOAD_CREDIT }, 8>(s, n)
         && blank_past::<{ at::WRITE_CREDIT }, 8>(s, n)
-        && blank_past::<{ at::TENTHS }, 4>(s, n)
+        && blank_past::<{ at::MINUTES }, 4>(s, n)
         && blank_past::<{ at::ITEM_LOADS }, 4>(s, n)
         && blank_past::<{ at::ITEM_WRITEBACKS }, 4>(s, n)
         && blank_past::<{ at::LOAD }, 2>(s, n)
         && blank_past::<{ at::WRITE }, 2>(s, n)
         && blank_past::<{ at::BLOCKS }, 1>(s, n)
         && blank_past::<{ at::HELD }, 1>(s, n);
-    let tenths = &run::<{ at::TENTHS }, 4>(s)[..n];
-    let most = 240 * steps;
-    let over = tenths
+    let minutes = &run::<{ at::MINUTES }, 4>(s)[..n];
+    let most = 1440 * steps;
+    let over = minutes
         .iter()
-        .fold(false, |over, &t| over | (u32::from_le_bytes(t) > most));
+        .fold(false, |over, &m| over | (u32::from_le_bytes(m) > most));
     if !blank || over {
         return None;
     }
@@ -378,8 +378,8 @@ pub fn step(state: &mut [u8], kind: u32, number: u32, minutes: u32) -> u32 {
     if kind == WRITE {
         s[at::DIRTY + i / 8] |= 1 << (i % 8);
         set_write_credit(s, i, u64::from(it.write) * UNIT);
-        let tenths = &mut run_mut::<{ at::TENTHS }, 4>(s)[i];
-        *tenths = (u32::from_le_bytes(*tenths) + minutes / 6).to_le_bytes();
+        let sofar = &mut run_mut::<{ at::MINUTES }, 4>(s)[i];
+        *sofar = (u32::from_le_bytes(*sofar) + minutes).to_le_bytes();
     }
     TAKEN
 }
@@ -404,8 +404,9 @@ pub fn close(state: &mut [u8]) -> u32 {
 fn write_report(out: &mut String, s: &Bytes) -> fmt::Result {
     writeln!(out, "sail tenths loads writebacks")?;
     for i in 0..get16(s, at::N) as usize {
-        let [tenths, loads, writebacks] =
-            [at::TENTHS, at::ITEM_LOADS, at::ITEM_WRITEBACKS].map(|at| get32(s, at + 4 * i));
+        let [minutes, loads, writebacks] =
+            [at::MINUTES, at::ITEM_LOADS, at::ITEM_WRITEBACKS].map(|at| get32(s, at + 4 * i));
+        let tenths = minutes / 6;
         writeln!(out, "{i} {tenths} {loads} {writebacks}")?;
     }
     let [hits, loads, evictions, dirty_evictions, writebacks] = [

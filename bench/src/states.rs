@@ -85,7 +85,7 @@ fn count(r: &mut Random, s: &mut [u8], n: usize, held: u32, dirty: u32) {
     share_out(r, s, at::ITEM_LOADS, n, loads);
     share_out(r, s, at::ITEM_WRITEBACKS, n, writebacks);
     for i in 0..n {
-        put32(s, at::TENTHS + 4 * i, r.pick(&[0, 1, 240]) * steps);
+        put32(s, at::MINUTES + 4 * i, r.pick(&[0, 1, 1440]) * steps);
     }
 }
 

@@ -297,7 +297,7 @@ static bool reopen(uint32_t next)
  * Back to the stored state, and to the step that follows on it. The card has been without power for a moment or a night, so
  * the state is tested before its marks are used: a report on no page answers 17 for a damaged state and 15 for a good one.
  *
- * 17 means that a rule of validity is broken. A flip that breaks none (in the tenths of an hour, say) is not seen by the
+ * 17 means that a rule of validity is broken. A flip that breaks none (in the minutes of an item, say) is not seen by the
  * library; where the card does not check its bytes itself, a checksum should be stored with them and the step's number.
  */
 static bool restore(uint32_t *next)

@@ -193,7 +193,7 @@ static void example(void)
     print_figures(&s);
     print_marks(&before, &s);
     for (uint32_t i = 0; i < 3; i++)
-        printf("  item %u tenths %u loads %u writebacks %u\n", i, get32(&s, RECORDER_AT_TENTHS + 4 * i),
+        printf("  item %u minutes %u loads %u writebacks %u\n", i, get32(&s, RECORDER_AT_MINUTES + 4 * i),
                get32(&s, RECORDER_AT_ITEM_LOADS + 4 * i), get32(&s, RECORDER_AT_ITEM_WRITEBACKS + 4 * i));
     say("close again", close_it(&s));
     say("R 0 when closed", step(&s, RECORDER_READ, 0, 0));
@@ -388,9 +388,9 @@ static void arguments(void)
     static const uint32_t minutes[] = { 5, 6, 11, 12, 1440 };
     busy(&s);
     for (size_t i = 0; i < sizeof minutes / sizeof *minutes; i++) {
-        uint32_t before = get32(&s, RECORDER_AT_TENTHS);
+        uint32_t before = get32(&s, RECORDER_AT_MINUTES);
         uint32_t answer = step(&s, RECORDER_WRITE, 0, minutes[i]);
-        printf("W 0 %u: %u, tenths %u more\n", minutes[i], answer, get32(&s, RECORDER_AT_TENTHS) - before);
+        printf("W 0 %u: %u, minutes %u more\n", minutes[i], answer, get32(&s, RECORDER_AT_MINUTES) - before);
     }
 
     static const size_t lengths[] = { 0, 1, BYTES - 4, BYTES - 1, BYTES + 1 };
@@ -422,9 +422,10 @@ static void damaged(const struct damage *d, struct state *s)
 /* One byte (a few rows: two or three fields), so that a single clause of validity is broken where that can be. */
 static const struct damage broken[] = {
     { "no number of a layout", busy, { { 0, 1, 0 } } },
-    { "the number of the layout before", busy, { { 0, 1, 1 } } },
-    { "the number of the next layout", busy, { { 0, 1, 3 } } },
-    { "the number of a layout 2^24 + 2", busy, { { 3, 1, 1 } } },
+    { "the number of the first layout", busy, { { 0, 1, 1 } } },
+    { "the number of the layout before", busy, { { 0, 1, 2 } } },
+    { "the number of the next layout", busy, { { 0, 1, 4 } } },
+    { "the number of a layout 2^24 + 3", busy, { { 3, 1, 1 } } },
     { "rule 2", busy, { { 8792, 1, 2 } } },
     { "rule 255", busy, { { 8792, 1, 255 } } },
     { "rule 256", busy, { { 8793, 1, 1 } } },
@@ -454,8 +455,8 @@ static const struct damage broken[] = {
     { "load credit in the last place", busy, { { 2135, 1, 1 } } },
     { "write credit past the catalog", busy, { { 2184, 1, 1 } } },
     { "write credit in the last place", busy, { { 4183, 1, 1 } } },
-    { "tenths past the catalog", busy, { { 4208, 1, 1 } } },
-    { "tenths in the last place", busy, { { 5204, 1, 1 } } },
+    { "minutes past the catalog", busy, { { 4208, 1, 1 } } },
+    { "minutes in the last place", busy, { { 5204, 1, 1 } } },
     { "loads past the catalog", busy, { { 5232, 1, 1 }, { 5208, 1, 0 } } },
     { "loads in the last place", busy, { { 6228, 1, 1 }, { 5208, 1, 0 } } },
     { "writebacks past the catalog", busy, { { 6256, 1, 1 }, { 6232, 1, 0 } } },
@@ -508,9 +509,9 @@ static const struct damage broken[] = {
     { "an item's writebacks too many", busy, { { 6232, 1, 2 } } },
     { "an item's writebacks too few", busy, { { 6232, 1, 0 } } },
     { "items' writebacks beyond 2^32", busy, { { 6235, 1, 0x80 }, { 6239, 1, 0x80 } } },
-    { "tenths above 240 a step", busy, { { 4185, 1, 7 } } },
-    { "tenths just above", busy, { { 4184, 4, 1681 } } },
-    { "tenths just above, last of 256 items", wide, { { 5204, 1, 1 } } },
+    { "minutes above 1,440 a step", busy, { { 4185, 1, 40 } } },
+    { "minutes just above", busy, { { 4184, 4, 10081 } } },
+    { "minutes just above, last of 256 items", wide, { { 5204, 1, 1 } } },
     { "closed and dirty", busy, { { 10, 1, 1 } } },
     { "closed, a hit too many (17 before 9)", closed_full, { { 16, 1, 0x3C } } },
 };
@@ -536,7 +537,7 @@ static const struct damage sound[] = {
     { "loadcost 65,535 a load", busy, { { 40, 8, 262140 } } },
     { "writecost 65,535 a writeback", busy, { { 48, 8, 131070 } } },
     { "costs 0", busy, { { 40, 8, 0 }, { 48, 8, 0 } } },
-    { "tenths 240 a step", busy, { { 4184, 4, 1680 } } },
+    { "minutes 1,440 a step", busy, { { 4184, 4, 10080 } } },
 };
 
 static void states(void)
@@ -717,7 +718,7 @@ static void report(const char *what, const struct state *s, size_t state_len, si
 static void reports(void)
 {
     puts("reports");
-    struct state s, foul;
+    struct state s, short_hoists, foul;
     memset(&s, 0, sizeof s);
     open_with(&s, 3, NULL, 0);
     report("no items", &s, BYTES, RECORDER_REPORT_BYTES);
@@ -730,6 +731,14 @@ static void reports(void)
     step(&s, RECORDER_FLUSH, 0, 0);
     close_it(&s);
     report("closed", &s, BYTES, RECORDER_REPORT_BYTES);
+    memset(&short_hoists, 0, sizeof short_hoists);
+    open_with(&short_hoists, 3, three, sizeof three);
+    step(&short_hoists, RECORDER_WRITE, 0, 5);
+    report("5 minutes", &short_hoists, BYTES, RECORDER_REPORT_BYTES);
+    step(&short_hoists, RECORDER_WRITE, 0, 5);
+    report("5 minutes twice", &short_hoists, BYTES, RECORDER_REPORT_BYTES);
+    step(&short_hoists, RECORDER_READ, 0, 60);
+    report("and a read that names minutes", &short_hoists, BYTES, RECORDER_REPORT_BYTES);
     report("a page that just fits", &s, BYTES, 138);
     report("a byte too short", &s, BYTES, 137);
     report("no page", &s, BYTES, 0);
@@ -741,9 +750,10 @@ static void reports(void)
     foul.bytes[RECORDER_AT_RULE] = 2;
     report("a state whose rule is 2", &foul, BYTES, RECORDER_REPORT_BYTES);
     foul = s;
-    foul.bytes[RECORDER_AT_FORMAT] = 1;
+    foul.bytes[RECORDER_AT_FORMAT] = 2;
     report("a state of the layout before", &foul, BYTES, RECORDER_REPORT_BYTES);
-    report("and of its length", &foul, BYTES - 4, RECORDER_REPORT_BYTES);
+    foul.bytes[RECORDER_AT_FORMAT] = 1;
+    report("a state of the first layout, of its length", &foul, BYTES - 4, RECORDER_REPORT_BYTES);
     foul = s;
     foul.bytes[RECORDER_AT_RULE] = 1;
     report("a state of the other rule", &foul, BYTES, RECORDER_REPORT_BYTES);

@@ -39,7 +39,7 @@ pub struct Counts {
 /// And of an item.
 #[derive(Clone, Default)]
 pub struct ItemCounts {
-    pub tenths: u32,
+    pub minutes: u32,
     pub loads: u32,
     pub writebacks: u32,
 }
@@ -76,7 +76,7 @@ impl<'a> Cache<'a> {
                 let held = self.request(item);
                 held.dirty = true;
                 held.write_credit = full;
-                self.counts.items[item].tenths += minutes / 6;
+                self.counts.items[item].minutes += minutes;
             }
             Step::Flush => self.flush(),
         }

@@ -39,7 +39,9 @@ fn write_report(out: &mut String, counts: &Counts, names: &str, figures: &str) -
         writeln!(
             out,
             "{i} {} {} {}",
-            item.tenths, item.loads, item.writebacks
+            item.minutes / 6,
+            item.loads,
+            item.writebacks
         )?;
     }
     writeln!(

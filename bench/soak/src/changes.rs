@@ -89,7 +89,7 @@ fn limits(state: &State, field: usize, entry: usize) -> Vec<u64> {
     let it = &state.places[entry];
     let rest = |total: u64, own: u64| total.wrapping_sub(own);
     match FIELDS[field].at {
-        at::FORMAT => vec![2],
+        at::FORMAT => vec![3],
         at::K => vec![1, 4096, state.held_blocks()],
         at::N => vec![256, state.n],
         at::CLOSED => vec![1, 256],
@@ -109,7 +109,7 @@ fn limits(state: &State, field: usize, entry: usize) -> Vec<u64> {
         at::DIRTY => vec![1 << (entry % 64), u64::MAX],
         at::LOAD_CREDIT => vec![it.load * UNIT, it.blocks, it.load * UNIT + it.blocks],
         at::WRITE_CREDIT => vec![it.write * UNIT, it.blocks, it.write * UNIT + it.blocks],
-        at::TENTHS => vec![240 * state.steps],
+        at::MINUTES => vec![240 * state.steps, 1440 * state.steps],
         at::ITEM_LOADS => vec![it.loads, state.loads],
         at::ITEM_WRITEBACKS => vec![it.writebacks, state.writebacks],
         at::LOAD => vec![it.load_credit.div_ceil(UNIT), 65_535],

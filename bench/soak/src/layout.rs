@@ -35,7 +35,7 @@ pub const FIELDS: [Field; 24] = [
     field("dirty", at::DIRTY, 8, 4),
     field("loadcredit", at::LOAD_CREDIT, 8, 256),
     field("writecredit", at::WRITE_CREDIT, 8, 256),
-    field("tenths", at::TENTHS, 4, 256),
+    field("minutes", at::MINUTES, 4, 256),
     field("itemloads", at::ITEM_LOADS, 4, 256),
     field("itemwritebacks", at::ITEM_WRITEBACKS, 4, 256),
     field("load", at::LOAD, 2, 256),

@@ -16,7 +16,7 @@ pub struct Item {
     pub dirty: bool,
     pub load_credit: u64,
     pub write_credit: u64,
-    pub tenths: u64,
+    pub minutes: u64,
     pub loads: u64,
     pub writebacks: u64,
 }
@@ -50,7 +50,7 @@ fn place(s: &[u8], i: usize) -> Item {
         dirty: get(s, at::DIRTY + 8 * (i / 64), 8) >> (i % 64) & 1 == 1,
         load_credit: get(s, at::LOAD_CREDIT + 8 * i, 8),
         write_credit: get(s, at::WRITE_CREDIT + 8 * i, 8),
-        tenths: get(s, at::TENTHS + 4 * i, 4),
+        minutes: get(s, at::MINUTES + 4 * i, 4),
         loads: get(s, at::ITEM_LOADS + 4 * i, 4),
         writebacks: get(s, at::ITEM_WRITEBACKS + 4 * i, 4),
     }
@@ -130,7 +130,7 @@ const OF_PLACES: [Sentence; 15] = [
         s.every_past(|it| it.write_credit == 0)
     }),
     ("past n: counts 0", |s| {
-        s.every_past(|it| [it.tenths, it.loads, it.writebacks] == [0; 3])
+        s.every_past(|it| [it.minutes, it.loads, it.writebacks] == [0; 3])
     }),
     ("past n: blocks and costs 0", |s| {
         s.every_past(|it| [it.blocks, it.load, it.write] == [0; 3])
@@ -163,7 +163,7 @@ const OF_PLACES: [Sentence; 15] = [
 
 /// Sentences that speak of the state as a whole.
 const OF_THE_WHOLE: [Sentence; 18] = [
-    ("the number of the layout is 2", |s| s.format == 2),
+    ("the number of the layout is 3", |s| s.format == 3),
     ("the rule is 0 or 1", |s| s.rule <= 1),
     ("closed is 0 or 1", |s| s.closed <= 1),
     ("k is 1 to 4,096", |s| (1..=4096).contains(&s.k)),
@@ -195,8 +195,8 @@ const OF_THE_WHOLE: [Sentence; 18] = [
     ("items' writebacks add up", |s| {
         s.sum(|it| it.writebacks) == s.writebacks
     }),
-    ("tenths are at most 240 × steps", |s| {
-        s.items().iter().all(|it| it.tenths <= 240 * s.steps)
+    ("minutes are at most 1,440 × steps", |s| {
+        s.items().iter().all(|it| it.minutes <= 1440 * s.steps)
     }),
     ("closed: nothing dirty", |s| s.closed == 0 || s.dirty() == 0),
 ];

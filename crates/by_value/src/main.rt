@@ -51,16 +51,16 @@ fn write_row(minutes: u32) {
     print_count(b"W of minutes ", minutes);
     print_count(b": ", number(answer));
     let next = wrote.cache;
-    print_count(b", tenths ", next.tenths[0]);
+    print_count(b", minutes ", next.minutes[0]);
     io::write_all(1, b"\n");
 }
 
-// What the report says of item `i`.
+// What the report says of item `i`: tenths of an hour, in place of the minutes.
 fn print_item(c: Cache, i: usize)
     requires { ⌜ i < 256 ⌝ }
 {
     print(b"", i as u64);
-    print_count(b" ", c.tenths[i]);
+    print_count(b" ", c.minutes[i] / 6);
     print_count(b" ", c.itemloads[i]);
     print_count(b" ", c.itemwritebacks[i]);
     io::write_all(1, b"\n");

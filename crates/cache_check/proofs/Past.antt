@@ -16,14 +16,14 @@ use Rattle.cache_state.specs.InnerParts.{PastOk}
 use Rattle.validity.specs.InnerDecided.{Decided}
 use Rattle.validity.proofs.Decides.{clash}
 use Rattle.layout.specs.Layout.{cacheOf}
-use Rattle.layout.specs.InnerRows.{atLoadCredits, atWriteCredits, atTenths, atItemLoads, atItemWritebacks, atItemLoadCosts, atItemWriteCosts, atBlocks, atHeld}
+use Rattle.layout.specs.InnerRows.{atLoadCredits, atWriteCredits, atMinutes, atItemLoads, atItemWritebacks, atItemLoadCosts, atItemWriteCosts, atBlocks, atHeld}
 use Rattle.cache_check.specs.Inner.{BlankRun, BlankFlags}
 
 -- what the nine tests of runs find; the tenth is of the dirty marks
 pub record RunsBlank (b : List ℕ) (n : ℕ) : Type 0 where
   pub loadCredit : BlankRun b atLoadCredits 8 n
   pub writeCredit : BlankRun b atWriteCredits 8 n
-  pub tenths : BlankRun b atTenths 4 n
+  pub minutes : BlankRun b atMinutes 4 n
   pub loads : BlankRun b atItemLoads 4 n
   pub writebacks : BlankRun b atItemWritebacks 4 n
   pub load : BlankRun b atItemLoadCosts 2 n
@@ -37,7 +37,7 @@ module _ (b : List ℕ) (n : ℕ) (e : n ≡ cacheOf b .n) where
       record {
         loadCredit = record { each = λ i l m. here i l m .place .slot .loadCredit };
         writeCredit = record { each = λ i l m. here i l m .place .slot .writeCredit };
-        tenths = record { each = λ i l m. here i l m .place .tenths };
+        minutes = record { each = λ i l m. here i l m .place .minutes };
         loads = record { each = λ i l m. here i l m .place .loads };
         writebacks = record { each = λ i l m. here i l m .place .writebacks };
         load = record { each = λ i l m. here i l m .load };
@@ -66,7 +66,7 @@ module _ (b : List ℕ) (n : ℕ) (e : n ≡ cacheOf b .n) where
                                 loadCredit = a .loadCredit .each i k m;
                                 writeCredit = a .writeCredit .each i k m;
                               };
-                          tenths = a .tenths .each i k m;
+                          minutes = a .minutes .each i k m;
                           loads = a .loads .each i k m;
                           writebacks = a .writebacks .each i k m;
                         };

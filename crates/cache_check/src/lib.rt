@@ -56,7 +56,7 @@ fn past_ok(b: &[u8], n: usize) -> bool
     if !run_blank(b, layout::AT_WRITE_CREDITS, 8, n) {
         return false;
     }
-    if !run_blank(b, layout::AT_TENTHS, 4, n) {
+    if !run_blank(b, layout::AT_MINUTES, 4, n) {
         return false;
     }
     if !run_blank(b, layout::AT_ITEM_LOADS, 4, n) {
@@ -98,7 +98,7 @@ fn entries_ok(b: &[u8], n: usize) -> bool
             closed,
             layout::load_credit(b, i),
             layout::write_credit(b, i),
-            layout::tenths(b, i),
+            layout::minutes(b, i),
             steps,
         ) {
             return false;

@@ -31,7 +31,7 @@ empty-place k n blocks load write isClosed r i l =
     record {
       held = getD-replicate 256 i false false l;
       slot = record { dirty = unmarked i l; loadCredit = getD-replicate 256 i 0 0 l; writeCredit = getD-replicate 256 i 0 0 l };
-      tenths = getD-replicate 256 i 0 0 l;
+      minutes = getD-replicate 256 i 0 0 l;
       loads = getD-replicate 256 i 0 0 l;
       writebacks = getD-replicate 256 i 0 0 l;
     }
@@ -63,7 +63,7 @@ module _ (k n : ℕ) (item : ℕ → Item) (isClosed : Bool) (r : Deduction) (bl
       tab-eq n _ _
       (λ i m z.
       let p = place i (omega (arith, few)) in
-      record { tenths = p .tenths z; loads = p .loads z; writebacks = p .writebacks z })
+      record { minutes = p .minutes z; loads = p .loads z; writebacks = p .writebacks z })
 
   past : (i : ℕ) → n ≤ i → i < 256 → Blank new i
   past i m u = record { place = place i u; blocks = b .rest i m u; load = l .rest i m u; write = w .rest i m u }

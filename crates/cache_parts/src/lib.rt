@@ -9,7 +9,7 @@ ghost use Rattle.fields.specs.Inner.{runOf, flags};
 ghost use Rattle.landlord.specs.Types.{deductionNumber};
 ghost use Rattle.validity.specs.InnerDecided.{Decided};
 ghost use Rattle.layout.specs.Layout.{stateBytes, format};
-ghost use Rattle.layout.specs.InnerRows.{atFormat, atCapacity, atCount, atClosed, atSteps, atHits, atLoads, atEvictions, atDirtyEvictions, atWritebacks, atFlushes, atLoadCost, atWriteCost, atDirty, atLoadCredits, atWriteCredits, atTenths, atItemLoads, atItemWritebacks, atItemLoadCosts, atItemWriteCosts, atBlocks, atHeld, atRule, flag};
+ghost use Rattle.layout.specs.InnerRows.{atFormat, atCapacity, atCount, atClosed, atSteps, atHits, atLoads, atEvictions, atDirtyEvictions, atWritebacks, atFlushes, atLoadCost, atWriteCost, atDirty, atLoadCredits, atWriteCredits, atMinutes, atItemLoads, atItemWritebacks, atItemLoadCosts, atItemWriteCosts, atBlocks, atHeld, atRule, flag};
 ghost use Rattle.layout.proofs.Rows.{stored};
 ghost use Rattle.cache_open.specs.Inner.{BlocksOk};
 ghost use Rattle.cache_parts.specs.Inner.{FirstOf, Opens};
@@ -131,14 +131,14 @@ pub fn put_credits<'a>(b: &mut [u8], load: &'a [u64; 256], write: &'a [u64; 256]
 // Stores what the report says of each item.
 pub fn put_uses<'a>(
     b: &mut [u8],
-    tenths: &'a [u32; 256],
+    minutes: &'a [u32; 256],
     loads: &'a [u32; 256],
     writebacks: &'a [u32; 256],
 )
     requires { ⌜ length (now b) ≡ stateBytes ⌝ }
-    ensures { λ _. ⌜ now (b .exit) ≡ stored (now (b .entry)) ((atTenths, runOf 4 (now (tenths .entry))) ∷ (atItemLoads, runOf 4 (now (loads .entry))) ∷ (atItemWritebacks, runOf 4 (now (writebacks .entry))) ∷ []) ⌝ }
+    ensures { λ _. ⌜ now (b .exit) ≡ stored (now (b .entry)) ((atMinutes, runOf 4 (now (minutes .entry))) ∷ (atItemLoads, runOf 4 (now (loads .entry))) ∷ (atItemWritebacks, runOf 4 (now (writebacks .entry))) ∷ []) ⌝ }
 {
-    fields::put_run4(b, layout::AT_TENTHS, tenths);
+    fields::put_run4(b, layout::AT_MINUTES, minutes);
     fields::put_run4(b, layout::AT_ITEM_LOADS, loads);
     fields::put_run4(b, layout::AT_ITEM_WRITEBACKS, writebacks);
 }

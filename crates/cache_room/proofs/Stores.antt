@@ -51,7 +51,7 @@ slots-normal c h a b d ok past unheld unmarked =
           λ i l s. let x : Blank c i = ok .past i l s in
           let y : (getD h i false ≡ false) × Emptied (withSlots c h a b d) i = past i l s in
           record {
-            place = record { held = y .0; slot = y .1; tenths = x .place .tenths; loads = x .place .loads; writebacks = x .place .writebacks };
+            place = record { held = y .0; slot = y .1; minutes = x .place .minutes; loads = x .place .loads; writebacks = x .place .writebacks };
             blocks = x .blocks;
             load = x .load;
             write = x .write;
@@ -241,8 +241,8 @@ still n = sym (add-zero n)
 
 -- a line of the report to which nothing is added, whatever the test says
 same-use : (t : Bool) (u : Use) → u ≡ plusUse u (cond t noUse noUse)
-same-use true u = λ z. useOf (still (u .tenths) z) (still (u .loads) z) (still (u .writebacks) z)
-same-use false u = λ z. useOf (still (u .tenths) z) (still (u .loads) z) (still (u .writebacks) z)
+same-use true u = λ z. useOf (still (u .minutes) z) (still (u .loads) z) (still (u .writebacks) z)
+same-use false u = λ z. useOf (still (u .minutes) z) (still (u .loads) z) (still (u .writebacks) z)
 
 -- the eviction of item v is counted
 module _ (c : Cache) (v : ℕ) (sizes : EvictionSizes c) (ok : Normal c) (l : v < c .n) where
@@ -272,11 +272,11 @@ module _ (c : Cache) (v : ℕ) (sizes : EvictionSizes c) (ok : Normal c) (l : v 
   line false i e = same-use (eqb i v) (usageOf c i)
   line true i (yes e) =
       (λ z.
-      useOf (still (usageOf c i .tenths) z) (still (usageOf c i .loads) z)
+      useOf (still (usageOf c i .minutes) z) (still (usageOf c i .loads) z)
       ((ap (λ (j : ℕ). getD (counted true .itemwritebacks) j 0) e ∙ one-more ∙ ap (λ (j : ℕ). getD (c .itemwritebacks) j 0 + 1) (sym e)) z))
       ∙ sym (ap (λ (t : Bool). plusUse (usageOf c i) (cond t (usage (evicted v true)) noUse)) (eq-eqb i v e))
   line true i (no e) =
-      (λ z. useOf (usageOf c i .tenths) (usageOf c i .loads) (other-writebacks i e z))
+      (λ z. useOf (usageOf c i .minutes) (usageOf c i .loads) (other-writebacks i e z))
       ∙ same-use true (usageOf c i)
       ∙ sym (ap (λ (t : Bool). plusUse (usageOf c i) (cond t (usage (evicted v true)) noUse)) (ne-eqb i v e))
 

@@ -45,8 +45,8 @@ module _ (c : Cache) (ok : Valid c) (i : ℕ) (l : i < c .n) where
         ap (λ (u : Use). u .writebacks) (use-is c i l),
       )
 
-  pub item-tenths : getD (c .tenths) i 0 ≤ 240 * c .steps
-  item-tenths = omega (arith, ok .rule .tenths i inside, ap (λ (u : Use). u .tenths) (use-is c i l))
+  pub item-minutes : getD (c .minutes) i 0 ≤ 1440 * c .steps
+  item-minutes = omega (arith, ok .rule .minutes i inside, ap (λ (u : Use). u .minutes) (use-is c i l))
 
   item-ok : ItemFacts (itemOf c i)
   item-ok = rw (item-is c i l) at (catalog-facts (catalogOf c) (ok .rule .kept .catalog) .each i inside)

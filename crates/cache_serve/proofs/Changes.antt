@@ -27,7 +27,7 @@ pub record SameAt (c r : Cache) (j : ℕ) : Type 0 where
   pub loadCredit : getD (r .loadcredit) j 0 ≡ getD (c .loadcredit) j 0
   pub writeCredit : getD (r .writecredit) j 0 ≡ getD (c .writecredit) j 0
   pub dirty : dirtyAt r j ≡ dirtyAt c j
-  pub tenths : getD (r .tenths) j 0 ≡ getD (c .tenths) j 0
+  pub minutes : getD (r .minutes) j 0 ≡ getD (c .minutes) j 0
   pub loads : getD (r .itemloads) j 0 ≡ getD (c .itemloads) j 0
   pub writebacks : getD (r .itemwritebacks) j 0 ≡ getD (c .itemwritebacks) j 0
 
@@ -56,7 +56,7 @@ slot-same : (c r : Cache) (j : ℕ) → SameAt c r j → slotOf r j ≡ slotOf c
 slot-same c r j s = λ z. slotFrom (s .held z) (s .dirty z) (s .loadCredit z) (s .writeCredit z)
 
 use-same : (c r : Cache) (j : ℕ) → SameAt c r j → usageOf r j ≡ usageOf c j
-use-same c r j s = λ z. useOf (s .tenths z) (s .loads z) (s .writebacks z)
+use-same c r j s = λ z. useOf (s .minutes z) (s .loads z) (s .writebacks z)
 
 catalog-same : (c r : Cache) (i : ℕ) → OnlyAt c r i → catalogOf r ≡ catalogOf c
 unfolding catalogOf
@@ -72,7 +72,7 @@ slots-but c r i o few l =
 
 -- a line to which nothing is added
 pub plus-none : (u : Use) → u ≡ plusUse u noUse
-plus-none u = sym (λ z. useOf (add-zero (u .tenths) z) (add-zero (u .loads) z) (add-zero (u .writebacks) z))
+plus-none u = sym (λ z. useOf (add-zero (u .minutes) z) (add-zero (u .loads) z) (add-zero (u .writebacks) z))
 
 -- the items' lines after an event
 pub uses-by :
@@ -161,7 +161,7 @@ normal-but c r i o ok l here spent =
               record {
                 held = s .held ∙ x .place .held;
                 slot = emptied j s (x .place .slot);
-                tenths = s .tenths ∙ x .place .tenths;
+                minutes = s .minutes ∙ x .place .minutes;
                 loads = s .loads ∙ x .place .loads;
                 writebacks = s .writebacks ∙ x .place .writebacks;
               };

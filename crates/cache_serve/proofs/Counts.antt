@@ -6,10 +6,9 @@ use mathlib.Core.List.{List}
 use Prim.Native.Nat.{ℕ, _+_}
 use lib.ListN.{getD, set}
 use Rattle.landlord.specs.Catalog.{full}
-use Rattle.landlord.specs.Figures.{tenthsOf}
 use Rattle.marks.specs.Inner.{marks}
 use Rattle.cache_state.specs.Cache.{Cache}
-use Rattle.cache_state.specs.InnerWith.{withSteps, withHits, withLoads, withWritebacks, withFlushes, withLoadCost, withWriteCost, withHeld, withDirty, withLoadCredit, withWriteCredit, withTenths, withItemLoads, withItemWritebacks}
+use Rattle.cache_state.specs.InnerWith.{withSteps, withHits, withLoads, withWritebacks, withFlushes, withLoadCost, withWriteCost, withHeld, withDirty, withLoadCredit, withWriteCredit, withMinutes, withItemLoads, withItemWritebacks}
 use Rattle.layout.specs.Layout.{cacheOf}
 use Rattle.layout.specs.Inner.{Stands}
 use Rattle.layout.proofs.Places.{readable, stands-as}
@@ -68,17 +67,16 @@ pub credit-filled :
 credit-filled b left i ec s = stands-as s (λ z. withLoadCredit (cacheOf b) i (ec z))
 
 pub write-counted :
-    (b b1 b2 left : List ℕ) (i minutes : ℕ) {words marked : List ℕ} {credit sofar more : ℕ} →
+    (b b1 b2 left : List ℕ) (i minutes : ℕ) {words marked : List ℕ} {credit sofar : ℕ} →
     words ≡ cacheOf b .dirty →
     credit ≡ full (getD (cacheOf b .write) i 0) →
-    sofar ≡ getD (cacheOf b .tenths) i 0 →
-    more ≡ tenthsOf minutes →
+    sofar ≡ getD (cacheOf b .minutes) i 0 →
     marks marked ≡ set (marks words) i true →
     Stands b1 (withDirty (cacheOf b) marked) →
     Stands b2 (withWriteCredit (cacheOf b1) i credit) →
-    Stands left (withTenths (cacheOf b2) i (sofar + more)) →
+    Stands left (withMinutes (cacheOf b2) i (sofar + minutes)) →
     WroteAt b i minutes left
-write-counted b b1 b2 left i minutes {words} {marked} {credit} {sofar} {more} ew ec et em mark s1 s2 s3 =
+write-counted b b1 b2 left i minutes {words} {marked} {credit} {sofar} ew ec es mark s1 s2 s3 =
     record {
       reads = readable s3;
       cache =
@@ -91,8 +89,8 @@ write-counted b b1 b2 left i minutes {words} {marked} {credit} {sofar} {more} ew
     is : cacheOf left ≡ writtenOf (cacheOf b) i minutes marked
     is =
         s3 .cache
-        ∙ ap (λ (q : Cache). withTenths q i (sofar + more)) (s2 .cache ∙ ap (λ (q : Cache). withWriteCredit q i credit) (s1 .cache))
-        ∙ (λ z. withTenths (withWriteCredit (withDirty (cacheOf b) marked) i (ec z)) i (et z + em z))
+        ∙ ap (λ (q : Cache). withMinutes q i (sofar + minutes)) (s2 .cache ∙ ap (λ (q : Cache). withWriteCredit q i credit) (s1 .cache))
+        ∙ (λ z. withMinutes (withWriteCredit (withDirty (cacheOf b) marked) i (ec z)) i (es z + minutes))
 
     words-are : cacheOf left .dirty ≡ marked
     words-are = ap (λ (q : Cache). q .dirty) is

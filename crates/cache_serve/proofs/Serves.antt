@@ -12,7 +12,7 @@ use Rattle.landlord.specs.Fold.{fold}
 use Rattle.landlord.specs.Catalog.{Item, full, itemAt}
 use Rattle.landlord.specs.Slot.{Slot, absent, clean, dirty, held, brought, refilled, written}
 use Rattle.landlord.specs.Rule.{State, Event, hit, loaded, wrote, Moved, size, slotAt, putSlot, found, readSlot, serveRead, serveWrite}
-use Rattle.landlord.specs.Figures.{Use, Standing, usage, isAbout, plusTotals, plusUse, noUse, useAt, adds, tenthsOf, moved}
+use Rattle.landlord.specs.Figures.{Use, Standing, usage, isAbout, plusTotals, plusUse, noUse, useAt, adds, moved}
 use Rattle.landlord.proofs.Folds.{tab-at}
 use Rattle.landlord.proofs.Slots.{read-held}
 use Rattle.landlord.proofs.Keeps.{put-same}
@@ -26,7 +26,7 @@ use Rattle.layout.specs.InnerRows.{WholeArrays}
 use Rattle.cache_serve.specs.InnerStores.{hitOf, loadedOf, refilledOf, writtenOf, Wrote}
 use Rattle.cache_serve.specs.InnerReady.{Servable, Writable}
 use Rattle.cache_serve.proofs.Changes.{OnlyAt, stands-but, normal-but, plus-none}
-use Rattle.cache_serve.proofs.Bounds.{item-tenths}
+use Rattle.cache_serve.proofs.Bounds.{item-minutes}
 
 -- a slot that is read: held from now on, the load credit full, the rest as it was
 read-slot : (h d : Bool) (a b top : ℕ) → (h ≡ false → d ≡ false) → slotFrom true d top b ≡ refilled top (brought (slotFrom h d a b))
@@ -94,7 +94,7 @@ read-hit c i s ok h =
             loadCredit = getD-set-other (c .loadcredit) i j (full (getD (c .load) i 0)) 0 e;
             writeCredit = refl;
             dirty = refl;
-            tenths = refl;
+            minutes = refl;
             loads = refl;
             writebacks = refl;
           };
@@ -131,7 +131,7 @@ read-load c i s ok h =
             loadCredit = getD-set-other (c .loadcredit) i j (full (getD (c .load) i 0)) 0 e;
             writeCredit = refl;
             dirty = refl;
-            tenths = refl;
+            minutes = refl;
             loads = getD-set-other (c .itemloads) i j (getD (c .itemloads) i 0 + 1) 0 e;
             writebacks = refl;
           };
@@ -177,8 +177,8 @@ wrote-becomes c i minutes d s ok l h m =
     place : i < 256
     place = omega (arith, ok .few)
 
-    more : getD (set (c .tenths) i (getD (c .tenths) i 0 + tenthsOf minutes)) i 0 ≡ getD (c .tenths) i 0 + tenthsOf minutes
-    more = getD-set-same (c .tenths) i (getD (c .tenths) i 0 + tenthsOf minutes) 0 (omega (arith, s .tenths, ok .few))
+    more : getD (set (c .minutes) i (getD (c .minutes) i 0 + minutes)) i 0 ≡ getD (c .minutes) i 0 + minutes
+    more = getD-set-same (c .minutes) i (getD (c .minutes) i 0 + minutes) 0 (omega (arith, s .minutes, ok .few))
 
     filled : getD (set (c .writecredit) i (full (getD (c .write) i 0))) i 0 ≡ full (getD (c .write) i 0)
     filled = getD-set-same (c .writecredit) i (full (getD (c .write) i 0)) 0 (omega (arith, s .writecredit, ok .few))
@@ -197,7 +197,7 @@ wrote-becomes c i minutes d s ok l h m =
                 loadCredit = refl;
                 writeCredit = getD-set-other (c .writecredit) i j (full (getD (c .write) i 0)) 0 e;
                 dirty = marked-set-other (c .dirty) d i true m j b e;
-                tenths = getD-set-other (c .tenths) i j (getD (c .tenths) i 0 + tenthsOf minutes) 0 e;
+                minutes = getD-set-other (c .minutes) i j (getD (c .minutes) i 0 + minutes) 0 e;
                 loads = refl;
                 writebacks = refl;
               };
@@ -225,31 +225,31 @@ module _ (c q : Cache) (i : ℕ) (ok : Servable c i) (read : Becomes (moved (vie
       ∙ ap held (put-same (stateOf c) i (readSlot (stateOf c) i) (omega (arith, slots-length c, ok .item)))
       ∙ read-held (full (itemAt (catalogOf c) i .load)) (slotAt (stateOf c) i)
 
-  -- neither a hit nor a load counts tenths
-  no-tenths : (t u : Bool) → cond u (usage (cond t (hit i) (loaded i))) noUse .tenths ≡ 0
-  no-tenths true true = refl
-  no-tenths true false = refl
-  no-tenths false true = refl
-  no-tenths false false = refl
+  -- neither a hit nor a load counts minutes
+  no-minutes : (t u : Bool) → cond u (usage (cond t (hit i) (loaded i))) noUse .minutes ≡ 0
+  no-minutes true true = refl
+  no-minutes true false = refl
+  no-minutes false true = refl
+  no-minutes false false = refl
 
-  same-tenths : getD (q .tenths) i 0 ≡ getD (c .tenths) i 0
+  same-minutes : getD (q .minutes) i 0 ≡ getD (c .minutes) i 0
   unfolding fold
-  same-tenths =
+  same-minutes =
       let e : Event = found (stateOf c) i in
-      sym (ap (λ (u : Use). u .tenths) (use-is q i still-in))
-      ∙ ap (λ (v : Standing). useAt (v .figures) i .tenths) (read .stands)
-      ∙ ap (λ (u : Use). u .tenths)
+      sym (ap (λ (u : Use). u .minutes) (use-is q i still-in))
+      ∙ ap (λ (v : Standing). useAt (v .figures) i .minutes) (read .stands)
+      ∙ ap (λ (u : Use). u .minutes)
       (tab-at (size (stateOf c)) (λ j. plusUse (useAt (figuresOf c) j) (cond (isAbout j e) (usage e) noUse)) i noUse
       (omega (arith, size-is c, ok .item)))
-      ∙ (λ z. use-is c i (ok .item) z .tenths + no-tenths (held (slotAt (stateOf c) i)) (isAbout i e) z)
-      ∙ add-zero (getD (c .tenths) i 0)
+      ∙ (λ z. use-is c i (ok .item) z .minutes + no-minutes (held (slotAt (stateOf c) i)) (isAbout i e) z)
+      ∙ add-zero (getD (c .minutes) i 0)
 
   pub writable : (minutes : ℕ) → minutes ≤ 1440 → Writable q i minutes
   writable minutes short =
       record {
         place = omega (arith, ok .item, ok .valid .fields .few);
         short = short;
-        tenths = omega (arith, same-tenths, item-tenths c (ok .valid) i (ok .item), ok .room);
+        sofar = omega (arith, same-minutes, item-minutes c (ok .valid) i (ok .item), ok .room);
       }
 
   pub write-becomes :

@@ -92,7 +92,7 @@ back-becomes c i d s ok l due m =
                 loadCredit = refl;
                 writeCredit = getD-set-other (c .writecredit) i j 0 0 e;
                 dirty = marked-set-other (c .dirty) d i false m j b e;
-                tenths = refl;
+                minutes = refl;
                 loads = refl;
                 writebacks = getD-set-other (c .itemwritebacks) i j (getD (c .itemwritebacks) i 0 + 1) 0 e;
               };
@@ -225,7 +225,7 @@ flushed-valid c ok =
             uses = v .uses;
             loadsAdd = v .loadsAdd;
             writebacksAdd = v .writebacksAdd;
-            tenths = λ i l. omega (arith, v .tenths i l);
+            minutes = λ i l. omega (arith, v .minutes i l);
             closed = v .closed;
           };
     }

@@ -16,11 +16,11 @@ pub record Servable (c : Cache) (i : ℕ) : Type 0 where
   pub item : i < c .n
   pub room : c .steps < 1000000
 
--- a write of item i can be counted: "a write with minutes 0 to 1,440", and tenths at most 240 × steps
+-- a write of item i can be counted: "a write with minutes 0 to 1,440", and those so far at most 1,440 × steps
 pub record Writable (c : Cache) (i minutes : ℕ) : Type 0 where
   pub place : i < 256
   pub short : minutes ≤ 1440
-  pub tenths : getD (c .tenths) i 0 ≤ 240000000
+  pub sofar : getD (c .minutes) i 0 ≤ 1440000000
 
 -- item i can be written back, and that counted. Writebacks are at most 1,000,000, one for each step, before a flush, which adds at
 -- most one for each of the 256 numbers.

@@ -2,7 +2,7 @@
 use mathlib.Core.{Path._≡_, Bool.{true, false}, List.List}
 use Prim.Native.Nat.{ℕ, _+_}
 use lib.ListN.{getD, set}
-use Rattle.landlord.specs.{Catalog.full, Figures.{totalsOf, tenthsOf}}
+use Rattle.landlord.specs.{Catalog.full, Figures.totalsOf}
 use Rattle.marks.specs.Inner.{marks}
 use Rattle.cache_state.specs.{Cache.Cache, InnerView.countsOf}
 use Rattle.layout.specs.{Layout.cacheOf, Inner.Readable}
@@ -11,14 +11,14 @@ pub use Rattle.cache_state.specs.InnerWith.{withSlots, withFigures}
 -- a hit counted: one step, one hit
 abbrev pub hitOf : Cache → Cache
 hitOf c =
-    withFigures c (c .tenths) (c .itemloads) (c .itemwritebacks)
+    withFigures c (c .minutes) (c .itemloads) (c .itemwritebacks)
     (totalsOf (c .steps + 1) (c .hits + 1) (c .loads) (c .loadcost) (c .evictions) (c .dirtyevictions) (c .writebacks) (c .writecost) (c .flushes))
 
 -- item i loaded, and that counted: one step, one load, which costs the item's load cost
 abbrev pub loadedOf : Cache → ℕ → Cache
 loadedOf c i =
     withFigures (withSlots c (set (c .held) i true) (c .loadcredit) (c .writecredit) (c .dirty))
-    (c .tenths) (set (c .itemloads) i (getD (c .itemloads) i 0 + 1)) (c .itemwritebacks)
+    (c .minutes) (set (c .itemloads) i (getD (c .itemloads) i 0 + 1)) (c .itemwritebacks)
     (totalsOf (c .steps + 1) (c .hits) (c .loads + 1) (c .loadcost + getD (c .load) i 0) (c .evictions) (c .dirtyevictions)
     (c .writebacks) (c .writecost) (c .flushes))
 
@@ -26,24 +26,24 @@ loadedOf c i =
 abbrev pub refilledOf : Cache → ℕ → Cache
 refilledOf c i = withSlots c (c .held) (set (c .loadcredit) i (full (getD (c .load) i 0))) (c .writecredit) (c .dirty)
 
--- item i written for so many minutes: its write credit full, its tenths counted, and these marks
+-- item i written for so many minutes: its write credit full, its minutes counted, and these marks
 abbrev pub writtenOf : Cache → ℕ → ℕ → List ℕ → Cache
 writtenOf c i minutes marked =
     withFigures (withSlots c (c .held) (c .loadcredit) (set (c .writecredit) i (full (getD (c .write) i 0))) marked)
-    (set (c .tenths) i (getD (c .tenths) i 0 + tenthsOf minutes)) (c .itemloads) (c .itemwritebacks) (countsOf c)
+    (set (c .minutes) i (getD (c .minutes) i 0 + minutes)) (c .itemloads) (c .itemwritebacks) (countsOf c)
 
 -- item i written back, and that counted: its write credit 0, and these marks
 abbrev pub wroteBackOf : Cache → ℕ → List ℕ → Cache
 wroteBackOf c i marked =
     withFigures (withSlots c (c .held) (c .loadcredit) (set (c .writecredit) i 0) marked)
-    (c .tenths) (c .itemloads) (set (c .itemwritebacks) i (getD (c .itemwritebacks) i 0 + 1))
+    (c .minutes) (c .itemloads) (set (c .itemwritebacks) i (getD (c .itemwritebacks) i 0 + 1))
     (totalsOf (c .steps) (c .hits) (c .loads) (c .loadcost) (c .evictions) (c .dirtyevictions)
     (c .writebacks + 1) (c .writecost + getD (c .write) i 0) (c .flushes))
 
 -- a flush of the log counted: one step, one flush
 abbrev pub flushedOf : Cache → Cache
 flushedOf c =
-    withFigures c (c .tenths) (c .itemloads) (c .itemwritebacks)
+    withFigures c (c .minutes) (c .itemloads) (c .itemwritebacks)
     (totalsOf (c .steps + 1) (c .hits) (c .loads) (c .loadcost) (c .evictions) (c .dirtyevictions) (c .writebacks) (c .writecost) (c .flushes + 1))
 
 -- A store that sets or clears a mark: which words hold the marks is left to crate marks.

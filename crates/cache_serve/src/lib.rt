@@ -6,7 +6,7 @@ ghost use mathlib.Core.Path.{_≡_};
 ghost use Rattle.landlord.specs.declared.Step.the-variants.{Flush};
 ghost use Rattle.landlord.specs.Catalog.{full};
 ghost use Rattle.landlord.specs.Rule.{serveRead, serveWrite, flush};
-ghost use Rattle.landlord.specs.Figures.{tenthsOf, moved, took};
+ghost use Rattle.landlord.specs.Figures.{moved, took};
 ghost use Rattle.cache_state.specs.Cache.{view};
 ghost use Rattle.cache_state.specs.InnerView.{stateOf};
 ghost use Rattle.layout.specs.Layout.{cacheOf, ValidBytes};
@@ -26,14 +26,6 @@ fn shares(price: u16) -> u64
     ensures { λ r. ⌜ r ≡ full price ⌝ }
 {
     cost(price) * 720720
-}
-
-// The whole tenths of an hour in so many minutes.
-fn whole_tenths(minutes: u32) -> u32
-    requires { ⌜ minutes ≤ 1440 ⌝ }
-    ensures { λ r. ⌜ (r ≡ tenthsOf minutes) × (r ≤ 240) ⌝ }
-{
-    minutes / 6
 }
 
 // A request for an item that is held.
@@ -74,17 +66,17 @@ fn refill(b: &mut [u8], i: usize)
     layout::put_load_credit(b, i, credit);
 }
 
-// A write also makes the item dirty, fills its write credit, and counts the tenths of an hour that it took.
+// A write also makes the item dirty, fills its write credit, and counts its minutes.
 fn count_write(b: &mut [u8], i: usize, minutes: u32)
     requires { ⌜ WritableAt (now b) i minutes ⌝ }
     ensures { λ _. ⌜ WroteAt (now (b .entry)) i minutes (now (b .exit)) ⌝ }
 {
     let words = layout::dirty(b);
     let credit = shares(layout::item_write_cost(b, i));
-    let tenths = layout::tenths(b, i);
+    let sofar = layout::minutes(b, i);
     layout::put_dirty(b, marks::mark(words, i));
     layout::put_write_credit(b, i, credit);
-    layout::put_tenths(b, i, tenths + whole_tenths(minutes));
+    layout::put_minutes(b, i, sofar + minutes);
 }
 
 // A dirty item is written back: it pays its write cost, loses its write credit, and is clean. Its load credit remains.

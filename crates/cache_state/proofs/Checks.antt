@@ -200,7 +200,7 @@ valid-of c w p = record { fields = v; rule = rule }
           uses = uses-length c ∙ sym (size-is c);
           loadsAdd = sum-loads c ∙ p .sums .loadsAdd;
           writebacksAdd = sum-writebacks c ∙ p .sums .writebacksAdd;
-          tenths = λ i l. rw (use-is c i (below i l)) (p .entries .each i (below i l) .tenthsTop);
+          minutes = λ i l. rw (use-is c i (below i l)) (p .entries .each i (below i l) .minutesTop);
           closed = λ e i l. dirty-here c v i (below i l) ∙ p .entries .each i (below i l) .marks .closedClean e;
         }
 
@@ -218,7 +218,7 @@ entry-of c o i l =
           };
       loads = record { whole = rw (load-here c v i l) at (s .wholeLoad); top = rw (load-here c v i l) at (s .loadTop) };
       writes = record { whole = rw (write-here c v i l) at (s .wholeWrite); top = rw (write-here c v i l) at (s .writeTop) };
-      tenthsTop = rw (use-is c i l) at (o .rule .tenths i m);
+      minutesTop = rw (use-is c i l) at (o .rule .minutes i m);
     }
   where
     v : Normal c

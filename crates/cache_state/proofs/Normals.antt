@@ -11,7 +11,7 @@ use Rattle.cache_state.specs.InnerWith.{withFigures, withClosed}
 
 module _ (c : Cache) (ws : List ℕ) (t : Totals) (isClosed : Bool) (ok : Normal c) (none : (i : ℕ) → c .n ≤ i → i < 256 → getD ws i 0 ≡ 0) where
   abbrev counted : Cache
-  counted = withClosed (withFigures c (c .tenths) (c .itemloads) ws t) isClosed
+  counted = withClosed (withFigures c (c .minutes) (c .itemloads) ws t) isClosed
 
   -- the slots are as they were
   slot-same : (i : ℕ) → Emptied c i → Emptied counted i
@@ -25,7 +25,7 @@ module _ (c : Cache) (ws : List ℕ) (t : Totals) (isClosed : Bool) (ok : Normal
             record {
               held = x .place .held;
               slot = slot-same i (x .place .slot);
-              tenths = x .place .tenths;
+              minutes = x .place .minutes;
               loads = x .place .loads;
               writebacks = none i l m;
             };
@@ -34,5 +34,5 @@ module _ (c : Cache) (ws : List ℕ) (t : Totals) (isClosed : Bool) (ok : Normal
         write = x .write;
       }
 
-  pub figures-normal : Normal (withClosed (withFigures c (c .tenths) (c .itemloads) ws t) isClosed)
+  pub figures-normal : Normal (withClosed (withFigures c (c .minutes) (c .itemloads) ws t) isClosed)
   figures-normal = record { few = ok .few; past = past; absent = λ i l e. slot-same i (ok .absent i l e); clean = ok .clean }

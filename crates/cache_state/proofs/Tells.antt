@@ -31,7 +31,7 @@ pub record Sizes (c : Cache) : Type 0 where
   pub writeCredit : length (c .writecredit) ≡ 256
   pub dirty : length (c .dirty) ≡ 4
   pub words : (k : ℕ) → getD (c .dirty) k 0 < 2 ^ 64
-  pub tenths : length (c .tenths) ≡ 256
+  pub minutes : length (c .minutes) ≡ 256
   pub loads : length (c .itemloads) ≡ 256
   pub writebacks : length (c .itemwritebacks) ≡ 256
 
@@ -88,9 +88,9 @@ module _ (c d : Cache) (sc : Sizes c) (sd : Sizes d) (nc : Normal c) (nd : Norma
   same-writecredit =
       agree 0 (c .writecredit) (d .writecredit) (sc .writeCredit) (sd .writeCredit) (λ i l m. sym (write-here c nc i l) ∙ ap writeCredit (slot i) ∙ write-here d nd i m) (λ i l b. nc .past i l b .place .slot .writeCredit) (λ i l b. nd .past i l b .place .slot .writeCredit)
 
-  same-tenths : c .tenths ≡ d .tenths
-  same-tenths =
-      agree 0 (c .tenths) (d .tenths) (sc .tenths) (sd .tenths) (λ i l m. ap (λ (u : Use). u .tenths) (line i l m)) (λ i l b. nc .past i l b .place .tenths) (λ i l b. nd .past i l b .place .tenths)
+  same-minutes : c .minutes ≡ d .minutes
+  same-minutes =
+      agree 0 (c .minutes) (d .minutes) (sc .minutes) (sd .minutes) (λ i l m. ap (λ (u : Use). u .minutes) (line i l m)) (λ i l b. nc .past i l b .place .minutes) (λ i l b. nd .past i l b .place .minutes)
 
   same-itemloads : c .itemloads ≡ d .itemloads
   same-itemloads =
@@ -129,7 +129,7 @@ module _ (c d : Cache) (sc : Sizes c) (sd : Sizes d) (nc : Normal c) (nd : Norma
         loadcredit = same-loadcredit j;
         writecredit = same-writecredit j;
         dirty = same-dirty j;
-        tenths = same-tenths j;
+        minutes = same-minutes j;
         itemloads = same-itemloads j;
         itemwritebacks = same-itemwritebacks j;
         steps = e j .figures .totals .steps;

@@ -21,7 +21,7 @@ pub record Cache : Type 0 where
   pub writecredit : List ℕ
   -- the words of the marks, one mark for each item that is dirty
   pub dirty : List ℕ
-  pub tenths : List ℕ
+  pub minutes : List ℕ
   pub itemloads : List ℕ
   pub itemwritebacks : List ℕ
   pub steps : ℕ
@@ -54,7 +54,7 @@ unfoldable pub slotsOf : Cache → List Slot
 slotsOf c = tab (c .n) (slotOf c)
 
 unfoldable pub usesOf : Cache → List Use
-usesOf c = tab (c .n) (λ i. useOf (getD (c .tenths) i 0) (getD (c .itemloads) i 0) (getD (c .itemwritebacks) i 0))
+usesOf c = tab (c .n) (λ i. useOf (getD (c .minutes) i 0) (getD (c .itemloads) i 0) (getD (c .itemwritebacks) i 0))
 
 -- where the rule stands
 abbrev pub view : Cache → Standing
@@ -80,7 +80,7 @@ pub record Emptied (c : Cache) (i : ℕ) : Type 0 where
 pub record EmptyPlace (c : Cache) (i : ℕ) : Type 0 where
   pub held : getD (c .held) i false ≡ false
   pub slot : Emptied c i
-  pub tenths : getD (c .tenths) i 0 ≡ 0
+  pub minutes : getD (c .minutes) i 0 ≡ 0
   pub loads : getD (c .itemloads) i 0 ≡ 0
   pub writebacks : getD (c .itemwritebacks) i 0 ≡ 0
 

@@ -16,7 +16,7 @@ pub record PastOk (c : Cache) : Type 0 where
 abbrev pub EntryAt : Cache → ℕ → Type 0
 EntryAt c i =
     EntryOk (getD (c .blocks) i 0) (getD (c .load) i 0) (getD (c .write) i 0) (getD (c .held) i false) (dirtyAt c i) (c .closed)
-    (getD (c .loadcredit) i 0) (getD (c .writecredit) i 0) (getD (c .tenths) i 0) (c .steps)
+    (getD (c .loadcredit) i 0) (getD (c .writecredit) i 0) (getD (c .minutes) i 0) (c .steps)
 
 -- every item of the catalog is as it should be
 pub record EntriesOk (c : Cache) : Type 0 where

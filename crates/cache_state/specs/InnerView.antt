@@ -11,7 +11,7 @@ itemOf c i = record { blocks = getD (c .blocks) i 0; load = getD (c .load) i 0; 
 
 -- the report's line of item i
 abbrev pub usageOf : Cache → ℕ → Use
-usageOf c i = useOf (getD (c .tenths) i 0) (getD (c .itemloads) i 0) (getD (c .itemwritebacks) i 0)
+usageOf c i = useOf (getD (c .minutes) i 0) (getD (c .itemloads) i 0) (getD (c .itemwritebacks) i 0)
 
 -- a slot from its marks and credits
 abbrev pub slotFrom : Bool → Bool → ℕ → ℕ → Slot

@@ -20,7 +20,7 @@ withCatalog c capacity count sizes loads writes =
       loadcredit = c .loadcredit;
       writecredit = c .writecredit;
       dirty = c .dirty;
-      tenths = c .tenths;
+      minutes = c .minutes;
       itemloads = c .itemloads;
       itemwritebacks = c .itemwritebacks;
       steps = c .steps;
@@ -49,7 +49,7 @@ withSlots c holds loads writes marked =
       loadcredit = loads;
       writecredit = writes;
       dirty = marked;
-      tenths = c .tenths;
+      minutes = c .minutes;
       itemloads = c .itemloads;
       itemwritebacks = c .itemwritebacks;
       steps = c .steps;
@@ -65,9 +65,9 @@ withSlots c holds loads writes marked =
       rule = c .rule;
     }
 
--- a cache with other figures: tenths, loads and writebacks of each item, and the totals
+-- a cache with other figures: minutes, loads and writebacks of each item, and the totals
 abbrev pub withFigures : Cache → List ℕ → List ℕ → List ℕ → Totals → Cache
-withFigures c tenthsNow loads writes t =
+withFigures c minutesNow loads writes t =
     record {
       k = c .k;
       n = c .n;
@@ -78,7 +78,7 @@ withFigures c tenthsNow loads writes t =
       loadcredit = c .loadcredit;
       writecredit = c .writecredit;
       dirty = c .dirty;
-      tenths = tenthsNow;
+      minutes = minutesNow;
       itemloads = loads;
       itemwritebacks = writes;
       steps = t .steps;
@@ -107,7 +107,7 @@ withMode c isClosed r =
       loadcredit = c .loadcredit;
       writecredit = c .writecredit;
       dirty = c .dirty;
-      tenths = c .tenths;
+      minutes = c .minutes;
       itemloads = c .itemloads;
       itemwritebacks = c .itemwritebacks;
       steps = c .steps;
@@ -163,19 +163,19 @@ withDirty c words = withSlots c (c .held) (c .loadcredit) (c .writecredit) words
 
 -- ---- what is counted for item i
 
-abbrev pub withTenths : Cache → ℕ → ℕ → Cache
-withTenths c i v = withFigures c (set (c .tenths) i v) (c .itemloads) (c .itemwritebacks) (countsOf c)
+abbrev pub withMinutes : Cache → ℕ → ℕ → Cache
+withMinutes c i v = withFigures c (set (c .minutes) i v) (c .itemloads) (c .itemwritebacks) (countsOf c)
 
 abbrev pub withItemLoads : Cache → ℕ → ℕ → Cache
-withItemLoads c i v = withFigures c (c .tenths) (set (c .itemloads) i v) (c .itemwritebacks) (countsOf c)
+withItemLoads c i v = withFigures c (c .minutes) (set (c .itemloads) i v) (c .itemwritebacks) (countsOf c)
 
 abbrev pub withItemWritebacks : Cache → ℕ → ℕ → Cache
-withItemWritebacks c i v = withFigures c (c .tenths) (c .itemloads) (set (c .itemwritebacks) i v) (countsOf c)
+withItemWritebacks c i v = withFigures c (c .minutes) (c .itemloads) (set (c .itemwritebacks) i v) (countsOf c)
 
 -- ---- the totals
 
 abbrev pub withTotals : Cache → Totals → Cache
-withTotals c t = withFigures c (c .tenths) (c .itemloads) (c .itemwritebacks) t
+withTotals c t = withFigures c (c .minutes) (c .itemloads) (c .itemwritebacks) t
 
 abbrev pub withSteps : Cache → ℕ → Cache
 withSteps c v =

@@ -19,7 +19,7 @@ pub fn encode(c: Cache, b: &mut [u8])
     let rule = c.rule;
     cache_parts::put_costs(b, c.loadcost, c.writecost, dirty);
     cache_parts::put_credits(b, &c.loadcredit, &c.writecredit);
-    cache_parts::put_uses(b, &c.tenths, &c.itemloads, &c.itemwritebacks);
+    cache_parts::put_uses(b, &c.minutes, &c.itemloads, &c.itemwritebacks);
     cache_parts::put_catalog(b, &c.load, &c.write, &c.blocks, &c.held, rule);
 }
 
@@ -44,7 +44,7 @@ pub fn decode(b: &[u8]) -> Cache
         dirty: layout::dirty(b),
         loadcredit: fields::get_run8(b, layout::AT_LOAD_CREDITS),
         writecredit: fields::get_run8(b, layout::AT_WRITE_CREDITS),
-        tenths: fields::get_run4(b, layout::AT_TENTHS),
+        minutes: fields::get_run4(b, layout::AT_MINUTES),
         itemloads: fields::get_run4(b, layout::AT_ITEM_LOADS),
         itemwritebacks: fields::get_run4(b, layout::AT_ITEM_WRITEBACKS),
         load: fields::get_run2(b, layout::AT_ITEM_LOAD_COSTS),

@@ -29,7 +29,7 @@ pub struct Cache {
     pub writecredit: [u64; 256],
     // 256 marks, one for each item that is dirty
     pub dirty: [u64; 4],
-    pub tenths: [u32; 256],
+    pub minutes: [u32; 256],
     pub itemloads: [u32; 256],
     pub itemwritebacks: [u32; 256],
     pub steps: u32,
@@ -88,7 +88,7 @@ fn empty(
         loadcredit: [0; 256],
         writecredit: [0; 256],
         dirty: [0; 4],
-        tenths: [0; 256],
+        minutes: [0; 256],
         itemloads: [0; 256],
         itemwritebacks: [0; 256],
         steps: 0,

@@ -36,7 +36,7 @@ sum-one n v w l =
       ap (λ (t : Bool). cond t w 0) (eq-eqb v v refl),
     )
 
--- a part of an item's line that adds up: tenths, loads and writebacks are three of them
+-- a part of an item's line that adds up: minutes, loads and writebacks are three of them
 module _ (p : Use → ℕ) (plus : (a b : Use) → p (plusUse a b) ≡ p a + p b) (none : p noUse ≡ 0) where
   use-part :
       (cat : Catalog) (f : Figures) (e : Event) (i : ℕ) →
@@ -92,8 +92,8 @@ fair cat (wrote i m) good l = omega arith
 fair cat flushStep good l = omega arith
 
 -- The claims of `StandingOk` (specs/Valid.antt) on the figures by themselves, for a catalog of n items, t steps, h items held,
--- d of them dirty, and no line of more than `top` tenths. A step's events are counted one by one, so `top` is not 240 × t here:
--- between a write's first event and its second the step is counted and its tenths are not.
+-- d of them dirty, and no line of more than `top` minutes. A step's events are counted one by one, so `top` is not 1,440 × t here:
+-- between a write's first event and its second the step is counted and its minutes are not.
 pub record CountsKept (n t h d top : ℕ) (f : Figures) : Type 0 where
   pub steps : f .totals .hits + f .totals .loads + f .totals .flushes ≡ t
   pub taken : f .totals .steps ≡ t
@@ -106,7 +106,7 @@ pub record CountsKept (n t h d top : ℕ) (f : Figures) : Type 0 where
   pub uses : length (f .uses) ≡ n
   pub loadsAdd : sumTo n (λ i. useAt f i .loads) ≡ f .totals .loads
   pub writebacksAdd : sumTo n (λ i. useAt f i .writebacks) ≡ f .totals .writebacks
-  pub tenths : (i : ℕ) → i < n → useAt f i .tenths ≤ top
+  pub minutes : (i : ℕ) → i < n → useAt f i .minutes ≤ top
 
 pub nothing-counted : (cat : Catalog) → CountsKept (length cat) 0 0 0 0 (nothing cat)
 nothing-counted cat =
@@ -122,7 +122,7 @@ nothing-counted cat =
       uses = tab-length (length cat) _;
       loadsAdd = sum-zero (length cat) _ (λ i l. ap (λ (u : Use). u .loads) (line i l));
       writebacksAdd = sum-zero (length cat) _ (λ i l. ap (λ (u : Use). u .writebacks) (line i l));
-      tenths = λ i l. omega (arith, ap (λ (u : Use). u .tenths) (line i l));
+      minutes = λ i l. omega (arith, ap (λ (u : Use). u .minutes) (line i l));
     }
   where
     line : (i : ℕ) → i < length cat → useAt (nothing cat) i ≡ noUse
@@ -137,7 +137,7 @@ pub tallied :
     t + adds cat e .steps ≡ t' →
     adds cat e .evictions + h' ≡ h + adds cat e .loads →
     adds cat e .writebacks + d' ≤ d + adds cat e .steps →
-    top + usage e .tenths ≤ top' →
+    top + usage e .minutes ≤ top' →
     CountsKept (length cat) t' h' d' top' (tally cat f e)
 tallied cat f e t h d top t' h' d' top' good l o step held dirty line =
     let a : Fair (adds cat e) (usage e) = fair cat e good l in
@@ -153,8 +153,8 @@ tallied cat f e t h d top t' h' d' top' good l o step held dirty line =
       uses = tab-length (length cat) _;
       loadsAdd = omega (arith, uses-part (λ (u : Use). u .loads) (λ x y. refl) refl cat f e l);
       writebacksAdd = omega (arith, uses-part (λ (u : Use). u .writebacks) (λ x y. refl) refl cat f e l);
-      tenths =
-          λ i b. omega (arith, use-part (λ (u : Use). u .tenths) (λ x y. refl) refl cat f e i b, o .tenths i b, most (isAbout i e) (usage e .tenths));
+      minutes =
+          λ i b. omega (arith, use-part (λ (u : Use). u .minutes) (λ x y. refl) refl cat f e i b, o .minutes i b, most (isAbout i e) (usage e .minutes));
     }
   where
     most : (t : Bool) (w : ℕ) → cond t w 0 ≤ w

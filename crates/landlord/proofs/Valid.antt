@@ -40,7 +40,7 @@ Clean x isClosed = isClosed ≡ true → (i : ℕ) → i < size x → isDirty (s
 
 -- the figures of a cache that stands so, where t steps are taken
 abbrev Right : State → ℕ → Figures → Type 0
-Right x t f = CountsKept (size x) t (heldCount x) (dirtyCount x) (240 * t) f
+Right x t f = CountsKept (size x) t (heldCount x) (dirtyCount x) (1440 * t) f
 
 -- a standing, by its parts
 abbrev standingWith : ℕ → State → Figures → Bool → Split → Standing
@@ -61,7 +61,7 @@ counted-of v o =
       uses = o .uses;
       loadsAdd = o .loadsAdd;
       writebacksAdd = o .writebacksAdd;
-      tenths = o .tenths;
+      minutes = o .minutes;
     }
 
 standing-of :
@@ -87,7 +87,7 @@ standing-of v t capacity kept few c tidy =
       uses = c .uses;
       loadsAdd = c .loadsAdd;
       writebacksAdd = c .writebacksAdd;
-      tenths = λ i l. omega (arith, c .tenths i l);
+      minutes = λ i l. omega (arith, c .minutes i l);
       closed = tidy;
     }
 
@@ -272,13 +272,13 @@ put-dirty x i s l =
     most true = omega arith
     most false = omega arith
 
--- the hit or the load of an item just requested is counted, and its tenths are not yet
+-- the hit or the load of an item just requested is counted, and its minutes are not yet
 found-right :
     (v : Standing) (i top : ℕ) (s : Slot) →
     StandingOk v →
     i < size (v .state) →
     held s ≡ true →
-    240 * taken v ≤ top →
+    1440 * taken v ≤ top →
     CountsKept (size (v .state)) (taken v + 1) (heldCount (putSlot (v .state) i s)) (dirtyCount (putSlot (v .state) i s)) top
     (tally (v .state .catalog) (v .figures) (found (v .state) i))
 found-right v i top s o l h up =
@@ -305,7 +305,7 @@ ok-serve-read v i r =
     let x : State = v .state in
     let o : StandingOk v = r .taking .standing in
     serve-ok v i (readSlot x i) (tally (x .catalog) (v .figures) (found x i)) r (requested (v .k) x i (o .kept) (r .below)) (read-held _ (slotAt x i))
-    (found-right v i (240 * (taken v + 1)) (readSlot x i) o (r .below) (read-held _ (slotAt x i)) (omega arith))
+    (found-right v i (1440 * (taken v + 1)) (readSlot x i) o (r .below) (read-held _ (slotAt x i)) (omega arith))
 
 pub ok-serve-write : (v : Standing) (i minutes : ℕ) → CanServe v i → minutes ≤ 1440 → StandingOk (moved v (serveWrite i minutes (v .state)) (v .closed))
 unfolding fold
@@ -318,8 +318,8 @@ ok-serve-write v i minutes r few =
     let f : Figures = tally (x .catalog) (v .figures) (found x i) in
     serve-ok v i s (tally (x .catalog) f (wrote i minutes)) r
     (write-kept it (readSlot x i) (blocks-divide it (catalog-facts (x .catalog) (o .kept .catalog) .each i (r .below))) (requested (v .k) x i (o .kept) (r .below))) h
-    (tallied (x .catalog) f (wrote i minutes) (taken v + 1) _ _ (240 * taken v) _ _ _ _ (o .kept .catalog) (r .below)
-    (found-right v i (240 * taken v) s o (r .below) h (omega arith)) (omega arith) (omega arith) (omega arith) (omega arith))
+    (tallied (x .catalog) f (wrote i minutes) (taken v + 1) _ _ (1440 * taken v) _ _ _ _ (o .kept .catalog) (r .below)
+    (found-right v i (1440 * taken v) s o (r .below) h (omega arith)) (omega arith) (omega arith) (omega arith) (omega arith))
 
 -- a landing as an event: a step that moves nothing
 abbrev pub flushCounts : State → Moved

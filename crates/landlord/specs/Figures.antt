@@ -18,13 +18,13 @@ pub record Totals : Type 0 where
   pub writeCost : ℕ
   pub flushes : ℕ
 
--- an item's line of the report
+-- what is counted for an item
 pub record Use : Type 0 where
-  pub tenths : ℕ
+  pub minutes : ℕ
   pub loads : ℕ
   pub writebacks : ℕ
 
--- all that paper 01's report prints, and the steps and landings
+-- all that paper 01's report is made of, and the steps and landings
 pub record Figures : Type 0 where
   pub totals : Totals
   pub uses : List Use
@@ -55,22 +55,19 @@ adds cat (wroteBack i) = totalsOf 0 0 0 0 0 0 1 (itemAt cat i .write) 0
 adds cat (wrote i minutes) = totalsOf 0 0 0 0 0 0 0 0 0
 adds cat flushStep = totalsOf 1 0 0 0 0 0 0 0 1
 
--- "A write adds minutes / 6, rounded down, to the sail's tenths of an hour"
-abbrev pub tenthsOf : ℕ → ℕ
-tenthsOf minutes = minutes / 6
-
--- an item's line from its three numbers
+-- what is counted for an item, from its three numbers
 abbrev pub useOf : ℕ → ℕ → ℕ → Use
-useOf t l w = record { tenths = t; loads = l; writebacks = w }
+useOf m l w = record { minutes = m; loads = l; writebacks = w }
 
--- what an event adds to the line of the item that it is about: tenths, loads, writebacks
+-- What an event adds for the item that it is about: minutes, loads, writebacks. A write adds its minutes: "The class rule is now to add
+-- minutes and divide once".
 abbrev pub usage : Event → Use
 usage (hit i) = useOf 0 0 0
 usage (loaded i) = useOf 0 1 0
 usage (evicted i false) = useOf 0 0 0
 usage (evicted i true) = useOf 0 0 1
 usage (wroteBack i) = useOf 0 0 1
-usage (wrote i minutes) = useOf (tenthsOf minutes) 0 0
+usage (wrote i minutes) = useOf minutes 0 0
 usage flushStep = useOf 0 0 0
 
 -- whether an event is about item i
@@ -89,17 +86,17 @@ plusTotals a b =
     (a .evictions + b .evictions) (a .dirtyEvictions + b .dirtyEvictions) (a .writebacks + b .writebacks)
     (a .writeCost + b .writeCost) (a .flushes + b .flushes)
 
--- the line of a sail that nothing has happened to
+-- what is counted for an item that nothing has happened to
 abbrev pub noUse : Use
 noUse = useOf 0 0 0
 
--- the line of a sail number
+-- what is counted for an item of that number
 abbrev pub useAt : Figures → ℕ → Use
 useAt f i = getD (f .uses) i noUse
 
--- lines added up, each number by itself
+-- two such added up, each number by itself
 abbrev pub plusUse : Use → Use → Use
-plusUse a b = useOf (a .tenths + b .tenths) (a .loads + b .loads) (a .writebacks + b .writebacks)
+plusUse a b = useOf (a .minutes + b .minutes) (a .loads + b .loads) (a .writebacks + b .writebacks)
 
 -- the figures after one event more
 abbrev pub tally : Catalog → Figures → Event → Figures
@@ -108,6 +105,10 @@ tally cat f e =
       totals = plusTotals (f .totals) (adds cat e);
       uses = tab (length cat) (λ i. plusUse (useAt f i) (cond (isAbout i e) (usage e) noUse));
     }
+
+-- "The state keeps minutes per sail; tenths are total minutes / 6 rounded down, at print"
+abbrev pub tenthsOf : ℕ → ℕ
+tenthsOf minutes = minutes / 6
 
 -- at opening nothing is counted
 abbrev pub nothing : Catalog → Figures

@@ -1,13 +1,13 @@
 -- The bench rows: seasons with every figure that the rule gives for them, in one table, and one theorem over the table, by
--- computation. The first nine are those that paper 01 marks, the next six catch replays that go astray, the next five are where
--- write-first and load-first part, the last two are for the table of refusals and the plan's faults. Two more tables put questions to the table
--- of refusals, about calls and about openings. Assumes nothing.
+-- computation. The first nine are those that paper 01 marks, the next six catch replays that go astray, one is of minutes that come
+-- to a tenth of an hour only together, the next five are where write-first and load-first part, the last two are for the table of
+-- refusals and the plan's faults. Two more tables put questions to the table of refusals, about calls and about openings. Assumes nothing.
 use mathlib.Core.{Path.{_≡_, refl}, Bool.{Bool, true, false}, List.{List, [], _∷_, _++_, map}}
 use Prim.Native.Nat.{ℕ, _+_, _*_, _-_, _≤_}
 use native.Mathlib.Omega.{arith}
 use lib.ListN.{getD}
 use Rattle.landlord.specs.declared.{Step.{Step, the-variants.Write}, Act.{Act, the-variants.{Evict, Fetch}}, Deduction.{Deduction, the-variants.{WriteFirst, LoadFirst}}}
-use Rattle.landlord.specs.{Fold.{sumTo, tabFrom, bestTo, fold}, Catalog.{Catalog, Item, allInRange, catalogInRange, unit}, Slot.{Slot, absent, clean, dirty, Split, writeFirst, splitOf}, Rule.{State, Event, hit, loaded, evicted, wroteBack, wrote, flushStep, emptied, used, heldCount, victim, evictItem, evictFor, makeRoom, writeBacks, flush, step}, Figures.{Totals, Use, Standing, totalsOf, useOf, took, closes, season, totalCost, leftSide, rightSide}, Plan.{Plan, Priced, costs, fault, unknownItem, notHeld, alreadyHeld, requestNotHeld, overCapacity, planUsed, owed, planActs, allActs, planServes, priceFrom, price}, Claims.loadCredits, Calls.{Call, stepCall, close, Log, noLog, stepOf, refusalAt, refusalIn, joins, logOf, ruleOver, openingRefusal}}
+use Rattle.landlord.specs.{Fold.{sumTo, tabFrom, bestTo, fold}, Catalog.{Catalog, Item, allInRange, catalogInRange, unit}, Slot.{Slot, absent, clean, dirty, Split, writeFirst, splitOf}, Rule.{State, Event, hit, loaded, evicted, wroteBack, wrote, flushStep, emptied, used, heldCount, victim, evictItem, evictFor, makeRoom, writeBacks, flush, step}, Figures.{Totals, Use, Standing, totalsOf, useOf, tenthsOf, took, closes, season, totalCost, leftSide, rightSide}, Plan.{Plan, Priced, costs, fault, unknownItem, notHeld, alreadyHeld, requestNotHeld, overCapacity, planUsed, owed, planActs, allActs, planServes, priceFrom, price}, Claims.loadCredits, Calls.{Call, stepCall, close, Log, noLog, stepOf, refusalAt, refusalIn, joins, logOf, ruleOver, openingRefusal}}
 
 -- a rival of a row: its blocks, and its acts before step 0, 1, 2 and on; no acts after the last list
 pub record RowRival : Type 0 where
@@ -115,8 +115,22 @@ row k cat calls rivals o = rowBy k WriteFirst cat calls rivals o
 abbrev gives : List ℕ → ℕ → Totals → List Use → List ℕ → List Slot → List Priced → RowResult
 gives a n t u e s p = record { answers = a; total = n; totals = t; uses = u; evictions = e; slots = s; prices = p }
 
+-- the whole example
+abbrev wholeExample : BenchRow
+wholeExample =
+    row 3 three (fourSteps ++ (flushCall ∷ close ∷ [])) (theRival ∷ [])
+    (gives (0 ∷ 0 ∷ 0 ∷ 0 ∷ 0 ∷ 0 ∷ []) 28 (totalsOf 5 1 3 13 1 0 2 15 1)
+    (useOf 90 1 1 ∷ useOf 0 1 0 ∷ useOf 45 1 1 ∷ []) (1 ∷ []) (clean 2882880 ∷ absent ∷ clean 2162160 ∷ []) (costs 32 ∷ []))
+
+-- an item written for 5 minutes twice, and then read by a call that names minutes: a read has none
+abbrev fiveTwice : BenchRow
+fiveTwice =
+    row 1 (item 1 4 6 ∷ []) (write 0 5 ∷ write 0 5 ∷ stepCall 82 0 7 ∷ []) []
+    (gives (0 ∷ 0 ∷ 0 ∷ []) 4 (totalsOf 3 2 1 4 0 0 0 0 0)
+    (useOf 10 1 0 ∷ []) [] (dirty 2882880 4324320 ∷ []) [])
+
 -- The table. Totals are steps, hits, loads, load cost, evictions, dirty evictions, writebacks, write cost, flushes;
--- uses are tenths, loads, writebacks.
+-- uses are minutes, loads, writebacks.
 abbrev pub benchRows : List BenchRow
 benchRows =
     -- the empty log
@@ -152,9 +166,7 @@ benchRows =
     (gives (0 ∷ 0 ∷ 0 ∷ []) 10 (totalsOf 3 0 1 4 0 0 1 6 2)
     (useOf 0 1 1 ∷ []) [] (clean 2882880 ∷ []) []) ∷
     -- the whole example: 28 and 32
-    row 3 three (fourSteps ++ (flushCall ∷ close ∷ [])) (theRival ∷ [])
-    (gives (0 ∷ 0 ∷ 0 ∷ 0 ∷ 0 ∷ 0 ∷ []) 28 (totalsOf 5 1 3 13 1 0 2 15 1)
-    (useOf 15 1 1 ∷ useOf 0 1 0 ∷ useOf 7 1 1 ∷ []) (1 ∷ []) (clean 2882880 ∷ absent ∷ clean 2162160 ∷ []) (costs 32 ∷ [])) ∷
+    wholeExample ∷
     -- the item of the larger credit and the smaller rank goes
     row 4 (item 3 2 0 ∷ item 1 1 0 ∷ item 1 1 0 ∷ []) (read 0 ∷ read 1 ∷ read 2 ∷ []) []
     (gives (0 ∷ 0 ∷ 0 ∷ []) 4 (totalsOf 3 0 3 4 1 0 0 0 0)
@@ -166,7 +178,7 @@ benchRows =
     -- the whole example's first four steps: a read leaves a write credit that has lost some
     row 3 three fourSteps []
     (gives (0 ∷ 0 ∷ 0 ∷ 0 ∷ []) 13 (totalsOf 4 1 3 13 1 0 0 0 0)
-    (useOf 15 1 0 ∷ useOf 0 1 0 ∷ useOf 7 1 0 ∷ []) (1 ∷ []) (dirty 2882880 2162160 ∷ absent ∷ dirty 2162160 6486480 ∷ []) []) ∷
+    (useOf 90 1 0 ∷ useOf 0 1 0 ∷ useOf 45 1 0 ∷ []) (1 ∷ []) (dirty 2882880 2162160 ∷ absent ∷ dirty 2162160 6486480 ∷ []) []) ∷
     -- a dirty eviction of write cost 0
     row 1 (item 1 4 0 ∷ item 1 3 0 ∷ []) (write 0 0 ∷ read 1 ∷ []) []
     (gives (0 ∷ 0 ∷ []) 7 (totalsOf 2 0 2 7 1 1 1 0 0)
@@ -179,6 +191,8 @@ benchRows =
     row 1 (item 1 4 6 ∷ []) (write 0 0 ∷ close ∷ []) (rival 1 ((Fetch 0 ∷ []) ∷ []) ∷ [])
     (gives (0 ∷ 0 ∷ []) 10 (totalsOf 1 0 1 4 0 0 1 6 0)
     (useOf 0 1 1 ∷ []) [] (clean 2882880 ∷ []) (costs 10 ∷ [])) ∷
+    -- 5 minutes twice
+    fiveTwice ∷
     -- The two rules part: write-first evicts item 0 dirty, load-first evicts item 1 in its place; 25 by both.
     rowBy 2 WriteFirst four (sevenSteps ++ (close ∷ [])) []
     (gives (0 ∷ 0 ∷ 0 ∷ 0 ∷ 0 ∷ 0 ∷ 0 ∷ 0 ∷ []) 25 (totalsOf 7 1 6 20 4 1 1 5 0)
@@ -229,6 +243,14 @@ benchRows =
 pub rows-right : map resultOf benchRows ≡ map (λ (r : BenchRow). r .expected) benchRows
 unfolding resultOf answers trace evictedItems sumTo tabFrom bestTo fold used heldCount victim evictItem evictFor makeRoom writeBacks flush step took closes stepOf refusalAt joins ruleOver planUsed owed planActs allActs planServes priceFrom
 rows-right = refl
+
+-- the tenths that are printed for a row's items
+abbrev tenthsIn : BenchRow → List ℕ
+tenthsIn r = map (λ (u : Use). tenthsOf (u .minutes)) (r .expected .uses)
+
+-- "In the whole example nothing moves; W 0 with 5 minutes twice now prints 1"
+pub tenths-right : (tenthsIn wholeExample ≡ 15 ∷ 0 ∷ 7 ∷ []) × (tenthsIn fiveTwice ≡ 1 ∷ [])
+tenths-right = (refl, refl)
 
 -- the season of the whole example
 abbrev exampleEnd : Standing

@@ -31,7 +31,7 @@ pub record StandingOk (v : Standing) : Type 0 where
   pub uses : length (v .figures .uses) ≡ size (v .state)
   pub loadsAdd : sumTo (size (v .state)) (λ i. useAt (v .figures) i .loads) ≡ v .figures .totals .loads
   pub writebacksAdd : sumTo (size (v .state)) (λ i. useAt (v .figures) i .writebacks) ≡ v .figures .totals .writebacks
-  -- "a sail's tenths are at most 240 × steps"
-  pub tenths : (i : ℕ) → i < size (v .state) → useAt (v .figures) i .tenths ≤ 240 * v .figures .totals .steps
+  -- "A lent state is foul if a sail's minutes exceed 1,440 × steps"
+  pub minutes : (i : ℕ) → i < size (v .state) → useAt (v .figures) i .minutes ≤ 1440 * v .figures .totals .steps
   -- "a closed locker has no dirty sail"
   pub closed : v .closed ≡ true → (i : ℕ) → i < size (v .state) → isDirty (slotAt (v .state) i) ≡ false

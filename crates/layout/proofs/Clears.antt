@@ -14,7 +14,7 @@ use Rattle.fields.specs.Inner.{Below}
 use Rattle.fields.proofs.Laws.{length-le, un-front, below-append, below-drop, past, un-blank, unrun-blank, unflags-blank}
 use Rattle.landlord.specs.Types.{deductionOf}
 use Rattle.layout.specs.Layout.{stateBytes, format, numberAt, numbersAt, AllowedBytes}
-use Rattle.layout.specs.InnerRows.{atFormat, atCapacity, atCount, atClosed, atSteps, atHits, atLoads, atEvictions, atDirtyEvictions, atWritebacks, atFlushes, atLoadCost, atWriteCost, atDirty, atLoadCredits, atWriteCredits, atTenths, atItemLoads, atItemWritebacks, atItemLoadCosts, atItemWriteCosts, atBlocks, atHeld, atRule}
+use Rattle.layout.specs.InnerRows.{atFormat, atCapacity, atCount, atClosed, atSteps, atHits, atLoads, atEvictions, atDirtyEvictions, atWritebacks, atFlushes, atLoadCost, atWriteCost, atDirty, atLoadCredits, atWriteCredits, atMinutes, atItemLoads, atItemWritebacks, atItemLoadCosts, atItemWriteCosts, atBlocks, atHeld, atRule}
 use Rattle.layout.specs.Inner.{Stands, cleared}
 
 -- the first i bytes are 0
@@ -81,7 +81,7 @@ module _ (left rest : List ℕ) (n : length left ≡ stateBytes) (e : left ≡ l
           dirty = numbers-0 8 4 atDirty (omega arith) i;
           loadcredit = numbers-0 8 256 atLoadCredits (omega arith) i;
           writecredit = numbers-0 8 256 atWriteCredits (omega arith) i;
-          tenths = numbers-0 4 256 atTenths (omega arith) i;
+          minutes = numbers-0 4 256 atMinutes (omega arith) i;
           itemloads = numbers-0 4 256 atItemLoads (omega arith) i;
           itemwritebacks = numbers-0 4 256 atItemWritebacks (omega arith) i;
           load = numbers-0 2 256 atItemLoadCosts (omega arith) i;

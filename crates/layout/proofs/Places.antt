@@ -110,7 +110,7 @@ sizes c f =
       writeCredit = f .whole .writecredit;
       dirty = f .whole .dirty;
       words = f .dirty;
-      tenths = f .whole .tenths;
+      minutes = f .whole .minutes;
       loads = f .whole .itemloads;
       writebacks = f .whole .itemwritebacks;
     }

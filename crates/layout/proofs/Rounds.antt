@@ -15,7 +15,7 @@ use Rattle.landlord.specs.Types.{deductionNumber, deductionOf}
 use Rattle.landlord.proofs.Slots.{deduction-number, number-deduction, deduction-lt}
 use Rattle.cache_state.specs.Cache.{Cache}
 use Rattle.layout.specs.Layout.{stateBytes, format, numberAt, numbersAt, cacheOf, AllowedBytes}
-use Rattle.layout.specs.InnerRows.{atFormat, atCapacity, atCount, atClosed, atSteps, atHits, atLoads, atEvictions, atDirtyEvictions, atWritebacks, atFlushes, atLoadCost, atWriteCost, atDirty, atLoadCredits, atWriteCredits, atTenths, atItemLoads, atItemWritebacks, atItemLoadCosts, atItemWriteCosts, atBlocks, atHeld, atRule, rowBytes, fieldRows, bytesOf, flag, WholeArrays, Fits}
+use Rattle.layout.specs.InnerRows.{atFormat, atCapacity, atCount, atClosed, atSteps, atHits, atLoads, atEvictions, atDirtyEvictions, atWritebacks, atFlushes, atLoadCost, atWriteCost, atDirty, atLoadCredits, atWriteCredits, atMinutes, atItemLoads, atItemWritebacks, atItemLoadCosts, atItemWriteCosts, atBlocks, atHeld, atRule, rowBytes, fieldRows, bytesOf, flag, WholeArrays, Fits}
 use Rattle.layout.proofs.Rows.{Packed, end, number-row, numbers-row, flags-row, packed-length, packed-below, stored, packed-stored, reach}
 
 -- the fields lie end to end
@@ -38,7 +38,7 @@ packed c w =
     (numbers-row 8 4 (c .dirty) (w .dirty)
     (numbers-row 8 256 (c .loadcredit) (w .loadcredit)
     (numbers-row 8 256 (c .writecredit) (w .writecredit)
-    (numbers-row 4 256 (c .tenths) (w .tenths)
+    (numbers-row 4 256 (c .minutes) (w .minutes)
     (numbers-row 4 256 (c .itemloads) (w .itemloads)
     (numbers-row 4 256 (c .itemwritebacks) (w .itemwritebacks)
     (numbers-row 2 256 (c .load) (w .load)
@@ -120,7 +120,7 @@ module _ (c : Cache) (f : Fits c) where
         dirty = numbers-found 8 4 atDirty (c .dirty) (bytesOf c) _ (f .whole .dirty) (f .dirty) (row-at 13 (omega arith)) i;
         loadcredit = numbers-found 8 256 atLoadCredits (c .loadcredit) (bytesOf c) _ (f .whole .loadcredit) (f .loadcredit) (row-at 14 (omega arith)) i;
         writecredit = numbers-found 8 256 atWriteCredits (c .writecredit) (bytesOf c) _ (f .whole .writecredit) (f .writecredit) (row-at 15 (omega arith)) i;
-        tenths = numbers-found 4 256 atTenths (c .tenths) (bytesOf c) _ (f .whole .tenths) (f .tenths) (row-at 16 (omega arith)) i;
+        minutes = numbers-found 4 256 atMinutes (c .minutes) (bytesOf c) _ (f .whole .minutes) (f .minutes) (row-at 16 (omega arith)) i;
         itemloads = numbers-found 4 256 atItemLoads (c .itemloads) (bytesOf c) _ (f .whole .itemloads) (f .itemloads) (row-at 17 (omega arith)) i;
         itemwritebacks = numbers-found 4 256 atItemWritebacks (c .itemwritebacks) (bytesOf c) _ (f .whole .itemwritebacks) (f .itemwritebacks) (row-at 18 (omega arith)) i;
         load = numbers-found 2 256 atItemLoadCosts (c .load) (bytesOf c) _ (f .whole .load) (f .load) (row-at 19 (omega arith)) i;
@@ -148,7 +148,7 @@ whole b = record {
   dirty = length-unrun 8 4 (drop atDirty b);
   loadcredit = length-unrun 8 256 (drop atLoadCredits b);
   writecredit = length-unrun 8 256 (drop atWriteCredits b);
-  tenths = length-unrun 4 256 (drop atTenths b);
+  minutes = length-unrun 4 256 (drop atMinutes b);
   itemloads = length-unrun 4 256 (drop atItemLoads b);
   itemwritebacks = length-unrun 4 256 (drop atItemWritebacks b);
   load = length-unrun 2 256 (drop atItemLoadCosts b);
@@ -183,7 +183,7 @@ module _ (b : List ℕ) (h : Below 256 b) where
     dirty = numbers-fit 8 4 atDirty;
     loadcredit = numbers-fit 8 256 atLoadCredits;
     writecredit = numbers-fit 8 256 atWriteCredits;
-    tenths = numbers-fit 4 256 atTenths;
+    minutes = numbers-fit 4 256 atMinutes;
     itemloads = numbers-fit 4 256 atItemLoads;
     itemwritebacks = numbers-fit 4 256 atItemWritebacks;
     load = numbers-fit 2 256 atItemLoadCosts;
@@ -235,7 +235,7 @@ module _ (b : List ℕ) (e : length b ≡ stateBytes) (h : Below 256 b) where
         (numbers-back 8 4 atDirty _ (omega arith)
         (numbers-back 8 256 atLoadCredits _ (omega arith)
         (numbers-back 8 256 atWriteCredits _ (omega arith)
-        (numbers-back 4 256 atTenths _ (omega arith)
+        (numbers-back 4 256 atMinutes _ (omega arith)
         (numbers-back 4 256 atItemLoads _ (omega arith)
         (numbers-back 4 256 atItemWritebacks _ (omega arith)
         (numbers-back 2 256 atItemLoadCosts _ (omega arith)

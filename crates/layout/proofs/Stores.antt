@@ -17,9 +17,9 @@ use Rattle.fields.proofs.Laws.{length-le, length-run, length-flags, sets-all, r
 use Rattle.landlord.specs.declared.Deduction.{Deduction}
 use Rattle.landlord.specs.Types.{deductionNumber}
 use Rattle.cache_state.specs.Cache.{Cache}
-use Rattle.cache_state.specs.InnerWith.{withCapacity, withCount, withClosed, withRule, withSteps, withHits, withLoads, withEvictions, withDirtyEvictions, withWritebacks, withFlushes, withLoadCost, withWriteCost, withDirty, withLoadCredit, withWriteCredit, withTenths, withItemLoads, withItemWritebacks, withItemLoadCost, withItemWriteCost, withBlocks, withHeld}
+use Rattle.cache_state.specs.InnerWith.{withCapacity, withCount, withClosed, withRule, withSteps, withHits, withLoads, withEvictions, withDirtyEvictions, withWritebacks, withFlushes, withLoadCost, withWriteCost, withDirty, withLoadCredit, withWriteCredit, withMinutes, withItemLoads, withItemWritebacks, withItemLoadCost, withItemWriteCost, withBlocks, withHeld}
 use Rattle.layout.specs.Layout.{cacheOf}
-use Rattle.layout.specs.InnerRows.{atCapacity, atCount, atClosed, atSteps, atHits, atLoads, atEvictions, atDirtyEvictions, atWritebacks, atFlushes, atLoadCost, atWriteCost, atDirty, atLoadCredits, atWriteCredits, atTenths, atItemLoads, atItemWritebacks, atItemLoadCosts, atItemWriteCosts, atBlocks, atHeld, atRule, FieldRow, rowBytes, fieldRows, bytesOf, flag, Fits}
+use Rattle.layout.specs.InnerRows.{atCapacity, atCount, atClosed, atSteps, atHits, atLoads, atEvictions, atDirtyEvictions, atWritebacks, atFlushes, atLoadCost, atWriteCost, atDirty, atLoadCredits, atWriteCredits, atMinutes, atItemLoads, atItemWritebacks, atItemLoadCosts, atItemWriteCosts, atBlocks, atHeld, atRule, FieldRow, rowBytes, fieldRows, bytesOf, flag, Fits}
 use Rattle.layout.specs.Inner.{Stands, Readable}
 use Rattle.layout.proofs.Rows.{end, number-row, stored, packed-stored, replaced, sets-row}
 use Rattle.layout.proofs.Rounds.{packed, fits}
@@ -193,11 +193,11 @@ module _ {b : List ℕ} {c : Cache} (s : Coded b c) where
       let u : Numbers (2 ^ 64) (set (c .writecredit) i v) = with-one (2 ^ 64) (c .writecredit) i v (s .fits .whole .writecredit) (s .fits .writecredit) l z in
       entry-stored 15 atWriteCredits 8 (c .writecredit) i v (withWriteCredit c i v) (omega arith) refl (omega (arith, s .fits .whole .writecredit)) refl (search needs) is
 
-  pub tenths-stored : (i v : ℕ) → i < 256 → v < 2 ^ 32 → {left : List ℕ} → left ≡ sets b (atTenths + i * 4) (le 4 v) → Stands left (withTenths c i v)
+  pub minutes-stored : (i v : ℕ) → i < 256 → v < 2 ^ 32 → {left : List ℕ} → left ≡ sets b (atMinutes + i * 4) (le 4 v) → Stands left (withMinutes c i v)
   unfolding bytesOf fieldRows
-  tenths-stored i v l z is =
-      let u : Numbers (2 ^ 32) (set (c .tenths) i v) = with-one (2 ^ 32) (c .tenths) i v (s .fits .whole .tenths) (s .fits .tenths) l z in
-      entry-stored 16 atTenths 4 (c .tenths) i v (withTenths c i v) (omega arith) refl (omega (arith, s .fits .whole .tenths)) refl (search needs) is
+  minutes-stored i v l z is =
+      let u : Numbers (2 ^ 32) (set (c .minutes) i v) = with-one (2 ^ 32) (c .minutes) i v (s .fits .whole .minutes) (s .fits .minutes) l z in
+      entry-stored 16 atMinutes 4 (c .minutes) i v (withMinutes c i v) (omega arith) refl (omega (arith, s .fits .whole .minutes)) refl (search needs) is
 
   pub item-loads-stored : (i v : ℕ) → i < 256 → v < 2 ^ 32 → {left : List ℕ} → left ≡ sets b (atItemLoads + i * 4) (le 4 v) → Stands left (withItemLoads c i v)
   unfolding bytesOf fieldRows

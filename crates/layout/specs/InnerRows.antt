@@ -59,8 +59,8 @@ atLoadCredits = 88
 abbrev pub atWriteCredits : ℕ
 atWriteCredits = 2136
 
-abbrev pub atTenths : ℕ
-atTenths = 4184
+abbrev pub atMinutes : ℕ
+atMinutes = 4184
 
 abbrev pub atItemLoads : ℕ
 atItemLoads = 5208
@@ -116,7 +116,7 @@ fieldRows c =
     ∷ (atDirty, runOf 8 (c .dirty))
     ∷ (atLoadCredits, runOf 8 (c .loadcredit))
     ∷ (atWriteCredits, runOf 8 (c .writecredit))
-    ∷ (atTenths, runOf 4 (c .tenths))
+    ∷ (atMinutes, runOf 4 (c .minutes))
     ∷ (atItemLoads, runOf 4 (c .itemloads))
     ∷ (atItemWritebacks, runOf 4 (c .itemwritebacks))
     ∷ (atItemLoadCosts, runOf 2 (c .load))
@@ -135,7 +135,7 @@ pub record WholeArrays (c : Cache) : Type 0 where
   pub dirty : length (c .dirty) ≡ 4
   pub loadcredit : length (c .loadcredit) ≡ 256
   pub writecredit : length (c .writecredit) ≡ 256
-  pub tenths : length (c .tenths) ≡ 256
+  pub minutes : length (c .minutes) ≡ 256
   pub itemloads : length (c .itemloads) ≡ 256
   pub itemwritebacks : length (c .itemwritebacks) ≡ 256
   pub load : length (c .load) ≡ 256
@@ -160,7 +160,7 @@ pub record Fits (c : Cache) : Type 0 where
   pub dirty : Below (2 ^ 64) (c .dirty)
   pub loadcredit : Below (2 ^ 64) (c .loadcredit)
   pub writecredit : Below (2 ^ 64) (c .writecredit)
-  pub tenths : Below (2 ^ 32) (c .tenths)
+  pub minutes : Below (2 ^ 32) (c .minutes)
   pub itemloads : Below (2 ^ 32) (c .itemloads)
   pub itemwritebacks : Below (2 ^ 32) (c .itemwritebacks)
   pub load : Below (2 ^ 16) (c .load)

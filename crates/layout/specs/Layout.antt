@@ -13,7 +13,7 @@ stateBytes = 8796
 
 -- the number of this layout: it rises with every change, so that a state stored by another version is never misread
 abbrev pub format : ℕ
-format = 2
+format = 3
 
 -- the number of `w` bytes at the place `at`
 abbrev pub numberAt : List ℕ → ℕ → ℕ → ℕ
@@ -41,7 +41,7 @@ cacheOf b = record {
   dirty = numbersAt b 56 4 8;
   loadcredit = numbersAt b 88 256 8;
   writecredit = numbersAt b 2136 256 8;
-  tenths = numbersAt b 4184 256 4;
+  minutes = numbersAt b 4184 256 4;
   itemloads = numbersAt b 5208 256 4;
   itemwritebacks = numbersAt b 6232 256 4;
   load = numbersAt b 7256 256 2;

@@ -6,7 +6,7 @@ ghost use Prim.Native.Nat.{_+_, _*_, _<_, _≤_};
 ghost use lib.ListN.{length, getD};
 ghost use mathlib.Core.Bool.{false};
 ghost use Rattle.cache_state.specs.Cache.{dirtyAt};
-ghost use Rattle.cache_state.specs.InnerWith.{withCapacity, withCount, withClosed, withRule, withSteps, withHits, withLoads, withEvictions, withDirtyEvictions, withWritebacks, withFlushes, withLoadCost, withWriteCost, withDirty, withLoadCredit, withWriteCredit, withTenths, withItemLoads, withItemWritebacks, withItemLoadCost, withItemWriteCost, withBlocks, withHeld};
+ghost use Rattle.cache_state.specs.InnerWith.{withCapacity, withCount, withClosed, withRule, withSteps, withHits, withLoads, withEvictions, withDirtyEvictions, withWritebacks, withFlushes, withLoadCost, withWriteCost, withDirty, withLoadCredit, withWriteCredit, withMinutes, withItemLoads, withItemWritebacks, withItemLoadCost, withItemWriteCost, withBlocks, withHeld};
 ghost use Rattle.cache_state.specs.InnerBecomes.{Decided};
 ghost use Rattle.layout.specs.Layout.{stateBytes, numberAt, cacheOf, AllowedBytes};
 ghost use Rattle.layout.specs.InnerRows.{atDirty};
@@ -16,7 +16,7 @@ use landlord::Deduction;
 // The bytes of a state, and the number of this layout.
 pub const STATE_BYTES: usize = 8796;
 
-pub const FORMAT: u64 = 2;
+pub const FORMAT: u64 = 3;
 
 // Where each field stands.
 pub const AT_FORMAT: usize = 0;
@@ -51,7 +51,7 @@ pub const AT_LOAD_CREDITS: usize = 88;
 
 pub const AT_WRITE_CREDITS: usize = 2136;
 
-pub const AT_TENTHS: usize = 4184;
+pub const AT_MINUTES: usize = 4184;
 
 pub const AT_ITEM_LOADS: usize = 5208;
 
@@ -364,18 +364,18 @@ pub fn put_write_credit(b: &mut [u8], i: usize, v: u64)
     fields::put(b, AT_WRITE_CREDITS + i * 8, 8, v);
 }
 
-pub fn tenths(b: &[u8], i: usize) -> u32
+pub fn minutes(b: &[u8], i: usize) -> u32
     requires { ⌜ (length (now b) ≡ stateBytes) × (i < 256) ⌝ }
-    ensures { λ r. ⌜ r ≡ getD (cacheOf (now (b .entry)) .tenths) i 0 ⌝ }
+    ensures { λ r. ⌜ r ≡ getD (cacheOf (now (b .entry)) .minutes) i 0 ⌝ }
 {
-    fields::get(b, AT_TENTHS + i * 4, 4) as u32
+    fields::get(b, AT_MINUTES + i * 4, 4) as u32
 }
 
-pub fn put_tenths(b: &mut [u8], i: usize, v: u32)
+pub fn put_minutes(b: &mut [u8], i: usize, v: u32)
     requires { ⌜ Readable (now b) × (i < 256) ⌝ }
-    ensures { λ _. ⌜ Stands (now (b .exit)) (withTenths (cacheOf (now (b .entry))) i v) ⌝ }
+    ensures { λ _. ⌜ Stands (now (b .exit)) (withMinutes (cacheOf (now (b .entry))) i v) ⌝ }
 {
-    fields::put(b, AT_TENTHS + i * 4, 4, v as u64);
+    fields::put(b, AT_MINUTES + i * 4, 4, v as u64);
 }
 
 pub fn item_loads(b: &[u8], i: usize) -> u32

@@ -11,7 +11,7 @@ use Rattle.landlord.specs.declared.Refusal.{Refusal}
 use Rattle.sentence.proofs.Sentences.{sentence-fits}
 use Rattle.landlord.specs.Types.{refusalNumber, refusalLine, refusalItem}
 use Rattle.landlord.specs.Rule.{size}
-use Rattle.landlord.specs.Figures.{Use, useAt, totalCost, leftSide, rightSide}
+use Rattle.landlord.specs.Figures.{Use, useAt, tenthsOf, totalCost, leftSide, rightSide}
 use Rattle.landlord.proofs.Sums.{sum-term}
 use Rattle.cache_state.specs.Cache.{Cache, usesOf, view, Valid}
 use Rattle.cache_state.specs.InnerView.{usageOf, stateOf, figuresOf}
@@ -46,10 +46,10 @@ module _ (c : Cache) (v : Valid c) (i : ℕ) (l : i < c .n) where
   here : i < size (stateOf c)
   here = rw (size-is c) l
 
-  few-tenths : usageOf c i .tenths ≤ 240000000
+  few-tenths : tenthsOf (usageOf c i .minutes) ≤ 240000000
   few-tenths =
-      let e : useAt (figuresOf c) i .tenths ≡ usageOf c i .tenths = ap (λ (u : Use). u .tenths) (use-is c i l) in
-      omega (arith, v .rule .tenths i here, v .rule .taken)
+      let e : useAt (figuresOf c) i .minutes ≡ usageOf c i .minutes = ap (λ (u : Use). u .minutes) (use-is c i l) in
+      omega (arith, v .rule .minutes i here, v .rule .taken)
 
   few-loads : usageOf c i .loads ≤ 1000000
   few-loads =
@@ -64,7 +64,7 @@ module _ (c : Cache) (v : Valid c) (i : ℕ) (l : i < c .n) where
   item-longest : length (lineOf (itemNumbers i (usageOf c i))) ≤ 30
   item-longest =
       cons-longest i 3 26 _ (omega (arith, v .fields .few)) (omega arith)
-      (cons-longest (usageOf c i .tenths) 9 16 _ (omega (arith, few-tenths)) (omega arith)
+      (cons-longest (tenthsOf (usageOf c i .minutes)) 9 16 _ (omega (arith, few-tenths)) (omega arith)
       (cons-longest (usageOf c i .loads) 7 8 _ (omega (arith, few-loads)) (omega arith)
       (cons-longest (usageOf c i .writebacks) 7 0 _ (omega (arith, few-writebacks)) (omega arith) none-longest)))
 

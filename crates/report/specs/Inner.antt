@@ -1,7 +1,7 @@
 -- What the writers of lines ask and give. Assumes nothing.
 use Rattle.sentence.specs.Sentences.{sentenceOf}
 use mathlib.Core.List.{[], List, _∷_, _++_}
-use Rattle.landlord.specs.Figures.{Use, Standing, totalCost}
+use Rattle.landlord.specs.Figures.{Use, Standing, tenthsOf, totalCost}
 use Prim.Native.Nat.{ℕ, _≤_}
 use lib.ListN.{length}
 use Rattle.cache_state.specs.Cache.{view}
@@ -9,9 +9,9 @@ use Rattle.layout.specs.Layout.{cacheOf, ValidBytes}
 use Rattle.decimal.specs.Decimal.{textOf}
 use Rattle.report.specs.{declared.{Rival.{Rival, the-variants.{Absent, Against}}, Written.Written}, Report.{lineOf, writtenTold}}
 
--- an item's line: its number, and what was counted for it
+-- the numbers of an item's line
 abbrev pub itemNumbers : ℕ → Use → List ℕ
-itemNumbers i u = i ∷ u .tenths ∷ u .loads ∷ u .writebacks ∷ []
+itemNumbers i u = i ∷ tenthsOf (u .minutes) ∷ u .loads ∷ u .writebacks ∷ []
 
 -- the names above the items' lines
 abbrev pub itemNames : List ℕ

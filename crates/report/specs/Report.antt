@@ -3,7 +3,7 @@
 use mathlib.Core.{Path._≡_, Bool.cond, List.{List, [], _∷_, _++_}}
 use Prim.Native.Nat.{ℕ, suc}
 use Rattle.decimal.specs.Decimal.{textOf, digitsOf, fits, wroteOf, pageOf}
-use Rattle.landlord.specs.{declared.Refusal.Refusal, Types.{Told, telling, nothingTold, told}, Figures.{Use, Standing, totalCost, leftSide, rightSide}}
+use Rattle.landlord.specs.{declared.Refusal.Refusal, Types.{Told, telling, nothingTold, told}, Figures.{Use, Standing, tenthsOf, totalCost, leftSide, rightSide}}
 use Rattle.sentence.specs.Sentences.{sentenceOf}
 use Rattle.cache_state.specs.Cache.{view}
 use Rattle.layout.specs.Layout.{cacheOf, ValidBytes}
@@ -19,10 +19,10 @@ unfoldable pub lineOf : List ℕ → List ℕ
 lineOf [] = []
 lineOf (x ∷ rest) = digitsOf x ++ (separator rest ∷ lineOf rest)
 
--- one line an item, from number i on: its number, and what was counted for it
+-- one line an item, from number i on: its number, and what was counted for it, the minutes as tenths of an hour
 unfoldable pub itemLines : ℕ → List Use → List ℕ
 itemLines i [] = []
-itemLines i (u ∷ uses) = lineOf (i ∷ u .tenths ∷ u .loads ∷ u .writebacks ∷ []) ++ itemLines (suc i) uses
+itemLines i (u ∷ uses) = lineOf (i ∷ tenthsOf (u .minutes) ∷ u .loads ∷ u .writebacks ∷ []) ++ itemLines (suc i) uses
 
 -- a plan of h blocks: its cost, and both sides of the bound
 abbrev pub rivalNumbers : Standing → Rival → List ℕ

@@ -7,7 +7,7 @@ ghost use lib.ListN.{length, take};
 ghost use Rattle.cache_state.specs.Cache.{view, usesOf};
 ghost use Rattle.cache_state.specs.InnerView.{usageOf, figuresOf};
 ghost use Rattle.decimal.specs.InnerPages.{textOver};
-ghost use Rattle.landlord.specs.Figures.{totalCost, leftSide, rightSide};
+ghost use Rattle.landlord.specs.Figures.{tenthsOf, totalCost, leftSide, rightSide};
 ghost use Rattle.layout.specs.Layout.{stateBytes, cacheOf, ValidBytes};
 ghost use Rattle.report.specs.Report.{lineOf, itemLines, rivalNumbers, totalNumbers, totalLines, reportOf, refusalText, Put, Reported, longest};
 ghost use Rattle.report.specs.Inner.{refusedText, itemNumbers, RivalOk, Comparable, TextFits, rivalCount};
@@ -83,6 +83,13 @@ fn wide(x: u32) -> u64
     x as u64
 }
 
+// The whole tenths of an hour in so many minutes.
+fn whole_tenths(minutes: u32) -> u32
+    ensures { λ r. ⌜ r ≡ tenthsOf minutes ⌝ }
+{
+    minutes / 6
+}
+
 // The numbers of an item's line.
 fn item_numbers(b: &[u8], i: usize) -> [u64; 4]
     requires { ⌜ (length (now b) ≡ stateBytes) × (i < 256) ⌝ }
@@ -90,7 +97,7 @@ fn item_numbers(b: &[u8], i: usize) -> [u64; 4]
 {
     [
         i as u64,
-        wide(layout::tenths(b, i)),
+        wide(whole_tenths(layout::minutes(b, i))),
         wide(layout::item_loads(b, i)),
         wide(layout::item_writebacks(b, i)),
     ]

@@ -17,13 +17,13 @@ pub record MarksOk (held dirty closed : Bool) (loadCredit writeCredit : ℕ) : T
   pub closedClean : closed ≡ true → dirty ≡ false
 
 -- all that is asked of one item of the catalog, on its own numbers
-pub record EntryOk (blocks load write : ℕ) (held dirty closed : Bool) (loadCredit writeCredit tenths steps : ℕ) : Type 0 where
+pub record EntryOk (blocks load write : ℕ) (held dirty closed : Bool) (loadCredit writeCredit minutes steps : ℕ) : Type 0 where
   pub some : 1 ≤ blocks
   pub small : blocks ≤ 16
   pub marks : MarksOk held dirty closed loadCredit writeCredit
   pub loads : CreditOk blocks load loadCredit
   pub writes : CreditOk blocks write writeCredit
-  pub tenthsTop : tenths ≤ 240 * steps
+  pub minutesTop : minutes ≤ 1440 * steps
 
 -- what is asked of the totals alone, and of the capacity
 pub record CountsOk (k : ℕ) (t : Totals) : Type 0 where

@@ -46,10 +46,10 @@ pub fn entry_ok(
     closed: bool,
     loadcredit: u64,
     writecredit: u64,
-    tenths: u32,
+    minutes: u32,
     steps: u32,
 ) -> bool
-    ensures { λ r. ⌜ Decided (EntryOk blocks load write held dirty closed loadcredit writecredit tenths steps) r ⌝ }
+    ensures { λ r. ⌜ Decided (EntryOk blocks load write held dirty closed loadcredit writecredit minutes steps) r ⌝ }
 {
     if blocks < 1 {
         return false;
@@ -66,7 +66,7 @@ pub fn entry_ok(
     if !credit_ok(blocks, write, writecredit) {
         return false;
     }
-    (tenths as u64) <= 240 * (steps as u64)
+    (minutes as u64) <= 1440 * (steps as u64)
 }
 
 // Whether the capacity is in range, and the totals go together with each other.

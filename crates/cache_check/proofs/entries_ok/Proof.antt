@@ -26,7 +26,7 @@ placed c = (c .before .before .before .before .before .pre .size, omega (arith, 
 -- the numbers handed to `entry_ok` are the item's
 decided : (c : tie.After-entry-ok Inv-loop μ-loop) → Decided (EntryAt (cacheOf (c .before .before .before .before .before .before .before .before .before .before .before .before .before .before .args .b .now)) (c .before .before .before .before .before .before .before .before .before .before .loop .i)) (c .entry-ok .result)
 decided c =
-    rw (c .before .before .before .before .before .before .before .before .blocks2 .ensures, c .before .before .before .before .before .before .before .item-load-cost .ensures, c .before .before .before .before .before .before .item-write-cost .ensures, c .before .before .before .before .before .held .ensures, c .before .before .before .before .is-dirty .ensures, c .before .before .before .before .before .before .before .before .before .before .before .before .closed .ensures, c .before .before .before .load-credit .ensures, c .before .before .write-credit .ensures, c .before .tenths .ensures, c .before .before .before .before .before .before .before .before .before .before .before .steps .ensures)
+    rw (c .before .before .before .before .before .before .before .before .blocks2 .ensures, c .before .before .before .before .before .before .before .item-load-cost .ensures, c .before .before .before .before .before .before .item-write-cost .ensures, c .before .before .before .before .before .held .ensures, c .before .before .before .before .is-dirty .ensures, c .before .before .before .before .before .before .before .before .before .before .before .before .closed .ensures, c .before .before .before .load-credit .ensures, c .before .before .write-credit .ensures, c .before .minutes .ensures, c .before .before .before .before .before .before .before .before .before .before .before .steps .ensures)
     at (c .entry-ok .ensures)
 
 closed-requires : tie.Need-closed-requires Inv-loop μ-loop
@@ -59,8 +59,8 @@ load-credit-requires c κs = placed (c .before .before .before .before .before)
 write-credit-requires : tie.Need-write-credit-requires Inv-loop μ-loop
 write-credit-requires c κs = placed (c .before .before .before .before .before .before)
 
-tenths-requires : tie.Need-tenths-requires Inv-loop μ-loop
-tenths-requires c κs = placed (c .before .before .before .before .before .before .before)
+minutes-requires : tie.Need-minutes-requires Inv-loop μ-loop
+minutes-requires c κs = placed (c .before .before .before .before .before .before .before)
 
 entry-ok-requires : tie.Need-entry-ok-requires Inv-loop μ-loop
 entry-ok-requires c κs = search needs
@@ -100,7 +100,7 @@ entries-ok-spec =
     is-dirty-requires
     load-credit-requires
     write-credit-requires
-    tenths-requires
+    minutes-requires
     entry-ok-requires
     returns
     add-i

@@ -27,7 +27,7 @@ run-blank-requires-3 : tie.Need-run-blank-requires-3
 run-blank-requires-3 c κs = search needs
 
 returns-3 : tie.Need-returns-3
-returns-3 c = no (λ p. denied (c .before .run-blank3 .ensures) (c .if3 .taken) (runs (c .before .before .before .before .before .before .before) p .tenths))
+returns-3 c = no (λ p. denied (c .before .run-blank3 .ensures) (c .if3 .taken) (runs (c .before .before .before .before .before .before .before) p .minutes))
 
 run-blank-requires-4 : tie.Need-run-blank-requires-4
 run-blank-requires-4 c κs = search needs
@@ -77,7 +77,7 @@ returns-10 c =
     record {
       loadCredit = granted (c .before .before .before .before .before .before .before .before .before .before .before .before .before .before .before .before .before .before .before .run-blank .ensures) (c .before .before .before .before .before .before .before .before .before .before .before .before .before .before .before .before .before .before .if1 .left);
       writeCredit = granted (c .before .before .before .before .before .before .before .before .before .before .before .before .before .before .before .before .before .run-blank2 .ensures) (c .before .before .before .before .before .before .before .before .before .before .before .before .before .before .before .before .if2 .left);
-      tenths = granted (c .before .before .before .before .before .before .before .before .before .before .before .before .before .before .before .run-blank3 .ensures) (c .before .before .before .before .before .before .before .before .before .before .before .before .before .before .if3 .left);
+      minutes = granted (c .before .before .before .before .before .before .before .before .before .before .before .before .before .before .before .run-blank3 .ensures) (c .before .before .before .before .before .before .before .before .before .before .before .before .before .before .if3 .left);
       loads = granted (c .before .before .before .before .before .before .before .before .before .before .before .before .before .run-blank4 .ensures) (c .before .before .before .before .before .before .before .before .before .before .before .before .if4 .left);
       writebacks = granted (c .before .before .before .before .before .before .before .before .before .before .before .run-blank5 .ensures) (c .before .before .before .before .before .before .before .before .before .before .if5 .left);
       load = granted (c .before .before .before .before .before .before .before .before .before .run-blank6 .ensures) (c .before .before .before .before .before .before .before .before .if6 .left);

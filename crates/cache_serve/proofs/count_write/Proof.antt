@@ -15,8 +15,8 @@ item-write-cost-requires c κs = search needs
 shares-requires : tie.Need-shares-requires
 shares-requires c κs = search needs
 
-tenths-requires : tie.Need-tenths-requires
-tenths-requires c κs = search needs
+minutes-requires : tie.Need-minutes-requires
+minutes-requires c κs = search needs
 
 mark-requires : tie.Need-mark-requires
 mark-requires c κs = search needs
@@ -27,14 +27,11 @@ put-dirty-requires c κs = search needs
 put-write-credit-requires : tie.Need-put-write-credit-requires
 put-write-credit-requires c κs = search needs
 
-whole-tenths-requires : tie.Need-whole-tenths-requires
-whole-tenths-requires c κs = search needs
+add-put-minutes : tie.Need-add-put-minutes
+add-put-minutes c = search needs
 
-add-put-tenths : tie.Need-add-put-tenths
-add-put-tenths c = search needs
-
-put-tenths-requires : tie.Need-put-tenths-requires
-put-tenths-requires c κs = search needs
+put-minutes-requires : tie.Need-put-minutes-requires
+put-minutes-requires c κs = search needs
 
 same-length : tie.Need-same-length
 same-length c = search needs
@@ -42,8 +39,7 @@ same-length c = search needs
 returns : tie.Need-returns
 returns c =
     let s3 = c .before .before in
-    let r5 = s3 .before in
-    let s2 = r5 .before .before .before .before in
+    let s2 = s3 .before .before .before .before in
     let s1 = s2 .before .before .before .before in
     let m = s1 .before in
     let r4 = m .before .before in
@@ -52,8 +48,8 @@ returns c =
     let r1 = r2 .before .before in
     let s = r1 .before .before .before in
     write-counted (s .args .b .now) _ _ _ (s .args .i) (s .args .minutes) (r1 .dirty .ensures)
-    (r3 .shares .ensures ∙ ap full (r2 .item-write-cost .ensures)) (r4 .tenths .ensures) (r5 .whole-tenths .ensures .0)
-    (m .mark .ensures) (s1 .put-dirty .ensures) (s2 .put-write-credit .ensures) (s3 .put-tenths .ensures)
+    (r3 .shares .ensures ∙ ap full (r2 .item-write-cost .ensures)) (r4 .minutes .ensures)
+    (m .mark .ensures) (s1 .put-dirty .ensures) (s2 .put-write-credit .ensures) (s3 .put-minutes .ensures)
 
 pub count-write-spec : {M : Type 1} → statement M
 count-write-spec =
@@ -62,12 +58,11 @@ count-write-spec =
     dirty-requires
     item-write-cost-requires
     shares-requires
-    tenths-requires
+    minutes-requires
     mark-requires
     put-dirty-requires
     put-write-credit-requires
-    whole-tenths-requires
-    add-put-tenths
-    put-tenths-requires
+    add-put-minutes
+    put-minutes-requires
     same-length
     returns)

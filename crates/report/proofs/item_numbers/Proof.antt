@@ -3,8 +3,11 @@ use borrow.Author.Needs.{needs}
 use Rattle.report.proofs.item_numbers.Statement.{statement}
 use Rattle.report.proofs.item_numbers.Tie as tie
 
-tenths-requires : tie.Need-tenths-requires
-tenths-requires c κs = search needs
+minutes-requires : tie.Need-minutes-requires
+minutes-requires c κs = search needs
+
+whole-tenths-requires : tie.Need-whole-tenths-requires
+whole-tenths-requires c κs = search needs
 
 wide-requires : tie.Need-wide-requires
 wide-requires c κs = search needs
@@ -23,13 +26,14 @@ wide-requires-3 c κs = search needs
 
 returns : tie.Need-returns
 returns c =
-    rw (c .before .before .before .before .wide .ensures, c .before .before .before .before .before .tenths .ensures, c .before .before .wide2 .ensures, c .before .before .before .item-loads .ensures, c .wide3 .ensures, c .before .item-writebacks .ensures)
+    rw (c .before .before .before .before .wide .ensures, c .before .before .before .before .before .whole-tenths .ensures, c .before .before .before .before .before .before .minutes .ensures, c .before .before .wide2 .ensures, c .before .before .before .item-loads .ensures, c .wide3 .ensures, c .before .item-writebacks .ensures)
 
 pub item-numbers-spec : {M : Type 1} → statement M
 item-numbers-spec =
     tie.close
     (tie.spec
-    tenths-requires
+    minutes-requires
+    whole-tenths-requires
     wide-requires
     item-loads-requires
     wide-requires-2

@@ -43,7 +43,7 @@ returns-6 c =
             marks = granted (c .before .before .before .before .before .marks-ok .ensures) (c .before .before .before .before .if3 .left);
             loads = granted (c .before .before .before .credit-ok .ensures) (c .before .before .if4 .left);
             writes = granted (c .before .credit-ok2 .ensures) (c .if5 .left);
-            tenthsTop = omega (arith, leb-true);
+            minutesTop = omega (arith, leb-true);
           };
       only = λ h. forced _ (λ f. omega (arith, leb-false));
     }

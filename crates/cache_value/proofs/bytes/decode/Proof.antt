@@ -5,7 +5,7 @@ use Prim.Native.Nat.{ℕ}
 use native.Mathlib.Omega.{arith}
 use borrow.Author.Needs.{needs}
 use Rattle.layout.specs.Layout.{numbersAt}
-use Rattle.layout.specs.InnerRows.{atLoadCredits, atWriteCredits, atTenths, atItemLoads, atItemWritebacks, atItemLoadCosts, atItemWriteCosts, atBlocks}
+use Rattle.layout.specs.InnerRows.{atLoadCredits, atWriteCredits, atMinutes, atItemLoads, atItemWritebacks, atItemLoadCosts, atItemWriteCosts, atBlocks}
 use Rattle.cache_value.proofs.bytes.decode.Statement.{statement}
 use Rattle.cache_value.proofs.bytes.decode.Tie as tie
 
@@ -102,7 +102,7 @@ returns c =
       dirty = c .before .before .before .before .before .before .before .before .before .before .dirty .ensures i;
       loadcredit = many b atLoadCredits 8 (c .before .before .before .before .before .before .before .before .before .get-run8 .ensures) i;
       writecredit = many b atWriteCredits 8 (c .before .before .before .before .before .before .before .before .get-run82 .ensures) i;
-      tenths = many b atTenths 4 (c .before .before .before .before .before .before .before .get-run4 .ensures) i;
+      minutes = many b atMinutes 4 (c .before .before .before .before .before .before .before .get-run4 .ensures) i;
       itemloads = many b atItemLoads 4 (c .before .before .before .before .before .before .get-run42 .ensures) i;
       itemwritebacks = many b atItemWritebacks 4 (c .before .before .before .before .before .get-run43 .ensures) i;
       load = many b atItemLoadCosts 2 (c .before .before .before .before .get-run2 .ensures) i;
