@@ -5,15 +5,15 @@ use Prim.Native.Nat.{ℕ, zero, suc, _+_, _*_, _/_, _≤_, _<_, _∣_, _%_, min}
 use native.Mathlib.Nat.{dvd-zero, dvd-sub, dvd-mul-left-of-dvd, div-mul-cancel, dvd-of-mod-eq-zero, mul-assoc}
 use native.Mathlib.Decide.{decLe, ℕ-discrete}
 use native.Mathlib.Omega.{arith}
-use borrow.Author.Tests.{ne-eqb}
+use borrow.Author.Tests.{eqb-true, ne-eqb}
+use lib.Dec.{eqb}
 use Rattle.landlord.specs.declared.Deduction.{Deduction}
 use Rattle.landlord.specs.declared.Deduction.the-variants.{WriteFirst, LoadFirst}
 use Rattle.landlord.specs.Types.{deductionNumber, deductionOf, isDeduction}
-use Rattle.landlord.specs.Fold.{sumTo}
 use Rattle.landlord.specs.Catalog.{Item, full, unit, sharesPerBlock}
 use Rattle.landlord.specs.Inner.{ItemFacts}
 use Rattle.landlord.specs.Slot.{Slot, absent, clean, dirty, held, isDirty, loadCredit, writeCredit, Split, writeFirst, loadFirst, splitOf, lose, brought, refilled, written, flushed}
-use Rattle.landlord.proofs.Sums.{sum-none}
+use Rattle.landlord.proofs.Tables.{every, every-at}
 use Rattle.landlord.specs.Claims.{Bears, SplitOk, SlotKept}
 
 -- The share fact, for a general s: where s divides the unit, a cost spread over s blocks loses nothing.
@@ -25,8 +25,7 @@ pub full-whole : (cost s : ℕ) → s ∣ unit → s ∣ full cost
 full-whole cost s d = dvd-mul-left-of-dvd s d cost
 
 -- the sixteen block counts, as one computed test: each leaves nothing over
-sixteen : sumTo 16 (λ i. unit % suc i) ≡ 0
-unfolding sumTo
+sixteen : every (λ i. eqb (unit % suc i) 0) 16 ≡ true
 sixteen = refl
 
 -- the test as a fact about each
@@ -35,7 +34,8 @@ blocks-divide x ok = go (x .blocks) (ok .some) (ok .small)
   where
     go : (s : ℕ) → 1 ≤ s → s ≤ 16 → s ∣ unit
     go zero low high = absurd (let z : 1 ≤ 0 = low in omega arith)
-    go (suc s) low high = dvd-of-mod-eq-zero (suc s) (sum-none 16 (λ i. unit % suc i) sixteen s (omega arith))
+    go (suc s) low high =
+        dvd-of-mod-eq-zero (suc s) (eqb-true (unit % suc s) 0 (every-at (λ i. eqb (unit % suc i) 0) 16 sixteen s (omega arith)))
 
 -- write-first splits in multiples of the blocks: the lesser of two multiples is one of them
 pub write-first-ok : SplitOk writeFirst

@@ -15,21 +15,15 @@ use lib.ListN.{length, getD, take, drop, length-append, take-append-drop, drop-o
 use lib.Seq.{drop-cons, take-at, drop-at, take-all}
 use Rattle.decimal.specs.Decimal.{textOf, sameText, digitsOf, allDigits, wroteOf, pageOf}
 use Rattle.decimal.specs.InnerPages.{textOver}
-use Rattle.decimal.proofs.Laws.{digits-all, digits-length, wrote-all, wrote-none, page-all, page-none}
+use Rattle.decimal.proofs.Laws.{less-or-not, digits-all, digits-length, wrote-all, wrote-none, page-all, page-none}
 use Rattle.decimal.proofs.Texts.{same-true}
 use Rattle.decimal.proofs.Pages.{TextGoing, go-first, go-as, go-room, go-next, go-end}
 use Rattle.landlord.specs.Types.{namesItem}
+use Rattle.landlord.proofs.Tables.{every, every-at}
 use Rattle.sentence.specs.Sentences.{words, wordOf, inTable, linePart, itemPart, sentenceOf, longestSentence}
 use Rattle.sentence.specs.InnerSentences.{inOneText, startOf, WordAt, OnPage, toldOf, isStop, pieceOf, placeOf}
 
 -- ## Tests
-
-less-or-not : (x n : ℕ) → (x < n) ⊎ (n ≤ x)
-less-or-not x n = go (ltb x n) refl
-  where
-    go : (t : Bool) → ltb x n ≡ t → (x < n) ⊎ (n ≤ x)
-    go true e = inl (ltb-true x n e)
-    go false e = inr (ltb-false x n e)
 
 -- one of two tests passes, and it is not the first
 the-other : (a b : Bool) → (a || b) ≡ true → a ≡ false → b ≡ true
@@ -37,21 +31,6 @@ the-other true b h e = absurd (false≢true (sym e))
 the-other false b h e = h
 
 -- ## The table
-
--- a test passes at each number below n
-abbrev every : (ℕ → Bool) → ℕ → Bool
-every f zero = true
-every f (suc n) = f n && every f n
-
-every-at : (f : ℕ → Bool) (n : ℕ) → every f n ≡ true → (k : ℕ) → k < n → f k ≡ true
-every-at f zero t k h = absurd (omega arith)
-every-at f (suc n) t k h = ⊎-elim (every-at f n (both .1) k) last (less-or-not k n)
-  where
-    both : (f n ≡ true) × (every f n ≡ true)
-    both = and-eq-true-iff (f n) (every f n) .0 t
-
-    last : n ≤ k → f k ≡ true
-    last l = let e : k ≡ n = omega arith in rw e (both .0)
 
 word-none : (n : ℕ) → 28 ≤ n → wordOf n ≡ []
 unfolding wordOf
@@ -120,10 +99,7 @@ word-size n =
 
 -- ## The words as one text
 
--- where each begins, as the code has it
-pub start-row : (starts : List ℕ) → every (λ n. eqb (getD starts n 0) (startOf n)) 28 ≡ true → (n : ℕ) → n < 28 → getD starts n 0 ≡ startOf n
-start-row starts t n h = eqb-true _ _ (every-at (λ n. eqb (getD starts n 0) (startOf n)) 28 t n h)
-
+-- past the last of them there is nothing more
 pub start-past : (n : ℕ) → 28 ≤ n → 224 ≡ startOf n
 unfolding startOf inOneText
 start-past n h = rw (take-all n words h)

@@ -4,7 +4,8 @@ use mathlib.Core.List.{List, [], _∷_}
 use Prim.Native.Nat.{ℕ}
 use borrow.Author.Needs.{needs}
 use Rattle.sentence.specs.InnerSentences.{inOneText, startOf}
-use Rattle.sentence.proofs.Laws.{start-row, start-past}
+use Rattle.landlord.proofs.Tables.{entry-is}
+use Rattle.sentence.proofs.Laws.{start-past}
 use Rattle.sentence.proofs.start_of.Statement.{statement}
 use Rattle.sentence.proofs.start_of.Tie as tie
 
@@ -22,7 +23,7 @@ array-read-result c = search needs
 
 returns : tie.Need-returns
 unfolding inOneText startOf
-returns c = start-row starts refl (c .before .args .number) (search needs)
+returns c = entry-is starts startOf 28 refl (c .before .args .number) (search needs)
 
 returns-2 : tie.Need-returns-2
 returns-2 c = start-past (c .before .args .number) (search needs)
