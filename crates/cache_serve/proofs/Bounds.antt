@@ -48,7 +48,7 @@ module _ (c : Cache) (ok : Valid c) (i : ℕ) (l : i < c .n) where
   pub item-minutes : getD (c .minutes) i 0 ≤ 1440 * c .steps
   item-minutes = omega (arith, ok .rule .minutes i inside, ap (λ (u : Use). u .minutes) (use-is c i l))
 
-  item-ok : ItemFacts (itemOf c i)
+  pub item-ok : ItemFacts (itemOf c i)
   item-ok = rw (item-is c i l) at (catalog-facts (catalogOf c) (ok .rule .kept .catalog) .each i inside)
 
   pub write-small : getD (c .write) i 0 ≤ 65535

@@ -10,16 +10,18 @@ use lib.ListN.{getD, drop}
 use Rattle.landlord.specs.declared.Step.the-variants.{Flush}
 use Rattle.landlord.specs.Rule.{State, Moved, serveRead, serveWrite, flush}
 use Rattle.landlord.specs.Figures.{Standing, moved, took}
+use Rattle.landlord.specs.Inner.{ItemFacts}
 use Rattle.marks.specs.Inner.{marks, firstSet}
 use Rattle.cache_state.specs.Cache.{Cache, view, Valid}
-use Rattle.cache_state.specs.InnerView.{stateOf}
+use Rattle.cache_state.specs.InnerView.{itemOf, stateOf}
 use Rattle.cache_state.specs.InnerBecomes.{Becomes}
 use Rattle.layout.specs.Layout.{cacheOf, ValidBytes}
 use Rattle.layout.specs.Inner.{Stands, Readable, BecomesAt}
 use Rattle.layout.proofs.Rounds.{whole}
 use Rattle.layout.proofs.Places.{readable, valid-reads}
 use Rattle.cache_serve.specs.InnerStores.{hitOf, loadedOf, refilledOf, flushedOf, WroteAt, WroteBackAt}
-use Rattle.cache_serve.specs.InnerReady.{Servable, SteppableAt, ServableAt, WritableAt, FlushableAt}
+use Rattle.cache_serve.specs.InnerReady.{Servable, Refillable, SteppableAt, ServableAt, RefillableAt, WritableAt, FlushableAt}
+use Rattle.cache_serve.proofs.Bounds.{item-ok}
 use Rattle.cache_serve.proofs.Serves.{read-hit, read-load, writable, write-becomes}
 use Rattle.cache_serve.proofs.Writebacks.{Flushing, flush-starts, flush-ends, flushable, flush-turn, flushed-valid, flush-step-becomes}
 
@@ -60,9 +62,19 @@ module _ (b : List ℕ) (i : ℕ) (p : ServableAt b i) where
   place : i < 256
   place = omega (arith, p .item, p .valid .cache .fields .few)
 
-  pub refillable : (b1 : List ℕ) → FoundOrLoaded b i b1 → Readable b1 × (i < 256)
-  refillable b1 (inl w) = (readable (w .1), place)
-  refillable b1 (inr w) = (readable (w .1), place)
+  -- neither way changes the catalogue
+  pub refillable : (b1 : List ℕ) → FoundOrLoaded b i b1 → RefillableAt b1 i
+  refillable b1 w = by w
+    where
+      it : ItemFacts (itemOf (cacheOf b) i)
+      it = item-ok (cacheOf b) (p .valid .cache) i (p .item)
+
+      fills : (c : Cache) → c .blocks ≡ cacheOf b .blocks → Refillable c i
+      fills c e = record { place = place; some = rw e (it .some); small = rw e (it .small) }
+
+      by : FoundOrLoaded b i b1 → RefillableAt b1 i
+      by (inl h) = record { reads = readable (h .1); fills = fills (cacheOf b1) (ap (λ (q : Cache). q .blocks) (h .1 .cache)) }
+      by (inr h) = record { reads = readable (h .1); fills = fills (cacheOf b1) (ap (λ (q : Cache). q .blocks) (h .1 .cache)) }
 
   -- the load credit is filled last
   pub read-at :

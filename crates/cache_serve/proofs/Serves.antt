@@ -1,5 +1,5 @@
 -- What serving a request is to the rule: a read, where the item was held or not, and a write after it. Assumes nothing.
-use mathlib.Core.Path.{_≡_, refl, sym, ap, _∙_}
+use mathlib.Core.Path.{_≡_, refl, sym, ap, subst, _∙_}
 use mathlib.Core.Bool.{Bool, true, false, cond, false≢true}
 use mathlib.Core.List.{List, [], _∷_}
 use Prim.Native.Nat.{ℕ, _+_, _≤_, _<_}
@@ -13,20 +13,21 @@ use Rattle.landlord.specs.Catalog.{Item, full, itemAt}
 use Rattle.landlord.specs.Slot.{Slot, absent, clean, dirty, held, brought, refilled, written}
 use Rattle.landlord.specs.Rule.{State, Event, hit, loaded, wrote, Moved, size, slotAt, putSlot, found, readSlot, serveRead, serveWrite}
 use Rattle.landlord.specs.Figures.{Use, Standing, usage, isAbout, plusTotals, plusUse, noUse, useAt, adds, moved}
+use Rattle.landlord.specs.Inner.{ItemFacts}
 use Rattle.landlord.proofs.Folds.{tab-at}
 use Rattle.landlord.proofs.Slots.{read-held}
 use Rattle.landlord.proofs.Keeps.{put-same}
 use Rattle.marks.specs.Inner.{marks}
 use Rattle.marks.proofs.Laws.{marked-set-same, marked-set-other}
 use Rattle.cache_state.specs.Cache.{Cache, dirtyAt, slotOf, catalogOf, view, Normal}
-use Rattle.cache_state.specs.InnerView.{usageOf, slotFrom, stateOf, countsOf, figuresOf}
+use Rattle.cache_state.specs.InnerView.{usageOf, slotFrom, itemOf, stateOf, countsOf, figuresOf}
 use Rattle.cache_state.specs.InnerBecomes.{Becomes}
 use Rattle.cache_state.proofs.Views.{size-is, slots-length, item-is, slot-is, use-is, held-is}
 use Rattle.layout.specs.InnerRows.{WholeArrays}
 use Rattle.cache_serve.specs.InnerStores.{hitOf, loadedOf, refilledOf, writtenOf, Wrote}
 use Rattle.cache_serve.specs.InnerReady.{Servable, Writable}
 use Rattle.cache_serve.proofs.Changes.{OnlyAt, stands-but, normal-but, plus-none}
-use Rattle.cache_serve.proofs.Bounds.{item-minutes}
+use Rattle.cache_serve.proofs.Bounds.{item-ok, item-minutes}
 
 -- a slot that is read: held from now on, the load credit full, the rest as it was
 read-slot : (h d : Bool) (a b top : ℕ) → (h ≡ false → d ≡ false) → slotFrom true d top b ≡ refilled top (brought (slotFrom h d a b))
@@ -225,6 +226,13 @@ module _ (c q : Cache) (i : ℕ) (ok : Servable c i) (read : Becomes (moved (vie
       ∙ ap held (put-same (stateOf c) i (readSlot (stateOf c) i) (omega (arith, slots-length c, ok .item)))
       ∙ read-held (full (itemAt (catalogOf c) i .load)) (slotAt (stateOf c) i)
 
+  -- a read changes no catalogue
+  still-sized : ItemFacts (itemOf q i)
+  still-sized =
+      subst ItemFacts
+      (sym (item-is c i (ok .item)) ∙ ap (λ (v : Standing). itemAt (v .state .catalog) i) (sym (read .stands)) ∙ item-is q i still-in)
+      (item-ok c (ok .valid) i (ok .item))
+
   -- neither a hit nor a load counts minutes
   no-minutes : (t u : Bool) → cond u (usage (cond t (hit i) (loaded i))) noUse .minutes ≡ 0
   no-minutes true true = refl
@@ -247,7 +255,7 @@ module _ (c q : Cache) (i : ℕ) (ok : Servable c i) (read : Becomes (moved (vie
   pub writable : (minutes : ℕ) → minutes ≤ 1440 → Writable q i minutes
   writable minutes short =
       record {
-        place = omega (arith, ok .item, ok .valid .fields .few);
+        fills = record { place = omega (arith, ok .item, ok .valid .fields .few); some = still-sized .some; small = still-sized .small };
         short = short;
         sofar = omega (arith, same-minutes, item-minutes c (ok .valid) i (ok .item), ok .room);
       }

@@ -16,9 +16,15 @@ pub record Servable (c : Cache) (i : ℕ) : Type 0 where
   pub item : i < c .n
   pub room : c .steps < 1000000
 
+-- a credit of item i can be set: it has a place, and "blocks 1 to 16" to bear the credit
+pub record Refillable (c : Cache) (i : ℕ) : Type 0 where
+  pub place : i < 256
+  pub some : 1 ≤ getD (c .blocks) i 0
+  pub small : getD (c .blocks) i 0 ≤ 16
+
 -- a write of item i can be counted: "a write with minutes 0 to 1,440", and those so far at most 1,440 × steps
 pub record Writable (c : Cache) (i minutes : ℕ) : Type 0 where
-  pub place : i < 256
+  pub fills : Refillable c i
   pub short : minutes ≤ 1440
   pub sofar : getD (c .minutes) i 0 ≤ 1440000000
 
@@ -40,6 +46,10 @@ pub record ServableAt (b : List ℕ) (i : ℕ) : Type 0 where
   pub valid : ValidBytes b
   pub item : i < cacheOf b .n
   pub room : cacheOf b .steps < 1000000
+
+pub record RefillableAt (b : List ℕ) (i : ℕ) : Type 0 where
+  pub reads : Readable b
+  pub fills : Refillable (cacheOf b) i
 
 pub record WritableAt (b : List ℕ) (i minutes : ℕ) : Type 0 where
   pub reads : Readable b

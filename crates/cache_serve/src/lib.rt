@@ -4,15 +4,15 @@
 ghost use Prim.Native.Nat.{_<_, _≤_};
 ghost use mathlib.Core.Path.{_≡_};
 ghost use Rattle.landlord.specs.declared.Step.the-variants.{Flush};
-ghost use Rattle.landlord.specs.Catalog.{full};
+ghost use Rattle.landlord.specs.Catalog.{full, sharesPerBlock};
 ghost use Rattle.landlord.specs.Rule.{serveRead, serveWrite, flush};
 ghost use Rattle.landlord.specs.Figures.{moved, took};
 ghost use Rattle.cache_state.specs.Cache.{view};
 ghost use Rattle.cache_state.specs.InnerView.{stateOf};
 ghost use Rattle.layout.specs.Layout.{cacheOf, ValidBytes};
-ghost use Rattle.layout.specs.Inner.{Stands, Readable, BecomesAt};
+ghost use Rattle.layout.specs.Inner.{Stands, BecomesAt};
 ghost use Rattle.cache_serve.specs.InnerStores.{hitOf, loadedOf, refilledOf, flushedOf, WroteAt, WroteBackAt};
-ghost use Rattle.cache_serve.specs.InnerReady.{SteppableAt, ServableAt, WritableAt, FlushableAt};
+ghost use Rattle.cache_serve.specs.InnerReady.{SteppableAt, ServableAt, RefillableAt, WritableAt, FlushableAt};
 
 // A cost as it is added to a sum of costs.
 fn cost(price: u16) -> u64
@@ -21,11 +21,20 @@ fn cost(price: u16) -> u64
     price as u64
 }
 
-// A cost in shares: what a credit is when it is full.
-fn shares(price: u16) -> u64
+// A cost's shares a block, where so many blocks bear it.
+fn shares_per_block(price: u16, blocks: u8) -> u64
+    requires { ⌜ (1 ≤ blocks) × (blocks ≤ 16) ⌝ }
+    ensures { λ r. ⌜ r ≡ sharesPerBlock price blocks ⌝ }
+{
+    cost(price) * (720720 / (blocks as u64))
+}
+
+// A cost in shares: what a credit is when it is full. 720,720 is a multiple of 1 to 16, so that nothing of it is lost.
+fn full_credit(price: u16, blocks: u8) -> u64
+    requires { ⌜ (1 ≤ blocks) × (blocks ≤ 16) ⌝ }
     ensures { λ r. ⌜ r ≡ full price ⌝ }
 {
-    cost(price) * 720720
+    shares_per_block(price, blocks) * (blocks as u64)
 }
 
 // A request for an item that is held.
@@ -59,10 +68,10 @@ fn load_item(b: &mut [u8], i: usize)
 
 // Any request fills the item's load credit.
 fn refill(b: &mut [u8], i: usize)
-    requires { ⌜ Readable (now b) × (i < 256) ⌝ }
+    requires { ⌜ RefillableAt (now b) i ⌝ }
     ensures { λ _. ⌜ Stands (now (b .exit)) (refilledOf (cacheOf (now (b .entry))) i) ⌝ }
 {
-    let credit = shares(layout::item_load_cost(b, i));
+    let credit = full_credit(layout::item_load_cost(b, i), layout::blocks(b, i));
     layout::put_load_credit(b, i, credit);
 }
 
@@ -72,7 +81,7 @@ fn count_write(b: &mut [u8], i: usize, minutes: u32)
     ensures { λ _. ⌜ WroteAt (now (b .entry)) i minutes (now (b .exit)) ⌝ }
 {
     let words = layout::dirty(b);
-    let credit = shares(layout::item_write_cost(b, i));
+    let credit = full_credit(layout::item_write_cost(b, i), layout::blocks(b, i));
     let sofar = layout::minutes(b, i);
     layout::put_dirty(b, marks::mark(words, i));
     layout::put_write_credit(b, i, credit);

@@ -29,13 +29,13 @@ sixteen : every (λ i. eqb (unit % suc i) 0) 16 ≡ true
 sixteen = refl
 
 -- the test as a fact about each
+pub sixteen-divide : (s : ℕ) → 1 ≤ s → s ≤ 16 → s ∣ unit
+sixteen-divide zero low high = absurd (let z : 1 ≤ 0 = low in omega arith)
+sixteen-divide (suc s) low high =
+    dvd-of-mod-eq-zero (suc s) (eqb-true (unit % suc s) 0 (every-at (λ i. eqb (unit % suc i) 0) 16 sixteen s (omega arith)))
+
 pub blocks-divide : (x : Item) → ItemFacts x → x .blocks ∣ unit
-blocks-divide x ok = go (x .blocks) (ok .some) (ok .small)
-  where
-    go : (s : ℕ) → 1 ≤ s → s ≤ 16 → s ∣ unit
-    go zero low high = absurd (let z : 1 ≤ 0 = low in omega arith)
-    go (suc s) low high =
-        dvd-of-mod-eq-zero (suc s) (eqb-true (unit % suc s) 0 (every-at (λ i. eqb (unit % suc i) 0) 16 sixteen s (omega arith)))
+blocks-divide x ok = sixteen-divide (x .blocks) (ok .some) (ok .small)
 
 -- write-first splits in multiples of the blocks: the lesser of two multiples is one of them
 pub write-first-ok : SplitOk writeFirst

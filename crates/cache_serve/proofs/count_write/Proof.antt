@@ -2,6 +2,7 @@
 use borrow.Author.Needs.{needs}
 use mathlib.Core.Path.{ap, _∙_}
 use Rattle.landlord.specs.Catalog.{full}
+use Rattle.cache_serve.proofs.Shares.{blocks-read}
 use Rattle.cache_serve.proofs.Counts.{write-counted}
 use Rattle.cache_serve.proofs.count_write.Statement.{statement}
 use Rattle.cache_serve.proofs.count_write.Tie as tie
@@ -12,8 +13,11 @@ dirty-requires c κs = search needs
 item-write-cost-requires : tie.Need-item-write-cost-requires
 item-write-cost-requires c κs = search needs
 
-shares-requires : tie.Need-shares-requires
-shares-requires c κs = search needs
+blocks-requires : tie.Need-blocks-requires
+blocks-requires c κs = search needs
+
+full-credit-requires : tie.Need-full-credit-requires
+full-credit-requires c κs = blocks-read (c .before .before .before .before .before .before .before .pre .counts .fills) (c .blocks2 .ensures)
 
 minutes-requires : tie.Need-minutes-requires
 minutes-requires c κs = search needs
@@ -44,11 +48,11 @@ returns c =
     let m = s1 .before in
     let r4 = m .before .before in
     let r3 = r4 .before .before in
-    let r2 = r3 .before in
+    let r2 = r3 .before .before .before in
     let r1 = r2 .before .before in
     let s = r1 .before .before .before in
     write-counted (s .args .b .now) _ _ _ (s .args .i) (s .args .minutes) (r1 .dirty .ensures)
-    (r3 .shares .ensures ∙ ap full (r2 .item-write-cost .ensures)) (r4 .minutes .ensures)
+    (r3 .full-credit .ensures ∙ ap full (r2 .item-write-cost .ensures)) (r4 .minutes .ensures)
     (m .mark .ensures) (s1 .put-dirty .ensures) (s2 .put-write-credit .ensures) (s3 .put-minutes .ensures)
 
 pub count-write-spec : {M : Type 1} → statement M
@@ -57,7 +61,8 @@ count-write-spec =
     (tie.spec
     dirty-requires
     item-write-cost-requires
-    shares-requires
+    blocks-requires
+    full-credit-requires
     minutes-requires
     mark-requires
     put-dirty-requires

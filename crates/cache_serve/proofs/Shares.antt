@@ -1,0 +1,20 @@
+-- A cost's shares a block: they fit a word, and so many for each of the blocks are the whole cost again. Assumes nothing.
+use mathlib.Core.Path.{_≡_, sym, ap, subst, _∙_}
+use Prim.Native.Nat.{ℕ, _*_, _/_, _≤_}
+use native.Mathlib.Nat.{mul-le-mul, div-le-self}
+use lib.ListN.{getD}
+use Rattle.landlord.specs.Catalog.{full, unit, sharesPerBlock}
+use Rattle.landlord.proofs.Slots.{share-fact, sixteen-divide}
+use Rattle.cache_state.specs.Cache.{Cache}
+use Rattle.cache_serve.specs.InnerReady.{Refillable}
+
+-- a cost times a quotient of the unit, whatever the blocks
+pub shares-small : (price s : ℕ) → price ≤ 65535 → sharesPerBlock price s ≤ 65535 * unit
+shares-small price s l = mul-le-mul l (div-le-self unit s)
+
+pub whole-again : (price s : ℕ) {r : ℕ} → 1 ≤ s → s ≤ 16 → r ≡ sharesPerBlock price s → r * s ≡ full price
+whole-again price s low high e = ap (λ (z : ℕ). z * s) e ∙ share-fact price s (sixteen-divide s low high)
+
+-- what is read as an item's blocks is 1 to 16
+pub blocks-read : {c : Cache} {i r : ℕ} → Refillable c i → r ≡ getD (c .blocks) i 0 → (1 ≤ r) × (r ≤ 16)
+blocks-read p e = subst (λ (s : ℕ). (1 ≤ s) × (s ≤ 16)) (sym e) (p .some, p .small)
