@@ -8,7 +8,7 @@ use lib.ListN.{length}
 use Rattle.cache_state.specs.Cache.{view}
 use Rattle.decimal.specs.Decimal.{fits, wroteOf}
 use Rattle.layout.specs.Layout.{cacheOf}
-use Rattle.report.specs.declared.Rival.the-variants.{Absent}
+use Rattle.report_lines.specs.declared.Rival.the-variants.{Absent}
 use Rattle.report.specs.declared.Written.{Written}
 use Rattle.report.specs.declared.Written.the-variants.{Text, Refused}
 use Rattle.report.specs.Report.{reportOf, writtenLength, Reported}

@@ -6,7 +6,8 @@ use lib.ListN.{length}
 use Rattle.decimal.specs.Decimal.{fits, pageOf}
 use Rattle.cache_state.specs.Cache.{view}
 use Rattle.layout.specs.Layout.{cacheOf, ValidBytes}
-use Rattle.report.specs.{declared.Rival.the-variants.Absent, Report.reportOf}
+use Rattle.report_lines.specs.declared.Rival.the-variants.{Absent}
+use Rattle.report.specs.Report.{reportOf}
 use Rattle.landlord.specs.Types.{refusalNumber, refusalLine}
 use Rattle.season_log.specs.{declared.LogAnswer.{LogAnswer, the-variants.{Count, Refused}}, Log.{listed, writeAnswer, writtenPage}}
 

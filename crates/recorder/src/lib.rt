@@ -4,8 +4,8 @@ ghost use Rattle.landlord.specs.Calls.{stepCall, close};
 ghost use Rattle.cache_open.specs.Opening.{OpenedLent};
 ghost use Rattle.cache.specs.Contract.{lent, Called};
 ghost use Rattle.recorder.specs.Reports.{ReportedLent, SaidLent, LoggedLent};
-use report::Rival;
 use report::Written;
+use report_lines::Rival;
 use season_log::LogAnswer;
 
 // Opens the state for a cache of `k` blocks, a rule of deduction, 0 for write-first and 1 for load-first, and the items of the catalog,

@@ -16,13 +16,15 @@ use Rattle.landlord.proofs.Sums.{sum-term}
 use Rattle.cache_state.specs.Cache.{Cache, usesOf, view, Valid}
 use Rattle.cache_state.specs.InnerView.{usageOf, stateOf, figuresOf}
 use Rattle.cache_state.proofs.Views.{size-is, use-is}
-use Rattle.report.specs.declared.Rival.{Rival}
-use Rattle.report.specs.declared.Rival.the-variants.{Absent, Against}
-use Rattle.report.specs.Report.{separator, lineOf, itemLines, rivalNumbers, totalNames, totalNumbers, reportOf, refusalText, longest}
-use Rattle.report.specs.Inner.{itemNumbers, RivalOk}
+use Rattle.report_lines.specs.declared.Rival.{Rival}
+use Rattle.report_lines.specs.declared.Rival.the-variants.{Absent, Against}
+use Rattle.report_lines.specs.Lines.{separator, lineOf, itemLines, rivalNumbers, totalNames, totalNumbers}
+use Rattle.report_lines.specs.Inner.{itemNumbers, RivalOk}
+use Rattle.report_lines.proofs.Sides.{few-blocks, left-fits, right-fits}
+use Rattle.report_lines.proofs.Laws.{items-count, items-end, names-alone-count, names-priced-count, totals-count}
+use Rattle.report.specs.Report.{reportOf, refusalText, longest}
 use Rattle.landlord.proofs.Refusals.{refusal-range}
-use Rattle.report.proofs.Sides.{few-blocks, left-fits, right-fits}
-use Rattle.report.proofs.Laws.{items-count, items-end, names-alone-count, names-priced-count, totals-count, report-count, refusal-is, refused-count}
+use Rattle.report.proofs.Laws.{report-count, refusal-is, refused-count}
 
 -- a number of at most w digits in front of a line makes it longer by at most w + 1
 cons-longest :

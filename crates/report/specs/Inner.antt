@@ -1,27 +1,14 @@
--- What the writers of lines ask and give. Assumes nothing.
+-- The names of a report, the output of a refusal by what it tells, and the number of an answer. Assumes nothing.
 use Rattle.sentence.specs.Sentences.{sentenceOf}
 use mathlib.Core.List.{[], List, _∷_, _++_}
-use Rattle.landlord.specs.Figures.{Use, Standing, tenthsOf, totalCost}
-use Prim.Native.Nat.{ℕ, _≤_}
-use lib.ListN.{length}
-use Rattle.cache_state.specs.Cache.{view}
-use Rattle.layout.specs.Layout.{cacheOf, ValidBytes}
+use Prim.Native.Nat.{ℕ}
 use Rattle.decimal.specs.Decimal.{textOf}
-use Rattle.report.specs.{declared.{Rival.{Rival, the-variants.{Absent, Against}}, Written.Written}, Report.{lineOf, writtenTold}}
-
--- the numbers of an item's line
-abbrev pub itemNumbers : ℕ → Use → List ℕ
-itemNumbers i u = i ∷ tenthsOf (u .minutes) ∷ u .loads ∷ u .writebacks ∷ []
+use Rattle.report_lines.specs.Lines.{lineOf}
+use Rattle.report.specs.{declared.Written.Written, Report.{writtenTold}}
 
 -- the names above the items' lines
 abbrev pub itemNames : List ℕ
 itemNames = textOf "sail tenths loads writebacks\n"
-
--- the eight totals, with these numbers behind them
-abbrev pub totalsThen : Standing → List ℕ → List ℕ
-totalsThen v more =
-    let t = v .figures .totals in
-    t .hits ∷ t .loads ∷ t .loadCost ∷ t .evictions ∷ t .dirtyEvictions ∷ t .writebacks ∷ t .writeCost ∷ totalCost (v .figures) ∷ more
 
 -- the names above a refusal's two numbers
 abbrev pub refusalNames : List ℕ
@@ -34,24 +21,3 @@ refusedText number line item = (refusalNames ++ lineOf (number ∷ line ∷ []))
 -- the number that an answer tells
 abbrev pub writtenNumber : Written → ℕ
 writtenNumber w = writtenTold w .number
-
--- What the report asks of a rival: a plan of 1 to k blocks, and a cost with which both sides of the bound fit their words.
-abbrev pub RivalOk : Standing → Rival → Type 0
-RivalOk v Absent = Unit {0}
-RivalOk v (Against h cost) = (1 ≤ h) × (h ≤ v .k) × (cost ≤ 1000000000000)
-
--- a valid state, and a rival in range for it
-pub record Comparable (b : List ℕ) (rival : Rival) : Type 0 where
-  pub valid : ValidBytes b
-  pub fair : RivalOk (view (cacheOf b)) rival
-
--- and a text about them, for which a page has room
-pub record TextFits (b : List ℕ) (rival : Rival) (t page : List ℕ) : Type 0 where
-  pub valid : ValidBytes b
-  pub fair : RivalOk (view (cacheOf b)) rival
-  pub room : length t ≤ length page
-
--- how many numbers the last line has of a rival
-abbrev pub rivalCount : Rival → ℕ
-rivalCount Absent = 0
-rivalCount (Against h cost) = 3

@@ -1,48 +1,14 @@
--- The report's text, and what writing it on a lent page gives. Paper 01, 'The text input' and 'When the library says no'.
--- Assumes nothing.
+-- The report's text, and what writing it on a lent page gives. Paper 01, 'The text input' and 'When the library says no'. Its lines are
+-- in crates/report_lines/specs/Lines.antt. Assumes nothing.
 use mathlib.Core.{Path._≡_, Bool.cond, List.{List, [], _∷_, _++_}}
-use Prim.Native.Nat.{ℕ, suc}
-use Rattle.decimal.specs.Decimal.{textOf, digitsOf, fits, wroteOf, pageOf}
-use Rattle.landlord.specs.{declared.Refusal.Refusal, Types.{Told, telling, nothingTold, told}, Figures.{Use, Standing, tenthsOf, totalCost, leftSide, rightSide}}
+use Prim.Native.Nat.{ℕ}
+use Rattle.decimal.specs.Decimal.{textOf, fits, wroteOf, pageOf}
+use Rattle.landlord.specs.{declared.Refusal.Refusal, Types.{Told, telling, nothingTold, told}, Figures.Standing}
 use Rattle.sentence.specs.Sentences.{sentenceOf}
 use Rattle.cache_state.specs.Cache.{view}
 use Rattle.layout.specs.Layout.{cacheOf, ValidBytes}
-use Rattle.report.specs.declared.{Rival.{Rival, the-variants.{Absent, Against}}, Written.{Written, the-variants.{Text, Refused}}}
-
--- the byte behind a number: a space before the next one, a line feed behind the last
-abbrev pub separator : List ℕ → ℕ
-separator [] = 10
-separator (x ∷ rest) = 32
-
--- a line of numbers
-unfoldable pub lineOf : List ℕ → List ℕ
-lineOf [] = []
-lineOf (x ∷ rest) = digitsOf x ++ (separator rest ∷ lineOf rest)
-
--- one line an item, from number i on: its number, and what was counted for it, the minutes as tenths of an hour
-unfoldable pub itemLines : ℕ → List Use → List ℕ
-itemLines i [] = []
-itemLines i (u ∷ uses) = lineOf (i ∷ tenthsOf (u .minutes) ∷ u .loads ∷ u .writebacks ∷ []) ++ itemLines (suc i) uses
-
--- a plan of h blocks: its cost, and both sides of the bound
-abbrev pub rivalNumbers : Standing → Rival → List ℕ
-rivalNumbers v Absent = []
-rivalNumbers v (Against h cost) = cost ∷ leftSide (v .k) h (totalCost (v .figures)) ∷ rightSide (v .k) cost ∷ []
-
--- "A report called on a state alone ends its last two lines at `total`"; with a rival's figures they go on
-abbrev pub totalNames : Rival → List ℕ
-totalNames Absent = textOf "hits loads loadcost drops dirtydrops writebacks writecost total\n"
-totalNames (Against h cost) = textOf "hits loads loadcost drops dirtydrops writebacks writecost total rival left right\n"
-
--- the numbers of the last line: the totals, and those of a rival
-abbrev pub totalNumbers : Standing → Rival → List ℕ
-totalNumbers v rival =
-    let t = v .figures .totals in
-    t .hits ∷ t .loads ∷ t .loadCost ∷ t .evictions ∷ t .dirtyEvictions ∷ t .writebacks ∷ t .writeCost ∷ totalCost (v .figures) ∷ rivalNumbers v rival
-
--- the totals: a line of names and a line of numbers
-unfoldable pub totalLines : Standing → Rival → List ℕ
-totalLines v rival = totalNames rival ++ lineOf (totalNumbers v rival)
+use Rattle.report_lines.specs.{declared.Rival.Rival, Lines.{lineOf, itemLines, totalLines}}
+use Rattle.report.specs.declared.Written.{Written, the-variants.{Text, Refused}}
 
 -- the whole report: the items under their names, a blank line, the totals
 unfoldable pub reportOf : Standing → Rival → List ℕ

@@ -15,11 +15,11 @@ use Rattle.landlord.specs.Plan.{faultRefusal, Priced, costs, fault}
 use Rattle.cache_state.specs.Cache.{view}
 use Rattle.catalog_bytes.specs.Catalogs.{catalogIn}
 use Rattle.layout.specs.Layout.{cacheOf}
-use Rattle.report.specs.declared.Rival.the-variants.{Against}
+use Rattle.report_lines.specs.declared.Rival.the-variants.{Against}
 use Rattle.report.specs.declared.Written.{Written}
 use Rattle.report.specs.declared.Written.the-variants.{Refused}
 use Rattle.report.specs.Report.{reportOf, Put, longest}
-use Rattle.report.specs.Inner.{RivalOk}
+use Rattle.report_lines.specs.Inner.{RivalOk}
 use Rattle.season_tables.specs.declared.Seen.{Seen}
 use Rattle.season_tables.specs.declared.Scanned.{Scanned}
 use Rattle.season_tables.specs.declared.Verdict.{Verdict}

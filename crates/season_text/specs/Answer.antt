@@ -6,7 +6,8 @@ use lib.{ListN.{length, drop, getD, take}, Dec.leb}
 use Rattle.landlord.specs.declared.Refusal.{Refusal, the-variants.{InputTooLong, ShortBuffer}}
 use Rattle.landlord.specs.{Types.{told, deductionNumber}, Slot.splitOf, Figures.{Standing, season, totalCost, leftSide, rightSide}, Plan.{faultRefusal, Priced, costs, fault}, Calls.{Call, close, callOf, openingRefusal, refusal}}
 use Rattle.decimal.specs.Decimal.{fits, wroteOf, pageOf}
-use Rattle.report.specs.{declared.{Rival.the-variants.Against, Written.Written}, Report.{reportOf, refusalText, writtenTold, Put, longest}}
+use Rattle.report_lines.specs.declared.Rival.the-variants.{Against}
+use Rattle.report.specs.{declared.Written.Written, Report.{reportOf, refusalText, writtenTold, Put, longest}}
 use Rattle.season_tables.specs.Tables.{Sofar, Led, on, stop, readingOf}
 use Rattle.season_plan.specs.Plans.{faultLine, priceOf}
 use Rattle.catalog_bytes.specs.Catalogs.{catalogIn}

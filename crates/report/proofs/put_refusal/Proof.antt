@@ -9,7 +9,7 @@ use Rattle.decimal.specs.InnerPages.{textOver}
 use Rattle.decimal.proofs.Laws.{page-all}
 use Rattle.decimal.proofs.Pages.{TextGoing, go-first, go-as, go-room, go-next, go-end}
 use Rattle.sentence.specs.Sentences.{sentenceOf}
-use Rattle.report.specs.Report.{lineOf}
+use Rattle.report_lines.specs.Lines.{lineOf}
 use Rattle.report.specs.Inner.{refusalNames, refusedText}
 use Rattle.report.proofs.Laws.{told-count, refused-count}
 use Rattle.report.proofs.put_refusal.Statement.{statement}

@@ -9,7 +9,8 @@ use lib.ListN.{length}
 use Rattle.decimal.proofs.Pages.{TextGoing, go-first, go-as, go-room, go-next, go-end}
 use Rattle.cache_state.specs.Cache.{view, usesOf}
 use Rattle.layout.specs.Layout.{cacheOf}
-use Rattle.report.specs.Report.{itemLines, totalLines, reportOf}
+use Rattle.report_lines.specs.Lines.{itemLines, totalLines}
+use Rattle.report.specs.Report.{reportOf}
 use Rattle.report.specs.Inner.{itemNames}
 use Rattle.report.proofs.Laws.{report-count}
 use Rattle.report.proofs.put_report.Statement.{statement}

@@ -6,7 +6,7 @@ use native.Mathlib.Omega.{arith}
 use borrow.Author.Needs.{needs}
 use lib.ListN.{length}
 use Rattle.sentence.proofs.Sentences.{sentence-fits}
-use Rattle.report.specs.Report.{lineOf}
+use Rattle.report_lines.specs.Lines.{lineOf}
 use Rattle.report.proofs.Laws.{refused-count}
 use Rattle.report.proofs.refusal_length.Statement.{statement}
 use Rattle.report.proofs.refusal_length.Tie as tie

@@ -6,8 +6,8 @@ use borrow.Author.Needs.{needs}
 use borrow.Author.Tests.{not-true, not-false}
 use Rattle.cache_state.specs.Cache.{view}
 use Rattle.layout.specs.Layout.{cacheOf, ValidBytes}
+use Rattle.report_lines.specs.Inner.{RivalOk}
 use Rattle.report.specs.Report.{reportOf}
-use Rattle.report.specs.Inner.{RivalOk}
 use Rattle.report.proofs.Laws.{put-short, put-whole, invalid-told, fine-told}
 use Rattle.report.proofs.report.Statement.{statement}
 use Rattle.report.proofs.report.Tie as tie

@@ -2,8 +2,8 @@
 use borrow.Author.Needs.{needs}
 use Rattle.cache_state.specs.Cache.{view}
 use Rattle.layout.specs.Layout.{cacheOf}
-use Rattle.report.specs.declared.Rival.the-variants.{Against}
-use Rattle.report.specs.Inner.{RivalOk}
+use Rattle.report_lines.specs.declared.Rival.the-variants.{Against}
+use Rattle.report_lines.specs.Inner.{RivalOk}
 use Rattle.season_text.proofs.Answers.{plan-blocks, rival-ok, reports-season}
 use Rattle.season_text.proofs.report_season.Statement.{statement}
 use Rattle.season_text.proofs.report_season.Tie as tie

@@ -1,12 +1,12 @@
--- `report::figures` meets its contract. Assumes nothing.
+-- `report_lines::figures` meets its contract. Assumes nothing.
 use mathlib.Core.Path.{_≡_}
 use borrow.Author.Needs.{needs}
 use lib.ListN.{length}
 use Rattle.cache_state.specs.Cache.{view}
 use Rattle.layout.specs.Layout.{cacheOf}
-use Rattle.report.proofs.Laws.{totals-told}
-use Rattle.report.proofs.figures.Statement.{statement}
-use Rattle.report.proofs.figures.Tie as tie
+use Rattle.report_lines.proofs.Laws.{totals-told}
+use Rattle.report_lines.proofs.figures.Statement.{statement}
+use Rattle.report_lines.proofs.figures.Tie as tie
 
 rival-numbers-requires : tie.Need-rival-numbers-requires
 rival-numbers-requires c κs = search needs

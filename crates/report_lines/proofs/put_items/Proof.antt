@@ -1,4 +1,4 @@
--- `report::put_items` meets its contract. The loop's invariant: the lines from the next item on are left to write. Assumes nothing.
+-- `report_lines::put_items` meets its contract. The loop's invariant: the lines from the next item on are left to write. Assumes nothing.
 use mathlib.Core.List.{_++_}
 use Prim.Native.Nat.{_+_, _-_, _≤_}
 use native.Mathlib.Omega.{arith}
@@ -8,10 +8,10 @@ use lib.ListN.{length, drop}
 use Rattle.decimal.proofs.Pages.{TextGoing, go-start, go-as, go-room, go-next, go-end}
 use Rattle.cache_state.specs.Cache.{usesOf}
 use Rattle.layout.specs.Layout.{cacheOf}
-use Rattle.report.specs.Report.{lineOf, itemLines}
-use Rattle.report.proofs.Laws.{items-next, items-end}
-use Rattle.report.proofs.put_items.Statement.{statement}
-use Rattle.report.proofs.put_items.Tie as tie
+use Rattle.report_lines.specs.Lines.{lineOf, itemLines}
+use Rattle.report_lines.proofs.Laws.{items-next, items-end}
+use Rattle.report_lines.proofs.put_items.Statement.{statement}
+use Rattle.report_lines.proofs.put_items.Tie as tie
 
 abbrev Inv-loop : tie.InvT-loop
 Inv-loop page₀ b n at₀ i₀ page at i =

@@ -1,9 +1,9 @@
--- `report::right_side` meets its contract. Assumes nothing.
+-- `report_lines::right_side` meets its contract. Assumes nothing.
 use borrow.Author.Needs.{needs}
 use Rattle.layout.specs.Layout.{cacheOf}
-use Rattle.report.proofs.Sides.{right-fits}
-use Rattle.report.proofs.right_side.Statement.{statement}
-use Rattle.report.proofs.right_side.Tie as tie
+use Rattle.report_lines.proofs.Sides.{right-fits}
+use Rattle.report_lines.proofs.right_side.Statement.{statement}
+use Rattle.report_lines.proofs.right_side.Tie as tie
 
 capacity-requires : tie.Need-capacity-requires
 capacity-requires c κs = search needs

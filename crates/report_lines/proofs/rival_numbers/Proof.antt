@@ -1,10 +1,10 @@
--- `report::rival_numbers` meets its contract. Assumes nothing.
+-- `report_lines::rival_numbers` meets its contract. Assumes nothing.
 use borrow.Author.Needs.{needs}
 use Rattle.cache_state.specs.Cache.{view}
 use Rattle.layout.specs.Layout.{cacheOf}
-use Rattle.report.proofs.Laws.{priced-ok, rival-told}
-use Rattle.report.proofs.rival_numbers.Statement.{statement}
-use Rattle.report.proofs.rival_numbers.Tie as tie
+use Rattle.report_lines.proofs.Laws.{priced-ok, rival-told}
+use Rattle.report_lines.proofs.rival_numbers.Statement.{statement}
+use Rattle.report_lines.proofs.rival_numbers.Tie as tie
 
 enum-told : tie.Need-enum-told
 enum-told c = search needs

@@ -1,4 +1,4 @@
--- `report::put_line` meets its contract. The loop's invariant: the line from the next number on is left to write. Assumes nothing.
+-- `report_lines::put_line` meets its contract. The loop's invariant: the line from the next number on is left to write. Assumes nothing.
 use mathlib.Core.Path.{_≡_}
 use mathlib.Core.Logic.{⊎-elim}
 use mathlib.Core.List.{_∷_}
@@ -8,10 +8,10 @@ use borrow.Author.Needs.{needs}
 use borrow.Rule.Slice.PartMut.{putMid}
 use lib.ListN.{length, drop}
 use Rattle.decimal.proofs.Pages.{TextGoing, go-start, go-as, go-byte, go-end}
-use Rattle.report.specs.Report.{separator, lineOf}
-use Rattle.report.proofs.Laws.{line-end, number-next, space-next, feed-last}
-use Rattle.report.proofs.put_line.Statement.{statement}
-use Rattle.report.proofs.put_line.Tie as tie
+use Rattle.report_lines.specs.Lines.{separator, lineOf}
+use Rattle.report_lines.proofs.Laws.{line-end, number-next, space-next, feed-last}
+use Rattle.report_lines.proofs.put_line.Statement.{statement}
+use Rattle.report_lines.proofs.put_line.Tie as tie
 
 abbrev Inv-loop : tie.InvT-loop
 Inv-loop page₀ numbers at₀ i₀ page at i = (i ≤ length numbers) × TextGoing (lineOf numbers) page₀ at (lineOf (drop i numbers)) page

@@ -1,7 +1,7 @@
--- `report::item_numbers` meets its contract. Assumes nothing.
+-- `report_lines::item_numbers` meets its contract. Assumes nothing.
 use borrow.Author.Needs.{needs}
-use Rattle.report.proofs.item_numbers.Statement.{statement}
-use Rattle.report.proofs.item_numbers.Tie as tie
+use Rattle.report_lines.proofs.item_numbers.Statement.{statement}
+use Rattle.report_lines.proofs.item_numbers.Tie as tie
 
 minutes-requires : tie.Need-minutes-requires
 minutes-requires c κs = search needs

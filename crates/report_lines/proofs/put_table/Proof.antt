@@ -1,13 +1,13 @@
--- `report::put_table` meets its contract: the names, and behind them the line of numbers. Assumes nothing.
+-- `report_lines::put_table` meets its contract: the names, and behind them the line of numbers. Assumes nothing.
 use mathlib.Core.Path.{sym}
 use mathlib.Core.List.{[], _++_, append-nil}
 use native.Mathlib.Omega.{arith}
 use borrow.Author.Needs.{needs}
 use lib.ListN.{length-append}
 use Rattle.decimal.proofs.Pages.{TextGoing, go-first, go-as, go-room, go-next, go-end}
-use Rattle.report.specs.Report.{lineOf}
-use Rattle.report.proofs.put_table.Statement.{statement}
-use Rattle.report.proofs.put_table.Tie as tie
+use Rattle.report_lines.specs.Lines.{lineOf}
+use Rattle.report_lines.proofs.put_table.Statement.{statement}
+use Rattle.report_lines.proofs.put_table.Tie as tie
 
 put-text-requires : tie.Need-put-text-requires
 put-text-requires c κs =

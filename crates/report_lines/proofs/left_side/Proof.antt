@@ -1,11 +1,11 @@
--- `report::left_side` meets its contract. Assumes nothing.
+-- `report_lines::left_side` meets its contract. Assumes nothing.
 use Prim.Native.Nat.{_≤_}
 use native.Mathlib.Omega.{arith}
 use borrow.Author.Needs.{needs}
 use Rattle.layout.specs.Layout.{cacheOf}
-use Rattle.report.proofs.Sides.{few-blocks, left-fits}
-use Rattle.report.proofs.left_side.Statement.{statement}
-use Rattle.report.proofs.left_side.Tie as tie
+use Rattle.report_lines.proofs.Sides.{few-blocks, left-fits}
+use Rattle.report_lines.proofs.left_side.Statement.{statement}
+use Rattle.report_lines.proofs.left_side.Tie as tie
 
 total-cost-requires : tie.Need-total-cost-requires
 total-cost-requires c κs = search needs

@@ -1,4 +1,4 @@
--- `report::items_length` meets its contract. The loop's invariant: what is counted and the lines that are left are all lines.
+-- `report_lines::items_length` meets its contract. The loop's invariant: what is counted and the lines that are left are all lines.
 -- Assumes nothing.
 use mathlib.Core.Path.{_≡_, ap}
 use Prim.Native.Nat.{_+_, _*_, _-_, _≤_}
@@ -7,10 +7,10 @@ use borrow.Author.Needs.{needs}
 use lib.ListN.{length, drop}
 use Rattle.cache_state.specs.Cache.{usesOf}
 use Rattle.layout.specs.Layout.{cacheOf}
-use Rattle.report.specs.Report.{itemLines}
-use Rattle.report.proofs.Laws.{items-count, items-end}
-use Rattle.report.proofs.items_length.Statement.{statement}
-use Rattle.report.proofs.items_length.Tie as tie
+use Rattle.report_lines.specs.Lines.{itemLines}
+use Rattle.report_lines.proofs.Laws.{items-count, items-end}
+use Rattle.report_lines.proofs.items_length.Statement.{statement}
+use Rattle.report_lines.proofs.items_length.Tie as tie
 
 abbrev Inv-loop : tie.InvT-loop
 Inv-loop b n sum₀ i₀ sum i =

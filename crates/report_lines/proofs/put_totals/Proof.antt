@@ -1,4 +1,4 @@
--- `report::put_totals` meets its contract: the bytes of the code are those of the words. Assumes nothing.
+-- `report_lines::put_totals` meets its contract: the bytes of the code are those of the words. Assumes nothing.
 use mathlib.Core.Path.{_≡_, sym, ap, _∙_}
 use mathlib.Core.List.{List, _++_}
 use Prim.Native.Nat.{ℕ}
@@ -9,11 +9,11 @@ use lib.Seq.{length-take-le}
 use Rattle.decimal.specs.InnerPages.{textOver}
 use Rattle.cache_state.specs.Cache.{view}
 use Rattle.layout.specs.Layout.{cacheOf}
-use Rattle.report.specs.declared.Rival.the-variants.{Absent, Against}
-use Rattle.report.specs.Report.{lineOf, totalNames, totalLines}
-use Rattle.report.proofs.Laws.{totals-alone, totals-priced}
-use Rattle.report.proofs.put_totals.Statement.{statement}
-use Rattle.report.proofs.put_totals.Tie as tie
+use Rattle.report_lines.specs.declared.Rival.the-variants.{Absent, Against}
+use Rattle.report_lines.specs.Lines.{lineOf, totalNames, totalLines}
+use Rattle.report_lines.proofs.Laws.{totals-alone, totals-priced}
+use Rattle.report_lines.proofs.put_totals.Statement.{statement}
+use Rattle.report_lines.proofs.put_totals.Tie as tie
 
 figures-requires : tie.Need-figures-requires
 figures-requires c κs = let s = c .before .before in record { valid = s .pre .valid; fair = s .pre .fair }

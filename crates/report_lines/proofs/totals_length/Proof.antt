@@ -1,4 +1,4 @@
--- `report::totals_length` meets its contract. Assumes nothing.
+-- `report_lines::totals_length` meets its contract. Assumes nothing.
 use mathlib.Core.Path.{_≡_, sym, ap}
 use mathlib.Core.List.{_++_}
 use native.Mathlib.Omega.{arith}
@@ -7,11 +7,11 @@ use lib.ListN.{length, take, length-append}
 use lib.Seq.{length-take-le}
 use Rattle.cache_state.specs.Cache.{view}
 use Rattle.layout.specs.Layout.{cacheOf}
-use Rattle.report.specs.declared.Rival.the-variants.{Absent, Against}
-use Rattle.report.specs.Report.{lineOf, totalNames, totalLines}
-use Rattle.report.proofs.Laws.{totals-alone, totals-priced, names-alone-count, names-priced-count}
-use Rattle.report.proofs.totals_length.Statement.{statement}
-use Rattle.report.proofs.totals_length.Tie as tie
+use Rattle.report_lines.specs.declared.Rival.the-variants.{Absent, Against}
+use Rattle.report_lines.specs.Lines.{lineOf, totalNames, totalLines}
+use Rattle.report_lines.proofs.Laws.{totals-alone, totals-priced, names-alone-count, names-priced-count}
+use Rattle.report_lines.proofs.totals_length.Statement.{statement}
+use Rattle.report_lines.proofs.totals_length.Tie as tie
 
 figures-requires : tie.Need-figures-requires
 figures-requires c κs = search needs

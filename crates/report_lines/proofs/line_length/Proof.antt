@@ -1,4 +1,4 @@
--- `report::line_length` meets its contract. The loop's invariant: what is counted and what is left of the line are the whole line.
+-- `report_lines::line_length` meets its contract. The loop's invariant: what is counted and what is left of the line are the whole line.
 -- Assumes nothing.
 use mathlib.Core.Path.{_≡_, ap}
 use Prim.Native.Nat.{_+_, _*_, _-_, _≤_}
@@ -6,10 +6,10 @@ use native.Mathlib.Omega.{arith}
 use borrow.Author.Needs.{needs}
 use lib.ListN.{length, getD, drop}
 use Rattle.decimal.proofs.Laws.{digits-twenty}
-use Rattle.report.specs.Report.{lineOf}
-use Rattle.report.proofs.Laws.{line-count, line-end}
-use Rattle.report.proofs.line_length.Statement.{statement}
-use Rattle.report.proofs.line_length.Tie as tie
+use Rattle.report_lines.specs.Lines.{lineOf}
+use Rattle.report_lines.proofs.Laws.{line-count, line-end}
+use Rattle.report_lines.proofs.line_length.Statement.{statement}
+use Rattle.report_lines.proofs.line_length.Tie as tie
 
 abbrev Inv-loop : tie.InvT-loop
 Inv-loop numbers n₀ i₀ n i = (i ≤ length numbers) × (n ≤ 21 * i) × (n + length (lineOf (drop i numbers)) ≡ length (lineOf numbers))
