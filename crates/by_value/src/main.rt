@@ -4,7 +4,7 @@ ghost use Prim.Native.Nat.{_<_};
 use cache_value::Answer;
 use cache_value::Answered;
 use cache_value::Cache;
-use landlord::Step;
+use types::Step;
 
 // The paper's number for an answer: 0 if the call was taken.
 fn number(a: Answer) -> u32 {

@@ -9,7 +9,7 @@ use native.Mathlib.Omega.{arith}
 use lib.Dec.{leb, ltb, eqb}
 use lib.ListN.{getD}
 use borrow.Author.Tests.{eq-eqb, ne-eqb, ltb-true, leb-true, leb-false}
-use Rattle.landlord.specs.declared.Step.the-variants.{Flush}
+use Rattle.types.specs.declared.Step.the-variants.{Flush}
 use Rattle.landlord.specs.Catalog.{itemAt}
 use Rattle.landlord.specs.Slot.{splitOf}
 use Rattle.landlord.specs.Rule.{State, Moved, size, blocksAt, makeRoom, serveRead, serveWrite, step, joined}

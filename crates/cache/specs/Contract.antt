@@ -4,8 +4,9 @@
 use mathlib.Core.{Path._≡_, Logic._≢_, Bool.cond, List.{List, [], _∷_}}
 use Prim.Native.Nat.{ℕ, _<_, _+_, _*_, _/_}
 use lib.{Dec.eqb, ListN.{length, getD, take, drop}, Seq.sets}
-use Rattle.landlord.specs.declared.Deduction.{Deduction}
-use Rattle.landlord.specs.{Types.deductionOf, Slot.splitOf, Figures.{Standing, season, totalCost}, Calls.{Call, refusalNow, after, close, logOf, refusal, ruleOver, stepCall}, Catalog.Catalog, Claims.WithinBound, Fold.tab}
+use Rattle.types.specs.declared.Deduction.{Deduction}
+use Rattle.types.specs.Types.{deductionOf}
+use Rattle.landlord.specs.{Slot.splitOf, Figures.{Standing, season, totalCost}, Calls.{Call, refusalNow, after, close, logOf, refusal, ruleOver, stepCall}, Catalog.Catalog, Claims.WithinBound, Fold.tab}
 use Rattle.catalog_bytes.specs.Catalogs.{catalogIn}
 use Rattle.cache_state.specs.Cache.{view}
 use Rattle.layout.specs.Layout.{cacheOf, ValidBytes, numberAt}

@@ -8,8 +8,8 @@ use native.Mathlib.Omega.{arith}
 use lib.Dec.{eqb, leb}
 use lib.ListN.{length, set, replicate, getD-replicate, length-replicate}
 use borrow.Author.Tests.{eq-eqb, ne-eqb, le-leb, lt-leb, eqb-true, leb-true}
-use Rattle.landlord.specs.declared.Deduction.{Deduction}
-use Rattle.landlord.specs.Types.{deductionOf}
+use Rattle.types.specs.declared.Deduction.{Deduction}
+use Rattle.types.specs.Types.{deductionOf}
 use Rattle.landlord.specs.Catalog.{CatalogOk}
 use Rattle.landlord.specs.Slot.{splitOf}
 use Rattle.landlord.specs.Figures.{opened}

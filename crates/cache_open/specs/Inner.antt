@@ -2,7 +2,7 @@
 use mathlib.Core.{Bool.{Bool, true}, Path._≡_, List.List}
 use Prim.Native.Nat.{ℕ, _/_, _≤_, _<_}
 use lib.ListN.{length, getD}
-use Rattle.landlord.specs.declared.Deduction.{Deduction}
+use Rattle.types.specs.declared.Deduction.{Deduction}
 use Rattle.landlord.specs.Catalog.{blocksInRange}
 use Rattle.catalog_bytes.specs.Catalogs.{itemIn}
 use Rattle.cache_state.specs.{Cache.Cache, InnerWith.{withCatalog, withMode}}

@@ -2,7 +2,8 @@
 use mathlib.Core.{Path._≡_, Logic._≢_, Bool.{cond, _&&_}, List.List}
 use Prim.Native.Nat.{ℕ, _%_, _<_}
 use lib.{Dec.{eqb, leb}, ListN.length}
-use Rattle.landlord.specs.{Types.deductionOf, Slot.splitOf, Figures.opened, Calls.openingRefusal}
+use Rattle.types.specs.Types.{deductionOf}
+use Rattle.landlord.specs.{Slot.splitOf, Figures.opened, Calls.openingRefusal}
 use Rattle.catalog_bytes.specs.Catalogs.{catalogIn}
 use Rattle.cache_state.specs.Cache.{view, EmptyPlace}
 use Rattle.layout.specs.Layout.{stateBytes, cacheOf, ValidBytes}

@@ -83,7 +83,7 @@ pub fn open(b: &mut [u8], k: u32, rule: u32, catalog: &[u8]) -> u32
     layout::clear(b);
     layout::put_capacity(b, k);
     layout::put_count(b, n);
-    layout::put_rule(b, landlord::deduction_of(rule));
+    layout::put_rule(b, types::deduction_of(rule));
     put_items(b, catalog, n);
     0
 }

@@ -6,14 +6,14 @@ ghost use Prim.Native.Nat.{_≤_};
 ghost use lib.ListN.{length, getD};
 ghost use Rattle.fields.specs.LittleEndian.{le};
 ghost use Rattle.fields.specs.Inner.{runOf, flags};
-ghost use Rattle.landlord.specs.Types.{deductionNumber};
+ghost use Rattle.types.specs.Types.{deductionNumber};
 ghost use Rattle.validity.specs.InnerDecided.{Decided};
 ghost use Rattle.layout.specs.Layout.{stateBytes, format};
 ghost use Rattle.layout.specs.InnerRows.{atFormat, atCapacity, atCount, atClosed, atSteps, atHits, atLoads, atEvictions, atDirtyEvictions, atWritebacks, atFlushes, atLoadCost, atWriteCost, atDirty, atLoadCredits, atWriteCredits, atMinutes, atItemLoads, atItemWritebacks, atItemLoadCosts, atItemWriteCosts, atBlocks, atHeld, atRule, flag};
 ghost use Rattle.layout.proofs.Rows.{stored};
 ghost use Rattle.cache_open.specs.Inner.{BlocksOk};
 ghost use Rattle.cache_parts.specs.Inner.{FirstOf, Opens};
-use landlord::Deduction;
+use types::Deduction;
 
 // ---- the catalog of an opening
 

@@ -6,7 +6,7 @@ use Prim.Native.Nat.{ℕ, _+_, _*_, _-_, _/_, _≤_, _<_}
 use native.Mathlib.Nat.{le-refl}
 use native.Mathlib.Omega.{arith}
 use lib.ListN.{getD, set}
-use Rattle.landlord.specs.declared.Deduction.{Deduction}
+use Rattle.types.specs.declared.Deduction.{Deduction}
 use Rattle.landlord.specs.Slot.{splitOf}
 use Rattle.landlord.specs.Rule.{size, victim, evict}
 use Rattle.landlord.specs.Figures.{moved}

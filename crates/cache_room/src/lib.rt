@@ -59,7 +59,7 @@ fn charge(b: &mut [u8], n: usize, rank: u64)
             let loss = (layout::blocks(b, i) as u64) * rank;
             let write = layout::write_credit(b, i);
             let load = layout::load_credit(b, i);
-            let borne = rule.split(loss, load, write);
+            let borne = landlord::split(rule, loss, load, write);
             layout::put_write_credit(b, i, write - borne);
             layout::put_load_credit(b, i, load - (loss - borne));
         }

@@ -6,10 +6,10 @@ use mathlib.Core.List.{List, [], _∷_}
 use Prim.Native.Nat.{ℕ, zero, suc, _<_}
 use native.Mathlib.Omega.{arith}
 use lib.ListN.{length, getD, take, drop}
-use Rattle.landlord.specs.declared.Deduction.{Deduction}
+use Rattle.types.specs.declared.Deduction.{Deduction}
 use Rattle.landlord.specs.Fold.{fold}
 use Rattle.landlord.specs.Catalog.{Catalog, CatalogOk}
-use Rattle.landlord.specs.Types.{deductionOf}
+use Rattle.types.specs.Types.{deductionOf}
 use Rattle.landlord.specs.Slot.{splitOf}
 use Rattle.landlord.specs.Figures.{Standing, totalCost, ran, season}
 use Rattle.landlord.specs.Calls.{Call, close, Log, noLog, refusalNow, refusalIn, refusal, joins, logOf, ruleOver, after}

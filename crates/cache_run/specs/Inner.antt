@@ -2,7 +2,8 @@
 use mathlib.Core.{Bool.cond, Path._≡_, List.List}
 use Prim.Native.Nat.{ℕ, _+_, _*_}
 use lib.{Dec.eqb, Seq.sets, ListN.getD}
-use Rattle.landlord.specs.{Types.deductionOf, Slot.splitOf, Catalog.Catalog, Figures.opened, Calls.{openingRefusal, Call, close, stepCall}}
+use Rattle.types.specs.Types.{deductionOf}
+use Rattle.landlord.specs.{Slot.splitOf, Catalog.Catalog, Figures.opened, Calls.{openingRefusal, Call, close, stepCall}}
 use Rattle.cache.specs.Contract.{Kind, Follows}
 
 -- a call from four numbers

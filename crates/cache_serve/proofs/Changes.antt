@@ -11,7 +11,7 @@ use native.Mathlib.Omega.{arith}
 use lib.ListN.{getD, set}
 use lib.Dec.{eqb}
 use borrow.Author.Tests.{eq-eqb, ne-eqb}
-use Rattle.landlord.specs.declared.Deduction.{Deduction}
+use Rattle.types.specs.declared.Deduction.{Deduction}
 use Rattle.landlord.specs.Fold.{tab, fold}
 use Rattle.landlord.specs.Slot.{splitOf}
 use Rattle.landlord.specs.Rule.{Event, size, putSlot}

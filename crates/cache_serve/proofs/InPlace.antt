@@ -7,7 +7,7 @@ use mathlib.Core.List.{List}
 use Prim.Native.Nat.{ℕ, _+_, _≤_, _<_}
 use native.Mathlib.Omega.{arith}
 use lib.ListN.{getD, drop}
-use Rattle.landlord.specs.declared.Step.the-variants.{Flush}
+use Rattle.types.specs.declared.Step.the-variants.{Flush}
 use Rattle.landlord.specs.Rule.{State, Moved, serveRead, serveWrite, flush}
 use Rattle.landlord.specs.Figures.{Standing, moved, took}
 use Rattle.landlord.specs.Inner.{ItemFacts}

@@ -8,7 +8,7 @@ use native.Mathlib.Decide.{ℕ-discrete, decLt}
 use native.Mathlib.Omega.{arith}
 use lib.ListN.{getD, set, drop}
 use lib.Seq.{getD-set-same, getD-set-other}
-use Rattle.landlord.specs.declared.Step.the-variants.{Flush}
+use Rattle.types.specs.declared.Step.the-variants.{Flush}
 use Rattle.landlord.specs.Fold.{fold}
 use Rattle.landlord.specs.Slot.{isDirty, flushed, splitOf}
 use Rattle.landlord.specs.Rule.{State, wroteBack, flushStep, Moved, joined, stay, slotAt, putSlot, flush, step}

@@ -3,7 +3,7 @@
 // then. The public ones say where the rule stands after it.
 ghost use Prim.Native.Nat.{_<_, _≤_};
 ghost use mathlib.Core.Path.{_≡_};
-ghost use Rattle.landlord.specs.declared.Step.the-variants.{Flush};
+ghost use Rattle.types.specs.declared.Step.the-variants.{Flush};
 ghost use Rattle.landlord.specs.Catalog.{full, sharesPerBlock};
 ghost use Rattle.landlord.specs.Rule.{serveRead, serveWrite, flush};
 ghost use Rattle.landlord.specs.Figures.{moved, took};

@@ -3,7 +3,7 @@
 use mathlib.Core.{Bool.{Bool, false, cond}, List.List, Path._≡_}
 use Prim.Native.Nat.{ℕ, _≤_, _<_}
 use lib.ListN.{getD}
-use Rattle.landlord.specs.declared.Deduction.{Deduction}
+use Rattle.types.specs.declared.Deduction.{Deduction}
 use Rattle.landlord.specs.{Fold.tab, Catalog.Catalog, Slot.{Slot, absent, clean, dirty, splitOf}, Figures.{Use, Standing, totalsOf, useOf}, Valid.StandingOk}
 use Rattle.marks.specs.Marks.{marked}
 

@@ -3,7 +3,7 @@
 use mathlib.Core.{Bool.Bool, List.List}
 use Prim.Native.Nat.{ℕ}
 use lib.ListN.{set}
-use Rattle.landlord.specs.declared.Deduction.{Deduction}
+use Rattle.types.specs.declared.Deduction.{Deduction}
 use Rattle.landlord.specs.Figures.{Totals, totalsOf}
 use Rattle.cache_state.specs.{Cache.Cache, InnerView.countsOf}
 

@@ -5,8 +5,8 @@ use mathlib.Core.List.{List}
 use Prim.Native.Nat.{ℕ, _<_}
 use native.Mathlib.Omega.{arith}
 use borrow.Author.Tests.{eq-eqb, ne-eqb}
-use Rattle.landlord.specs.declared.Step.{Step}
-use Rattle.landlord.specs.Types.{stepKind, stepItem, stepMinutes}
+use Rattle.types.specs.declared.Step.{Step}
+use Rattle.types.specs.Types.{stepKind, stepItem, stepMinutes}
 use Rattle.landlord.specs.Figures.{Standing}
 use Rattle.landlord.specs.Calls.{Call, stepCall, close, callOf, refusalNow, after}
 use Rattle.cache_state.specs.Cache.{view, Valid}

@@ -7,9 +7,9 @@ use native.Mathlib.Omega.{arith}
 use lib.Dec.{eqb}
 use lib.ListN.{getD, replicate}
 use borrow.Author.Tests.{le-leb, lt-leb}
-use Rattle.landlord.specs.declared.Deduction.{Deduction}
-use Rattle.landlord.specs.declared.Deduction.the-variants.{WriteFirst}
-use Rattle.landlord.specs.Types.{deductionOf}
+use Rattle.types.specs.declared.Deduction.{Deduction}
+use Rattle.types.specs.declared.Deduction.the-variants.{WriteFirst}
+use Rattle.types.specs.Types.{deductionOf}
 use Rattle.landlord.specs.Fold.{tabFrom, fold}
 use Rattle.landlord.specs.Catalog.{Catalog, Item, CapacityOk, CatalogOk, allInRange, catalogInRange}
 use Rattle.landlord.specs.Slot.{writeFirst, splitOf}

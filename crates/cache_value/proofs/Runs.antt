@@ -5,8 +5,8 @@ use mathlib.Core.Logic.{_≢_}
 use mathlib.Core.List.{List, []}
 use Prim.Native.Nat.{ℕ}
 use borrow.Author.Tests.{ne-eqb}
-use Rattle.landlord.specs.declared.Deduction.{Deduction}
-use Rattle.landlord.specs.Types.{telling, deductionOf}
+use Rattle.types.specs.declared.Deduction.{Deduction}
+use Rattle.types.specs.Types.{telling, deductionOf}
 use Rattle.landlord.specs.Catalog.{Catalog}
 use Rattle.landlord.specs.Figures.{Standing, totalCost}
 use Rattle.landlord.specs.Calls.{Call}

@@ -3,7 +3,7 @@ use mathlib.Core.Path.{_≡_, refl, sym, ap, subst, _∙_}
 use mathlib.Core.List.{List, map}
 use Prim.Native.Nat.{ℕ, zero, suc}
 use lib.ListN.{getD, length-map}
-use Rattle.landlord.specs.Types.{telling, deductionOf}
+use Rattle.types.specs.Types.{telling, deductionOf}
 use Rattle.landlord.specs.Catalog.{Catalog}
 use Rattle.landlord.specs.Calls.{Call, close, callItem}
 use Rattle.cache.specs.Contract.{Follows, none, then, Season, Prefix}

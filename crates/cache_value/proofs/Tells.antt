@@ -2,9 +2,9 @@
 -- that tells so much. Assumes nothing.
 use mathlib.Core.Path.{_≡_, refl, sym, ap, _∙_}
 use Prim.Native.Nat.{ℕ}
-use Rattle.landlord.specs.Types.{telling}
+use Rattle.types.specs.Types.{telling}
 use Rattle.landlord.specs.Calls.{Call, callItem}
-use Rattle.landlord.proofs.Refusals.{refusal-one, refused-some}
+use Rattle.types.proofs.Refusals.{refusal-one, refused-some}
 use Rattle.cache_state.proofs.Tells.{Sizes}
 use Rattle.cache_state.proofs.Tells as records
 use Rattle.cache.specs.Contract.{Answers}

@@ -2,8 +2,9 @@
 use mathlib.Core.{Path._≡_, Bool.{true, cond}, List.{List, [], _∷_, map}, Logic._≢_}
 use Prim.Native.Nat.{ℕ, _<_, _+_}
 use lib.{Dec.eqb, ListN.{getD, length, take}, Seq.sets}
-use Rattle.landlord.specs.declared.Deduction.{Deduction}
-use Rattle.landlord.specs.{Types.{telling, nothingTold, told, Told, deductionOf}, Fold.tab, Catalog.Catalog, Slot.{writeFirst, splitOf}, Rule.emptied, Figures.{Standing, nothing, opened}, Calls.{Call, callItem, openingRefusal, close, refusal}}
+use Rattle.types.specs.declared.Deduction.{Deduction}
+use Rattle.types.specs.Types.{telling, nothingTold, told, Told, deductionOf}
+use Rattle.landlord.specs.{Fold.tab, Catalog.Catalog, Slot.{writeFirst, splitOf}, Rule.emptied, Figures.{Standing, nothing, opened}, Calls.{Call, callItem, openingRefusal, close, refusal}}
 use Rattle.cache_state.specs.Cache.{Cache as Record, view, Valid, EmptyPlace}
 use Rattle.cache.specs.Contract.{Kind, Called, Closing, Bounded, Season}
 use Rattle.cache_value.specs.declared.{Cache.Cache, Answer.{Answer, the-variants.{Taken, Refused}}, Answered.Answered}

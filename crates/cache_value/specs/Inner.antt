@@ -2,8 +2,9 @@
 use mathlib.Core.{Path._≡_, Bool.{cond, true}, List.List}
 use Prim.Native.Nat.{ℕ, _<_}
 use lib.{ListN.replicate, Dec.eqb}
-use Rattle.landlord.specs.declared.Deduction.the-variants.{WriteFirst}
-use Rattle.landlord.specs.{Types.deductionOf, Slot.splitOf, Catalog.Catalog, Figures.opened, Calls.{Call, openingRefusal}}
+use Rattle.types.specs.declared.Deduction.the-variants.{WriteFirst}
+use Rattle.types.specs.Types.{deductionOf}
+use Rattle.landlord.specs.{Slot.splitOf, Catalog.Catalog, Figures.opened, Calls.{Call, openingRefusal}}
 use Rattle.cache_state.specs.Cache.{Cache as Record, EmptyPlace}
 use Rattle.cache_open.specs.Inner.{emptyWith}
 use Rattle.cache.specs.Contract.{Follows}

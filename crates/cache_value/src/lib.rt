@@ -2,16 +2,16 @@
 // A method stores the struct in bytes, makes the call in place there, and reads it back; only this form pays for that.
 ghost use mathlib.Core.Path.{_≡_};
 ghost use Prim.Native.Nat.{_≤_};
-ghost use Rattle.landlord.specs.Types.{telling};
+ghost use Rattle.types.specs.Types.{telling};
 ghost use Rattle.landlord.specs.Calls.{close, callOf};
 ghost use Rattle.cache_open.specs.Inner.{emptyWith};
 ghost use Rattle.cache.specs.Contract.{lent, Called, callsOf};
 ghost use Rattle.cache_run.specs.Inner.{callFrom};
 ghost use Rattle.cache_value.specs.Contract.{recordOf, byValue, catalogFrom, answerTold, CalledBy, OpenedBy, Ran};
 ghost use Rattle.cache_value.specs.Inner.{nothingOpened, Opened};
-use landlord::Deduction;
-use landlord::Refusal;
-use landlord::Step;
+use types::Deduction;
+use types::Refusal;
+use types::Step;
 
 mod bytes;
 
@@ -146,7 +146,7 @@ fn opening(
     let w = cache_parts::first_costs(n, write);
     Reply {
         number: 0,
-        cache: empty(k, n, b, l, w, false, landlord::deduction_of(rule)),
+        cache: empty(k, n, b, l, w, false, types::deduction_of(rule)),
     }
 }
 
@@ -195,7 +195,7 @@ fn answer_to(number: u32, item: u32) -> Answer
     if number == 0 {
         return Answer::Taken;
     }
-    Answer::Refused(landlord::refusal_of(number, 0, item))
+    Answer::Refused(types::refusal_of(number, 0, item))
 }
 
 // A reply with its number as an answer, about the call's item.

@@ -2,9 +2,9 @@
 // fails, one line on standard error says what, and a log that was not read to its end is not answered.
 ghost use Prim.Native.Nat.{_≤_};
 ghost use lib.ListN.{length};
-use landlord::Refusal;
 use report::Written;
 use season_log::LogAnswer;
+use types::Refusal;
 
 // The refused output, at the start of the page. Answers how many bytes.
 fn put_refusal(r: Refusal, page: &mut [u8]) -> usize

@@ -10,9 +10,9 @@ use lib.ListN.{length, getD, drop, length-append, List·getD-append}
 use lib.Seq.{getD-append-seam, append-snoc, split-at}
 use lib.Dec.{leb, eqb}
 use borrow.Author.Tests.{eqb-true, eq-eqb}
-use Rattle.landlord.specs.declared.Step.{Step}
-use Rattle.landlord.specs.declared.Step.the-variants.{Read, Write, Flush}
-use Rattle.landlord.specs.Types.{stepKind, stepItem, stepMinutes}
+use Rattle.types.specs.declared.Step.{Step}
+use Rattle.types.specs.declared.Step.the-variants.{Read, Write, Flush}
+use Rattle.types.specs.Types.{stepKind, stepItem, stepMinutes}
 use Rattle.landlord.specs.Fold.{fold}
 use Rattle.landlord.specs.Catalog.{Catalog, CatalogOk}
 use Rattle.landlord.specs.Slot.{Split}

@@ -11,8 +11,8 @@ use lib.ListN.{length, length-set}
 use lib.Seq.{getD-set-same, getD-set-other}
 use lib.Dec.{leb}
 use borrow.Author.Tests.{eq-eqb, ne-eqb, leb-true, leb-false}
-use Rattle.landlord.specs.declared.Step.{Step}
-use Rattle.landlord.specs.declared.Step.the-variants.{Read, Write, Flush}
+use Rattle.types.specs.declared.Step.{Step}
+use Rattle.types.specs.declared.Step.the-variants.{Read, Write, Flush}
 use Rattle.landlord.specs.Fold.{sumTo}
 use Rattle.landlord.specs.Catalog.{Catalog, Item, CatalogOk, itemAt, full}
 use Rattle.landlord.specs.Slot.{Slot, absent, held, loadCredit, writeCredit, Split, lose, written, flushed}

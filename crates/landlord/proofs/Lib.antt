@@ -5,7 +5,7 @@ pub mod Potential
 pub mod Moves
 pub mod Folds
 pub mod Ranges
-pub mod Refusals
+pub mod Faults
 pub mod Slots
 pub mod Keeps
 pub mod Logs

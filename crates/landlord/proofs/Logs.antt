@@ -8,8 +8,8 @@ use native.Mathlib.Omega.{arith}
 use lib.ListN.{length, getD}
 use lib.Dec.{leb, ltb}
 use borrow.Author.Tests.{ltb-true, leb-true}
-use Rattle.landlord.specs.declared.Step.{Step}
-use Rattle.landlord.specs.declared.Step.the-variants.{Read, Write, Flush}
+use Rattle.types.specs.declared.Step.{Step}
+use Rattle.types.specs.declared.Step.the-variants.{Read, Write, Flush}
 use Rattle.landlord.specs.Fold.{fold, sumTo}
 use Rattle.landlord.specs.Catalog.{Catalog, CatalogOk, itemAt}
 use Rattle.landlord.specs.Slot.{Split, held, isDirty}

@@ -9,7 +9,7 @@ use lib.ListN.{length}
 use lib.Dec.{leb, eqb}
 use borrow.Author.Tests.{leb-true, eq-eqb, ne-eqb, le-leb, lt-leb}
 use Rattle.landlord.specs.Catalog.{Catalog, Item, itemAt, blocksInRange, costInRange, itemInRange, allInRange, catalogInRange, capacityInRange, CatalogOk, CapacityOk}
-use Rattle.landlord.specs.Types.{isDeduction}
+use Rattle.types.specs.Types.{isDeduction}
 use Rattle.landlord.specs.Calls.{openingRefusal, inRange}
 use Rattle.landlord.specs.Inner.{ItemFacts, CatalogFacts, CapacityFacts}
 

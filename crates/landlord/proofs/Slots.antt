@@ -3,13 +3,12 @@ use mathlib.Core.Path.{_≡_, refl, ap, _∙_}
 use mathlib.Core.Bool.{true, false, false≢true}
 use Prim.Native.Nat.{ℕ, zero, suc, _+_, _*_, _/_, _≤_, _<_, _∣_, _%_, min}
 use native.Mathlib.Nat.{dvd-zero, dvd-sub, dvd-mul-left-of-dvd, div-mul-cancel, dvd-of-mod-eq-zero, mul-assoc}
-use native.Mathlib.Decide.{decLe, ℕ-discrete}
+use native.Mathlib.Decide.{decLe}
 use native.Mathlib.Omega.{arith}
-use borrow.Author.Tests.{eqb-true, ne-eqb}
+use borrow.Author.Tests.{eqb-true}
 use lib.Dec.{eqb}
-use Rattle.landlord.specs.declared.Deduction.{Deduction}
-use Rattle.landlord.specs.declared.Deduction.the-variants.{WriteFirst, LoadFirst}
-use Rattle.landlord.specs.Types.{deductionNumber, deductionOf, isDeduction}
+use Rattle.types.specs.declared.Deduction.{Deduction}
+use Rattle.types.specs.declared.Deduction.the-variants.{WriteFirst, LoadFirst}
 use Rattle.landlord.specs.Catalog.{Item, full, unit, sharesPerBlock}
 use Rattle.landlord.specs.Inner.{ItemFacts}
 use Rattle.landlord.specs.Slot.{Slot, absent, clean, dirty, held, isDirty, loadCredit, writeCredit, Split, writeFirst, loadFirst, splitOf, lose, brought, refilled, written, flushed}
@@ -74,22 +73,6 @@ deduction-one WriteFirst WriteFirst e = refl
 deduction-one WriteFirst LoadFirst e = absurd (let z : 1 ≡ 0 = ap (λ (f : Split). f 1 1 1 1) e in omega arith)
 deduction-one LoadFirst WriteFirst e = absurd (let z : 0 ≡ 1 = ap (λ (f : Split). f 1 1 1 1) e in omega arith)
 deduction-one LoadFirst LoadFirst e = refl
-
--- a rule is that of its number, and the number of a rule is one
-pub deduction-number : (r : Deduction) → (deductionOf (deductionNumber r) ≡ r) × (isDeduction (deductionNumber r) ≡ true)
-deduction-number WriteFirst = (refl, refl)
-deduction-number LoadFirst = (refl, refl)
-
-pub deduction-lt : (r : Deduction) → deductionNumber r < 2
-deduction-lt WriteFirst = omega arith
-deduction-lt LoadFirst = omega arith
-
-pub number-deduction : (n : ℕ) → n < 2 → deductionNumber (deductionOf n) ≡ n
-number-deduction n l = go (ℕ-discrete n 0)
-  where
-    go : Dec (n ≡ 0) → deductionNumber (deductionOf n) ≡ n
-    go (yes e) = rw e
-    go (no e) = rw (ne-eqb n 0 e) (let f : 1 ≡ n = omega (arith, l, e) in f)
 
 -- a loss changes no mark
 pub lose-held : (split : Split) (s loss : ℕ) (x : Slot) → held (lose split s loss x) ≡ held x

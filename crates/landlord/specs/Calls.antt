@@ -3,8 +3,9 @@
 use mathlib.Core.{Bool.{Bool, true, false, cond, _&&_}, List.{List, [], _∷_, _++_}}
 use Prim.Native.Nat.{ℕ}
 use lib.{ListN.length, Dec.{leb, ltb, eqb}}
-use Rattle.landlord.specs.declared.Step.{Step, the-variants.{Read, Write, Flush}}
-use Rattle.landlord.specs.{Types.{stepKind, stepItem, stepMinutes, isDeduction}, Fold.fold, Catalog.{Catalog, itemAt, catalogInRange, capacityInRange}, Slot.Split, Figures.{Standing, took, closes, ran, season}}
+use Rattle.types.specs.declared.Step.{Step, the-variants.{Read, Write, Flush}}
+use Rattle.types.specs.Types.{stepKind, stepItem, stepMinutes, isDeduction}
+use Rattle.landlord.specs.{Fold.fold, Catalog.{Catalog, itemAt, catalogInRange, capacityInRange}, Slot.Split, Figures.{Standing, took, closes, ran, season}}
 
 -- "Opening by call checks k and catalogue (3)", then the rule's number: "any other number is 18" (paper 02, 'Three'). The refusal's
 -- number, 0 if there is none.

@@ -3,7 +3,7 @@
 use mathlib.Core.{Path._≡_, Bool.{true, false}, List.List}
 use Prim.Native.Nat.{ℕ, _+_, _*_, _-_, _≤_, _<_, _∣_}
 use lib.ListN.{length, getD}
-use Rattle.landlord.specs.declared.Step.{Step, the-variants.Flush}
+use Rattle.types.specs.declared.Step.{Step, the-variants.Flush}
 use Rattle.landlord.specs.{Fold.sumTo, Catalog.{Catalog, Item, itemAt, CatalogOk, full, unit}, Slot.{Split, Slot, held, loadCredit, writeCredit}, Rule.{State, size, slotAt, used, rank}, Figures.{season, totalCost, leftSide, rightSide}, Plan.{Plan, price, costs}, Calls.{callOf, refusalAt}}
 
 -- a list of steps that the table of refusals lets through, each at its place in an open log

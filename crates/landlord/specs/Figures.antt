@@ -3,7 +3,7 @@
 use mathlib.Core.{Bool.{Bool, true, false, cond}, List.List}
 use Prim.Native.Nat.{ℕ, _+_, _*_, _-_, _/_}
 use lib.{ListN.{length, getD}, Dec.eqb}
-use Rattle.landlord.specs.declared.Step.{Step}
+use Rattle.types.specs.declared.Step.{Step}
 use Rattle.landlord.specs.{Fold.{tab, fold}, Catalog.{Catalog, itemAt}, Slot.Split, Rule.{State, Event, hit, loaded, evicted, wroteBack, wrote, flushStep, Moved, emptied, flush, step}}
 
 -- The totals of paper 01's report, with the steps and the flushes (landings). The closing is neither a step nor a flush.

@@ -1,5 +1,4 @@
 pub mod Fold
-pub mod Types
 pub mod Catalog
 pub mod Slot
 pub mod Rule

@@ -2,8 +2,9 @@
 use mathlib.Core.{Bool.{Bool, true, false, cond}, List.{List, [], _∷_}}
 use Prim.Native.Nat.{ℕ, suc, _+_}
 use lib.{ListN.{length, getD, set}, Dec.{leb, ltb}}
-use Rattle.landlord.specs.declared.{Step.{Step, the-variants.{Read, Write, Flush}}, Act.{Act, the-variants.{Evict, Fetch}}, Refusal.{Refusal, the-variants.{UnknownItem, NotHeld, AlreadyHeld, OverCapacity, RequestNotHeld}}}
-use Rattle.landlord.specs.{Types.refusalNumber, Fold.{sumTo, tab}, Catalog.{Catalog, itemAt}}
+use Rattle.types.specs.declared.{Step.{Step, the-variants.{Read, Write, Flush}}, Act.{Act, the-variants.{Evict, Fetch}}, Refusal.{Refusal, the-variants.{UnknownItem, NotHeld, AlreadyHeld, OverCapacity, RequestNotHeld}}}
+use Rattle.types.specs.Types.{refusalNumber}
+use Rattle.landlord.specs.{Fold.{sumTo, tab}, Catalog.{Catalog, itemAt}}
 
 -- the acts before each step, by the step's place in the log, from 0; there is no limit on their number
 abbrev pub Plan : Type 0

@@ -6,7 +6,7 @@ use mathlib.Core.{Path.{_≡_, refl}, Bool.{Bool, true, false}, List.{List, [], 
 use Prim.Native.Nat.{ℕ, _+_, _*_, _-_, _≤_}
 use native.Mathlib.Omega.{arith}
 use lib.ListN.{getD}
-use Rattle.landlord.specs.declared.{Step.{Step, the-variants.Write}, Act.{Act, the-variants.{Evict, Fetch}}, Deduction.{Deduction, the-variants.{WriteFirst, LoadFirst}}}
+use Rattle.types.specs.declared.{Step.{Step, the-variants.Write}, Act.{Act, the-variants.{Evict, Fetch}}, Deduction.{Deduction, the-variants.{WriteFirst, LoadFirst}}}
 use Rattle.landlord.specs.{Fold.{sumTo, tabFrom, bestTo, fold}, Catalog.{Catalog, Item, allInRange, catalogInRange, unit}, Slot.{Slot, absent, clean, dirty, Split, writeFirst, splitOf}, Rule.{State, Event, hit, loaded, evicted, wroteBack, wrote, flushStep, emptied, used, heldCount, victim, evictItem, evictFor, makeRoom, writeBacks, flush, step}, Figures.{Totals, Use, Standing, totalsOf, useOf, tenthsOf, took, closes, season, totalCost, leftSide, rightSide}, Plan.{Plan, Priced, costs, fault, unknownItem, notHeld, alreadyHeld, requestNotHeld, overCapacity, planUsed, owed, planActs, allActs, planServes, priceFrom, price}, Claims.loadCredits, Calls.{Call, stepCall, close, Log, noLog, stepOf, refusalAt, refusalIn, joins, logOf, ruleOver, openingRefusal}}
 
 -- a rival of a row: its blocks, and its acts before step 0, 1, 2 and on; no acts after the last list

@@ -4,7 +4,7 @@
 use mathlib.Core.{Bool.{Bool, true, false, cond}, List.{List, [], _∷_, _++_}}
 use Prim.Native.Nat.{ℕ, zero, suc, _+_, _*_, _/_}
 use lib.{ListN.{length, getD, set}, Dec.{leb, ltb, eqb}}
-use Rattle.landlord.specs.declared.Step.{Step, the-variants.{Read, Write, Flush}}
+use Rattle.types.specs.declared.Step.{Step, the-variants.{Read, Write, Flush}}
 use Rattle.landlord.specs.{Fold.{sumTo, tab, bestTo}, Catalog.{Catalog, itemAt, full}, Slot.{Slot, absent, held, isDirty, loadCredit, writeCredit, Split, lose, brought, refilled, written, flushed}}
 
 -- the rule's state: the catalog, and a slot for each item of it

@@ -3,7 +3,7 @@
 -- Assumes nothing.
 use mathlib.Core.Bool.{Bool, true, false}
 use Prim.Native.Nat.{ℕ, _-_, min}
-use Rattle.landlord.specs.declared.Deduction.{Deduction, the-variants.{WriteFirst, LoadFirst}}
+use Rattle.types.specs.declared.Deduction.{Deduction, the-variants.{WriteFirst, LoadFirst}}
 
 -- one of the locker's places: empty; held clean with a load credit; held dirty with a load and a write credit
 pub data Slot : Type 0 where

@@ -12,7 +12,7 @@ use lib.Seq.{sets, length-sets, sets-eq, take-all, take-suc-set, getD-drop}
 use Rattle.fields.specs.LittleEndian.{unflags, le}
 use Rattle.fields.specs.Inner.{Below}
 use Rattle.fields.proofs.Laws.{length-le, un-front, below-append, below-drop, past, un-blank, unrun-blank, unflags-blank}
-use Rattle.landlord.specs.Types.{deductionOf}
+use Rattle.types.specs.Types.{deductionOf}
 use Rattle.layout.specs.Layout.{stateBytes, format, numberAt, numbersAt, AllowedBytes}
 use Rattle.layout.specs.InnerRows.{atFormat, atCapacity, atCount, atClosed, atSteps, atHits, atLoads, atEvictions, atDirtyEvictions, atWritebacks, atFlushes, atLoadCost, atWriteCost, atDirty, atLoadCredits, atWriteCredits, atMinutes, atItemLoads, atItemWritebacks, atItemLoadCosts, atItemWriteCosts, atBlocks, atHeld, atRule}
 use Rattle.layout.specs.Inner.{Stands, cleared}

@@ -11,8 +11,8 @@ use lib.Seq.{take-all, getD-drop}
 use Rattle.fields.specs.LittleEndian.{unflags, le}
 use Rattle.fields.specs.Inner.{Below, runOf, flags}
 use Rattle.fields.proofs.Laws.{sets-all, length-unrun, length-unflags, un-front, un-take-lt, below-drop, rejoin, le-back, unrun-lt, unrun-run, run-back, flags-lt, length-flags, unflags-flags, flag-byte, flags-back}
-use Rattle.landlord.specs.Types.{deductionNumber, deductionOf}
-use Rattle.landlord.proofs.Slots.{deduction-number, number-deduction, deduction-lt}
+use Rattle.types.specs.Types.{deductionNumber, deductionOf}
+use Rattle.types.proofs.Deductions.{deduction-number, number-deduction, deduction-lt}
 use Rattle.cache_state.specs.Cache.{Cache}
 use Rattle.layout.specs.Layout.{stateBytes, format, numberAt, numbersAt, cacheOf, AllowedBytes}
 use Rattle.layout.specs.InnerRows.{atFormat, atCapacity, atCount, atClosed, atSteps, atHits, atLoads, atEvictions, atDirtyEvictions, atWritebacks, atFlushes, atLoadCost, atWriteCost, atDirty, atLoadCredits, atWriteCredits, atMinutes, atItemLoads, atItemWritebacks, atItemLoadCosts, atItemWriteCosts, atBlocks, atHeld, atRule, rowBytes, fieldRows, bytesOf, flag, WholeArrays, Fits}

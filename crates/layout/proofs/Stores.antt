@@ -14,8 +14,8 @@ use lib.Seq.{sets, getD-set-same, getD-set-other}
 use Rattle.fields.specs.LittleEndian.{le}
 use Rattle.fields.specs.Inner.{Below, runOf, flags}
 use Rattle.fields.proofs.Laws.{length-le, length-run, length-flags, sets-all, run-set, flags-set}
-use Rattle.landlord.specs.declared.Deduction.{Deduction}
-use Rattle.landlord.specs.Types.{deductionNumber}
+use Rattle.types.specs.declared.Deduction.{Deduction}
+use Rattle.types.specs.Types.{deductionNumber}
 use Rattle.cache_state.specs.Cache.{Cache}
 use Rattle.cache_state.specs.InnerWith.{withCapacity, withCount, withClosed, withRule, withSteps, withHits, withLoads, withEvictions, withDirtyEvictions, withWritebacks, withFlushes, withLoadCost, withWriteCost, withDirty, withLoadCredit, withWriteCredit, withMinutes, withItemLoads, withItemWritebacks, withItemLoadCost, withItemWriteCost, withBlocks, withHeld}
 use Rattle.layout.specs.Layout.{cacheOf}

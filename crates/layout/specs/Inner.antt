@@ -2,7 +2,7 @@
 use mathlib.Core.{Path._≡_, Bool.false, List.List}
 use Prim.Native.Nat.{ℕ, _≤_, _<_}
 use lib.ListN.{length, getD, replicate}
-use Rattle.landlord.specs.declared.Deduction.the-variants.{WriteFirst}
+use Rattle.types.specs.declared.Deduction.the-variants.{WriteFirst}
 use Rattle.landlord.specs.Figures.{Standing}
 use Rattle.cache_state.specs.{Cache.Cache, InnerBecomes.Becomes}
 use Rattle.layout.specs.Layout.{stateBytes, cacheOf, AllowedBytes, ValidBytes}

@@ -5,7 +5,7 @@ use Prim.Native.Nat.{ℕ, _^_, _<_}
 use lib.ListN.{length}
 use Rattle.fields.specs.LittleEndian.{le}
 use Rattle.fields.specs.Inner.{runOf, flags, Below}
-use Rattle.landlord.specs.Types.{deductionNumber}
+use Rattle.types.specs.Types.{deductionNumber}
 use Rattle.cache_state.specs.Cache.{Cache}
 use Rattle.layout.specs.Layout.{format}
 

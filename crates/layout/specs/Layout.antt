@@ -5,7 +5,7 @@ use mathlib.Core.{Path._≡_, List.List, Bool.not}
 use Prim.Native.Nat.{ℕ, _+_, _<_}
 use lib.{Dec.eqb, ListN.{take, drop, getD, length}}
 use Rattle.fields.specs.LittleEndian.{un, unrun, unflags}
-use Rattle.landlord.specs.Types.{deductionOf}
+use Rattle.types.specs.Types.{deductionOf}
 use Rattle.cache_state.specs.Cache.{Cache, Valid}
 
 abbrev pub stateBytes : ℕ

@@ -11,7 +11,7 @@ ghost use Rattle.cache_state.specs.InnerBecomes.{Decided};
 ghost use Rattle.layout.specs.Layout.{stateBytes, numberAt, cacheOf, AllowedBytes};
 ghost use Rattle.layout.specs.InnerRows.{atDirty};
 ghost use Rattle.layout.specs.Inner.{Stands, Readable, FlagsWithin, cleared};
-use landlord::Deduction;
+use types::Deduction;
 
 // The bytes of a state, and the number of this layout.
 pub const STATE_BYTES: usize = 8796;
@@ -247,7 +247,7 @@ pub fn rule(b: &[u8]) -> Deduction
     requires { ⌜ length (now b) ≡ stateBytes ⌝ }
     ensures { λ r. ⌜ r ≡ cacheOf (now (b .entry)) .rule ⌝ }
 {
-    landlord::deduction_of(fields::get(b, AT_RULE, 4) as u32)
+    types::deduction_of(fields::get(b, AT_RULE, 4) as u32)
 }
 
 pub fn put_rule(b: &mut [u8], rule: Deduction)

@@ -13,7 +13,7 @@ use lib.Seq.{drop-cons}
 use Rattle.decimal.specs.declared.Number.the-variants.{Malformed as NoNumber, OutOfRange as Above, Value}
 use Rattle.decimal.specs.Decimal.{textOf, sameText, shaped, valueOf}
 use Rattle.decimal.specs.InnerReads.{readOf}
-use Rattle.landlord.specs.declared.Deduction.the-variants.{WriteFirst, LoadFirst}
+use Rattle.types.specs.declared.Deduction.the-variants.{WriteFirst, LoadFirst}
 use Rattle.line_fields.specs.declared.Field.{Field}
 use Rattle.line_fields.specs.declared.Field.the-variants.{Number, Letter, Dash, Word, Empty, Rule}
 use Rattle.line_fields.specs.Fields.{markOf, ruleWord, ruleOrWord, fieldOf}

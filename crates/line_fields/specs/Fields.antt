@@ -5,7 +5,7 @@ use Prim.Native.Nat.{ℕ}
 use lib.{ListN.{length, getD}, Dec.{leb, eqb}}
 use Rattle.decimal.specs.Decimal.{textOf, sameText, shaped, valueOf}
 use Rattle.line_fields.specs.declared.Field.{Field, the-variants.{Number, Letter, Dash, Word, Empty, Rule}}
-use Rattle.landlord.specs.declared.Deduction.{Deduction, the-variants.{WriteFirst, LoadFirst}}
+use Rattle.types.specs.declared.Deduction.{Deduction, the-variants.{WriteFirst, LoadFirst}}
 
 -- a byte in front of the first piece
 abbrev pub onto : ℕ → List (List ℕ) → List (List ℕ)

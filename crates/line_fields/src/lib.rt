@@ -3,7 +3,7 @@ ghost use mathlib.Core.Path.{_≡_};
 ghost use lib.ListN.{length};
 ghost use Rattle.line_fields.specs.Fields.{fieldOf, markOf, ruleOrWord, isNumber, isDash, isLetter, isRule, isEmpty, isEither, valueIn, ruleIn};
 ghost use Rattle.line_fields.specs.Inner.{before, heldField};
-use landlord::Deduction;
+use types::Deduction;
 
 // What a field is, as the program holds it: a number above 4,294,967,295 counts as that one, which is outside every range too. A word
 // is a field of one byte or more that is nothing else, not the word of a rule either.

@@ -13,7 +13,7 @@ use lib.Seq.{length-take-le, take-suc, drop-cons, getD-take, getD-drop, drop-dro
 use Rattle.decimal.specs.Decimal.{textOf, sameText, allDigits, shaped, valueOf, digitsOf}
 use Rattle.decimal.proofs.Laws.{value-snoc, is-digit, all-snoc, all-at, digits-value, shape-one, shape-more}
 use Rattle.decimal.proofs.Texts.{same-true}
-use Rattle.landlord.specs.declared.Step.the-variants.{Read, Write, Flush}
+use Rattle.types.specs.declared.Step.the-variants.{Read, Write, Flush}
 use Rattle.season_log.specs.Log.{stepText}
 use Rattle.log_reader.specs.declared.Found.{Found}
 use Rattle.log_reader.specs.Inner.{part, DigitsAt, NumberAt, Begins, FoundIn}

@@ -3,8 +3,9 @@ use mathlib.Core.{Path._≡_, Bool.{true, cond}, List.List}
 use Prim.Native.Nat.{ℕ, _+_, _-_, _≤_, _<_}
 use lib.{ListN.{length, take, drop}, Dec.ltb}
 use Rattle.decimal.specs.{Decimal.{allDigits, valueOf, digitsOf}, InnerPages.textOver}
-use Rattle.landlord.specs.declared.{Step.Step, Refusal.{Refusal, the-variants.Malformed}}
-use Rattle.landlord.specs.{Types.{stepKind, stepItem, stepMinutes}, Calls.inRange}
+use Rattle.types.specs.declared.{Step.Step, Refusal.{Refusal, the-variants.Malformed}}
+use Rattle.types.specs.Types.{stepKind, stepItem, stepMinutes}
+use Rattle.landlord.specs.Calls.{inRange}
 use Rattle.season_lines.specs.declared.Line.{Line, the-variants.{Sizes, Item as ItemLine, Step as StepLine, Act as ActLine, Refused}}
 use Rattle.season_lines.specs.Lines.{lineIn}
 use Rattle.line_fields.specs.{Fields.fieldsOf, Inner.before}

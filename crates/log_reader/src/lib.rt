@@ -12,11 +12,11 @@ ghost use Rattle.line_fields.specs.Fields.{split, fieldsOf};
 ghost use Rattle.season_lines.specs.Lines.{lineIn};
 ghost use Rattle.season_log.specs.Log.{listOf, readLines, readTable, readLog, readAnswer, readList};
 ghost use Rattle.log_reader.specs.Inner.{DigitsAt, NumberAt, FoundIn, lineRefusal, firstLine, FirstIs, ReadInto};
-use landlord::Refusal;
-use landlord::Step;
 use season_lines::Line;
 use season_lines::Names;
 use season_log::LogAnswer;
+use types::Refusal;
+use types::Step;
 
 // Room for the steps of any text: a line has six bytes or more.
 pub const ROOM: usize = 131064;

@@ -3,8 +3,8 @@ use mathlib.Core.Path.{_≡_, sym, ap, subst, _∙_}
 use mathlib.Core.List.{List}
 use Prim.Native.Nat.{ℕ, _+_, _*_}
 use native.Mathlib.Omega.{arith}
-use Rattle.landlord.specs.declared.Refusal.{Refusal}
-use Rattle.landlord.specs.Types.{refusalNumber, refusalLine}
+use Rattle.types.specs.declared.Refusal.{Refusal}
+use Rattle.types.specs.Types.{refusalNumber, refusalLine}
 use Rattle.season_log.specs.declared.LogAnswer.{LogAnswer}
 use Rattle.season_log.specs.declared.LogAnswer.the-variants.{Count, Refused}
 use Rattle.season_log.specs.Log.{listed, writeAnswer, writtenPage}

@@ -13,8 +13,8 @@ use Rattle.report.specs.declared.Written.{Written}
 use Rattle.report.specs.declared.Written.the-variants.{Text, Refused}
 use Rattle.report.specs.Report.{reportOf, writtenLength, Reported}
 use Rattle.report.specs.Inner.{writtenNumber}
-use Rattle.landlord.specs.Types.{Told}
-use Rattle.landlord.proofs.Refusals.{refused-some}
+use Rattle.types.specs.Types.{Told}
+use Rattle.types.proofs.Refusals.{refused-some}
 use Rattle.recorder.specs.Reports.{ReportedLent}
 
 -- what an answer leaves in the length's place

@@ -8,7 +8,7 @@ use Rattle.cache_state.specs.Cache.{view}
 use Rattle.layout.specs.Layout.{cacheOf, ValidBytes}
 use Rattle.report_lines.specs.declared.Rival.the-variants.{Absent}
 use Rattle.report.specs.Report.{reportOf}
-use Rattle.landlord.specs.Types.{refusalNumber, refusalLine}
+use Rattle.types.specs.Types.{refusalNumber, refusalLine}
 use Rattle.season_log.specs.{declared.LogAnswer.{LogAnswer, the-variants.{Count, Refused}}, Log.{listed, writeAnswer, writtenPage}}
 
 -- A text put on the page: 0 and its length in the length's place, or 15 with page and place as before.

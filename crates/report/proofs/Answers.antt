@@ -1,7 +1,7 @@
 -- An answer is determined by what it tells and by its length. Assumes nothing.
 use mathlib.Core.Path.{_≡_, sym, ap}
-use Rattle.landlord.specs.Types.{Told}
-use Rattle.landlord.proofs.Refusals.{refusal-one, refused-some}
+use Rattle.types.specs.Types.{Told}
+use Rattle.types.proofs.Refusals.{refusal-one, refused-some}
 use Rattle.report.specs.declared.Written.{Written}
 use Rattle.report.specs.declared.Written.the-variants.{Text, Refused}
 use Rattle.report.specs.Report.{writtenTold, writtenLength}

@@ -8,9 +8,9 @@ use borrow.Author.Tests.{le-leb, lt-leb}
 use lib.ListN.{length, length-append}
 use Rattle.decimal.specs.InnerPages.{textOver}
 use Rattle.decimal.proofs.Laws.{wrote-all, wrote-none, page-all, page-none}
-use Rattle.landlord.specs.declared.Refusal.{Refusal}
-use Rattle.landlord.specs.declared.Refusal.the-variants.{ShortBuffer, InvalidState}
-use Rattle.landlord.specs.Types.{refusalNumber, refusalLine, refusalItem}
+use Rattle.types.specs.declared.Refusal.{Refusal}
+use Rattle.types.specs.declared.Refusal.the-variants.{ShortBuffer, InvalidState}
+use Rattle.types.specs.Types.{refusalNumber, refusalLine, refusalItem}
 use Rattle.sentence.specs.Sentences.{sentenceOf}
 use Rattle.landlord.specs.Figures.{Standing}
 use Rattle.cache_state.specs.Cache.{view}

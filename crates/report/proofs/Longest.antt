@@ -7,9 +7,9 @@ use native.Mathlib.Omega.{arith}
 use lib.ListN.{length, drop, length-append}
 use Rattle.decimal.specs.Decimal.{digitsOf}
 use Rattle.decimal.proofs.Laws.{digits-length}
-use Rattle.landlord.specs.declared.Refusal.{Refusal}
+use Rattle.types.specs.declared.Refusal.{Refusal}
 use Rattle.sentence.proofs.Sentences.{sentence-fits}
-use Rattle.landlord.specs.Types.{refusalNumber, refusalLine, refusalItem}
+use Rattle.types.specs.Types.{refusalNumber, refusalLine, refusalItem}
 use Rattle.landlord.specs.Rule.{size}
 use Rattle.landlord.specs.Figures.{Use, useAt, tenthsOf, totalCost, leftSide, rightSide}
 use Rattle.landlord.proofs.Sums.{sum-term}
@@ -23,7 +23,7 @@ use Rattle.report_lines.specs.Inner.{itemNumbers, RivalOk}
 use Rattle.report_lines.proofs.Sides.{few-blocks, left-fits, right-fits}
 use Rattle.report_lines.proofs.Laws.{items-count, items-end, names-alone-count, names-priced-count, totals-count}
 use Rattle.report.specs.Report.{reportOf, refusalText, longest}
-use Rattle.landlord.proofs.Refusals.{refusal-range}
+use Rattle.types.proofs.Refusals.{refusal-range}
 use Rattle.report.proofs.Laws.{report-count, refusal-is, refused-count}
 
 -- a number of at most w digits in front of a line makes it longer by at most w + 1

@@ -3,7 +3,8 @@
 use mathlib.Core.{Path._≡_, Bool.cond, List.{List, [], _∷_, _++_}}
 use Prim.Native.Nat.{ℕ}
 use Rattle.decimal.specs.Decimal.{textOf, fits, wroteOf, pageOf}
-use Rattle.landlord.specs.{declared.Refusal.Refusal, Types.{Told, telling, nothingTold, told}, Figures.Standing}
+use Rattle.types.specs.{declared.Refusal.Refusal, Types.{Told, telling, nothingTold, told}}
+use Rattle.landlord.specs.Figures.{Standing}
 use Rattle.sentence.specs.Sentences.{sentenceOf}
 use Rattle.cache_state.specs.Cache.{view}
 use Rattle.layout.specs.Layout.{cacheOf, ValidBytes}

@@ -9,8 +9,8 @@ ghost use Rattle.layout.specs.Layout.{cacheOf, ValidBytes};
 ghost use Rattle.report_lines.specs.Inner.{RivalOk, Comparable, TextFits};
 ghost use Rattle.report.specs.Report.{reportOf, refusalText, Put, Reported, longest};
 ghost use Rattle.report.specs.Inner.{refusedText};
-use landlord::Refusal;
 use report_lines::Rival;
+use types::Refusal;
 
 // The bytes of the longest report there can be, with or without a rival's figures.
 const LONGEST: usize = 7931;

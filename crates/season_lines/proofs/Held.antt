@@ -8,9 +8,9 @@ use native.Mathlib.Omega.{arith}
 use borrow.Author.Tests.{leb-true}
 use lib.Dec.{leb, eqb}
 use lib.ListN.{length-map}
-use Rattle.landlord.specs.declared.Step.the-variants.{Read, Write, Flush}
-use Rattle.landlord.specs.declared.Deduction.the-variants.{WriteFirst}
-use Rattle.landlord.specs.declared.Refusal.the-variants.{UnknownRule}
+use Rattle.types.specs.declared.Step.the-variants.{Read, Write, Flush}
+use Rattle.types.specs.declared.Deduction.the-variants.{WriteFirst}
+use Rattle.types.specs.declared.Refusal.the-variants.{UnknownRule}
 use Rattle.landlord.specs.Calls.{inRange, stepOf}
 use Rattle.landlord.specs.Catalog.{itemInRange}
 use Rattle.line_fields.specs.declared.Field.{Field}

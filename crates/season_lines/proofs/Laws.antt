@@ -11,11 +11,11 @@ use lib.Dec.{leb, eqb}
 use lib.ListN.{length, getD, take}
 use lib.Seq.{length-take-le}
 use Rattle.decimal.specs.Decimal.{textOf, sameText}
-use Rattle.landlord.specs.declared.Step.the-variants.{Read, Write, Flush}
-use Rattle.landlord.specs.declared.Act.the-variants.{Evict, Fetch}
-use Rattle.landlord.specs.declared.Deduction.{Deduction}
-use Rattle.landlord.specs.declared.Deduction.the-variants.{WriteFirst}
-use Rattle.landlord.specs.declared.Refusal.the-variants.{Malformed, OutOfRange, UnknownRule}
+use Rattle.types.specs.declared.Step.the-variants.{Read, Write, Flush}
+use Rattle.types.specs.declared.Act.the-variants.{Evict, Fetch}
+use Rattle.types.specs.declared.Deduction.{Deduction}
+use Rattle.types.specs.declared.Deduction.the-variants.{WriteFirst}
+use Rattle.types.specs.declared.Refusal.the-variants.{Malformed, OutOfRange, UnknownRule}
 use Rattle.landlord.specs.Calls.{inRange, stepOf}
 use Rattle.landlord.specs.Catalog.{capacityInRange, itemInRange}
 use Rattle.line_fields.specs.declared.Field.{Field}

@@ -7,7 +7,7 @@ use lib.{ListN.{length, getD}, Dec.{leb, eqb}}
 use Rattle.decimal.specs.Decimal.{textOf, sameText}
 use Rattle.line_fields.specs.{declared.Field.{Field, the-variants.Rule}, Fields.{split, fieldAt, isNumber, isLetter, isDash, isRule, valueIn, ruleIn, isEither, noneEmpty}}
 use Rattle.season_lines.specs.declared.{Names.{Names, the-variants.{Form, Unknown}}, Line.{Line, the-variants.{Sizes, Item as ItemLine, Step, Act as Placed, Refused}}}
-use Rattle.landlord.specs.declared.{Act.{Act, the-variants.{Evict, Fetch}}, Deduction.the-variants.WriteFirst, Refusal.the-variants.{Malformed, OutOfRange, UnknownRule}}
+use Rattle.types.specs.declared.{Act.{Act, the-variants.{Evict, Fetch}}, Deduction.the-variants.WriteFirst, Refusal.the-variants.{Malformed, OutOfRange, UnknownRule}}
 use Rattle.landlord.specs.{Catalog.{Item, itemInRange, capacityInRange}, Calls.{inRange, stepOf}}
 
 -- ## The headings: "A table is a line of names"

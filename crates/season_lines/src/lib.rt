@@ -10,11 +10,11 @@ ghost use Rattle.line_fields.specs.Fields.{isNumber, isEither};
 ghost use Rattle.season_lines.specs.declared.Names.the-variants.{Form, Unknown};
 ghost use Rattle.season_lines.specs.Lines.{ruleField, namesIn, formOf, itemFrom, stepShape, isActKind, actOf, sizesLine, itemLine, stepLine, actLine, lineIn};
 ghost use Rattle.season_lines.specs.Inner.{Judgeable};
-use landlord::Act;
-use landlord::Deduction;
-use landlord::Refusal;
-use landlord::Step;
 use line_fields::Field;
+use types::Act;
+use types::Deduction;
+use types::Refusal;
+use types::Step;
 
 // Which heading of its table a line is, the table's headings counted from 0.
 pub enum Names {

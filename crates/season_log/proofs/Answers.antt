@@ -10,7 +10,7 @@ use lib.Dec.{leb}
 use borrow.Author.Tests.{leb-true}
 use Rattle.decimal.specs.Decimal.{fits, pageOf}
 use Rattle.decimal.proofs.Laws.{page-length}
-use Rattle.landlord.specs.declared.Refusal.the-variants.{ShortBuffer}
+use Rattle.types.specs.declared.Refusal.the-variants.{ShortBuffer}
 use Rattle.season_log.specs.declared.LogAnswer.{LogAnswer}
 use Rattle.season_log.specs.declared.LogAnswer.the-variants.{Count, Refused as Not}
 use Rattle.season_log.specs.Log.{Logged, steps, fault, logText, listOf, writeAnswer, writtenPage, readAnswer, readList}

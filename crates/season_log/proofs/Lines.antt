@@ -11,12 +11,12 @@ use lib.Dec.{leb, eqb}
 use lib.ListN.{length, getD}
 use Rattle.decimal.specs.Decimal.{sameText, allDigits, leadingZero, shaped, valueOf, digitsOf}
 use Rattle.decimal.proofs.Laws.{shaped-digits, value-digits, digits-value, digits-all}
-use Rattle.landlord.specs.declared.Deduction.the-variants.{WriteFirst, LoadFirst}
-use Rattle.landlord.specs.declared.Refusal.{Refusal}
-use Rattle.landlord.specs.declared.Refusal.the-variants.{Malformed}
-use Rattle.landlord.specs.declared.Step.{Step}
-use Rattle.landlord.specs.declared.Step.the-variants.{Read, Write, Flush}
-use Rattle.landlord.specs.Types.{stepKind, stepItem, stepMinutes}
+use Rattle.types.specs.declared.Deduction.the-variants.{WriteFirst, LoadFirst}
+use Rattle.types.specs.declared.Refusal.{Refusal}
+use Rattle.types.specs.declared.Refusal.the-variants.{Malformed}
+use Rattle.types.specs.declared.Step.{Step}
+use Rattle.types.specs.declared.Step.the-variants.{Read, Write, Flush}
+use Rattle.types.specs.Types.{stepKind, stepItem, stepMinutes}
 use Rattle.landlord.specs.Calls.{inRange, stepOf}
 use Rattle.line_fields.specs.declared.Field.{Field}
 use Rattle.line_fields.specs.declared.Field.the-variants.{Number, Letter, Dash, Word, Empty, Rule}

@@ -13,11 +13,11 @@ use Rattle.decimal.specs.Decimal.{sameText}
 use Rattle.decimal.proofs.Texts.{same-true}
 use Rattle.fields.specs.LittleEndian.{un, le}
 use Rattle.fields.proofs.Laws.{length-le, un-front, past}
-use Rattle.landlord.specs.declared.Refusal.{Refusal}
-use Rattle.landlord.specs.declared.Refusal.the-variants.{Malformed, Heading, OutOfRange, InputTooLong}
-use Rattle.landlord.specs.declared.Step.{Step}
-use Rattle.landlord.specs.declared.Step.the-variants.{Read, Write, Flush}
-use Rattle.landlord.specs.Types.{stepKind, stepItem, stepMinutes}
+use Rattle.types.specs.declared.Refusal.{Refusal}
+use Rattle.types.specs.declared.Refusal.the-variants.{Malformed, Heading, OutOfRange, InputTooLong}
+use Rattle.types.specs.declared.Step.{Step}
+use Rattle.types.specs.declared.Step.the-variants.{Read, Write, Flush}
+use Rattle.types.specs.Types.{stepKind, stepItem, stepMinutes}
 use Rattle.landlord.specs.Calls.{inRange, stepOf}
 use Rattle.landlord.proofs.Calls.{same-step}
 use Rattle.season_lines.specs.declared.Line.{Line}

@@ -16,9 +16,9 @@ use Rattle.decimal.specs.InnerPages.{textOver}
 use Rattle.decimal.proofs.Laws.{digits-length, page-all, page-none}
 use Rattle.decimal.proofs.Pages.{TextGoing, go-start, go-as, go-room, go-next, go-end}
 use Rattle.fields.specs.LittleEndian.{un}
-use Rattle.landlord.specs.declared.Step.{Step}
-use Rattle.landlord.specs.declared.Step.the-variants.{Read, Write, Flush}
-use Rattle.landlord.specs.declared.Refusal.the-variants.{OutOfRange, ShortBuffer}
+use Rattle.types.specs.declared.Step.{Step}
+use Rattle.types.specs.declared.Step.the-variants.{Read, Write, Flush}
+use Rattle.types.specs.declared.Refusal.the-variants.{OutOfRange, ShortBuffer}
 use Rattle.landlord.specs.Calls.{inRange, stepOf}
 use Rattle.landlord.proofs.Ranges.{range-read, range-write, range-wide, range-flush}
 use Rattle.season_lines.specs.Lines.{headings}

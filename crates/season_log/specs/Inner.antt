@@ -3,7 +3,7 @@ use mathlib.Core.{Path._≡_, Bool.{Bool, true, cond}, List.List}
 use Prim.Native.Nat.{ℕ, _+_, _≤_}
 use lib.ListN.{length}
 use Rattle.decimal.specs.InnerPages.{textOver}
-use Rattle.landlord.specs.declared.{Step.Step, Refusal.the-variants.OutOfRange}
+use Rattle.types.specs.declared.{Step.Step, Refusal.the-variants.OutOfRange}
 use Rattle.landlord.specs.Calls.{inRange, stepOf}
 use Rattle.season_log.specs.Log.{Logged, steps, fault, stepText, stepLines, logText, listNumber, listed}
 

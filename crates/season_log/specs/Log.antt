@@ -4,8 +4,9 @@ use Prim.Native.Nat.{ℕ, zero, suc, _/_, _≤_}
 use lib.{ListN.{length, take, drop}, Dec.{leb, eqb}}
 use Rattle.decimal.specs.Decimal.{textOf, digitsOf, fits, pageOf}
 use Rattle.fields.specs.LittleEndian.{un, le}
-use Rattle.landlord.specs.declared.{Step.{Step, the-variants.{Read, Write, Flush}}, Refusal.{Refusal, the-variants.{Malformed, Heading, OutOfRange, ShortBuffer, InputTooLong}}}
-use Rattle.landlord.specs.{Types.{stepKind, stepItem, stepMinutes}, Calls.{inRange, stepOf}}
+use Rattle.types.specs.declared.{Step.{Step, the-variants.{Read, Write, Flush}}, Refusal.{Refusal, the-variants.{Malformed, Heading, OutOfRange, ShortBuffer, InputTooLong}}}
+use Rattle.types.specs.Types.{stepKind, stepItem, stepMinutes}
+use Rattle.landlord.specs.Calls.{inRange, stepOf}
 use Rattle.season_lines.specs.declared.{Names.{Names, the-variants.{Form, Unknown}}, Line.{Line, the-variants.{Sizes, Item as ItemLine, Step as StepLine, Act as ActLine, Refused}}}
 use Rattle.line_fields.specs.Fields.{split, fieldsOf}
 use Rattle.season_lines.specs.Lines.{headingOf, formOf, lineIn}

@@ -4,10 +4,10 @@ ghost use mathlib.Core.Path.{_≡_};
 ghost use Prim.Native.Nat.{_+_, _/_, _≤_, _<_};
 ghost use lib.ListN.{length};
 ghost use Rattle.decimal.specs.InnerPages.{textOver};
-ghost use Rattle.landlord.specs.declared.Step.the-variants.{Read, Write};
+ghost use Rattle.types.specs.declared.Step.the-variants.{Read, Write};
 ghost use Rattle.season_log.specs.Log.{stepText, listNumber, toldLine, listed, writeAnswer, writtenPage};
 ghost use Rattle.season_log.specs.Inner.{stepAt, lineBytes, textBytes, FaultOn, LineFits, LinesFit, LinesOn};
-use landlord::Refusal;
+use types::Refusal;
 
 // The most bytes that a text may have.
 pub const LIMIT: usize = 65536;

@@ -8,8 +8,8 @@ use native.Mathlib.Numerals.{add-one}
 use native.Mathlib.Omega.{arith}
 use native.Mathlib.Decide.{ℕ-discrete, decLt}
 use lib.ListN.{length, getD, drop}
-use Rattle.landlord.specs.declared.Act.{Act}
-use Rattle.landlord.specs.Types.{actKind, actItem}
+use Rattle.types.specs.declared.Act.{Act}
+use Rattle.types.specs.Types.{actKind, actItem}
 use Rattle.landlord.specs.Catalog.{Catalog}
 use Rattle.landlord.specs.Plan.{Copy, planUsed, Done, done, faulty, planActs, andPaid, andThen, allActs}
 use Rattle.season_lines.specs.Lines.{actOf}

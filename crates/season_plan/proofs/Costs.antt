@@ -8,11 +8,11 @@ use native.Mathlib.Omega.{arith}
 use lib.ListN.{length}
 use lib.Dec.{ltb, leb}
 use borrow.Author.Tests.{ltb-true}
-use Rattle.landlord.specs.declared.Step.{Step}
-use Rattle.landlord.specs.declared.Step.the-variants.{Read, Write, Flush}
-use Rattle.landlord.specs.declared.Act.{Act}
-use Rattle.landlord.specs.declared.Act.the-variants.{Evict, Fetch}
-use Rattle.landlord.specs.Types.{stepItem, actItem}
+use Rattle.types.specs.declared.Step.{Step}
+use Rattle.types.specs.declared.Step.the-variants.{Read, Write, Flush}
+use Rattle.types.specs.declared.Act.{Act}
+use Rattle.types.specs.declared.Act.the-variants.{Evict, Fetch}
+use Rattle.types.specs.Types.{stepItem, actItem}
 use Rattle.landlord.specs.Catalog.{Catalog, CatalogOk, itemAt}
 use Rattle.landlord.specs.Plan.{Copy, has, isChanged, copyAt, planUsed, owed, Fault, unknownItem, notHeld, alreadyHeld, requestNotHeld, overCapacity, faultNumber, Done, done, faulty, planActs, planServes}
 use Rattle.landlord.proofs.Folds.{either}

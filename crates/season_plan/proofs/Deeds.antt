@@ -9,7 +9,7 @@ use native.Mathlib.Decide.{ℕ-discrete}
 use lib.ListN.{length, getD, set}
 use lib.Dec.{ltb}
 use borrow.Author.Tests.{lt-ltb, eq-eqb, ne-eqb}
-use Rattle.landlord.specs.declared.Act.the-variants.{Evict, Fetch}
+use Rattle.types.specs.declared.Act.the-variants.{Evict, Fetch}
 use Rattle.landlord.specs.Catalog.{Catalog, itemAt}
 use Rattle.landlord.specs.Plan.{Copy, noCopy, cleanCopy, dirtyCopy, has, isChanged, copyAt, planUsed, done, faulty, unknownItem, notHeld, alreadyHeld, planEvicts, planFetches, planActs}
 use Rattle.landlord.proofs.Sums.{sum-term}

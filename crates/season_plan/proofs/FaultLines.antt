@@ -8,9 +8,9 @@ use native.Mathlib.Omega.{arith}
 use lib.ListN.{length}
 use lib.Dec.{ltb, eqb}
 use borrow.Author.Tests.{ltb-true, eqb-true}
-use Rattle.landlord.specs.declared.Step.{Step}
-use Rattle.landlord.specs.declared.Act.{Act}
-use Rattle.landlord.specs.Types.{stepItem, actItem}
+use Rattle.types.specs.declared.Step.{Step}
+use Rattle.types.specs.declared.Act.{Act}
+use Rattle.types.specs.Types.{stepItem, actItem}
 use Rattle.landlord.specs.Fold.{tab}
 use Rattle.landlord.specs.Catalog.{Catalog}
 use Rattle.landlord.specs.Plan.{Plan, Copy, noCopy, Fault, unknownItem, notHeld, alreadyHeld, requestNotHeld, overCapacity, Done, done, faulty, Priced, costs, fault, planActs, andPaid, andThen, allActs, planServes, pricedWith, priceThen, priceFrom}

@@ -9,11 +9,11 @@ use lib.ListN.{length, getD, take, drop}
 use lib.Seq.{getD-take, take-all, drop-cons}
 use lib.Dec.{ltb}
 use borrow.Author.Tests.{ltb-true, ltb-false, lt-ltb, le-ltb, eq-eqb, ne-eqb}
-use Rattle.landlord.specs.declared.Step.{Step}
-use Rattle.landlord.specs.declared.Step.the-variants.{Read, Write, Flush}
-use Rattle.landlord.specs.declared.Act.{Act}
-use Rattle.landlord.specs.declared.Act.the-variants.{Evict, Fetch}
-use Rattle.landlord.specs.Types.{stepKind, stepItem, stepMinutes, actKind, actItem}
+use Rattle.types.specs.declared.Step.{Step}
+use Rattle.types.specs.declared.Step.the-variants.{Read, Write, Flush}
+use Rattle.types.specs.declared.Act.{Act}
+use Rattle.types.specs.declared.Act.the-variants.{Evict, Fetch}
+use Rattle.types.specs.Types.{stepKind, stepItem, stepMinutes, actKind, actItem}
 use Rattle.landlord.specs.Calls.{inRange}
 use Rattle.season_lines.specs.Lines.{actOf}
 use Rattle.catalog_bytes.specs.Catalogs.{catalogIn}

@@ -9,14 +9,14 @@ use native.Mathlib.Numerals.{add-one}
 use native.Mathlib.Omega.{arith}
 use lib.ListN.{length, getD, drop, replicate, getD-replicate, drop-of-length-le}
 use lib.Seq.{drop-cons}
-use Rattle.landlord.specs.declared.Refusal.{Refusal}
-use Rattle.landlord.specs.declared.Step.{Step}
-use Rattle.landlord.specs.declared.Step.the-variants.{Read, Write, Flush}
-use Rattle.landlord.specs.Types.{stepKind, stepItem, stepMinutes, actItem, telling, told}
+use Rattle.types.specs.declared.Refusal.{Refusal}
+use Rattle.types.specs.declared.Step.{Step}
+use Rattle.types.specs.declared.Step.the-variants.{Read, Write, Flush}
+use Rattle.types.specs.Types.{stepKind, stepItem, stepMinutes, actItem, telling, told}
 use Rattle.landlord.specs.Fold.{tab}
 use Rattle.landlord.specs.Catalog.{Catalog, CatalogOk, itemAt}
 use Rattle.landlord.specs.Calls.{inRange, stepOf}
-use Rattle.landlord.proofs.Refusals.{fault-range}
+use Rattle.landlord.proofs.Faults.{fault-range}
 use Rattle.landlord.specs.Plan.{Copy, noCopy, has, copyAt, planUsed, owed, Fault, unknownItem, notHeld, alreadyHeld, requestNotHeld, overCapacity, faultRefusal, faultNumber, Done, done, faulty, Priced, costs, fault, andPaid, andThen, allActs, planServes, pricedWith, priceThen, priceFrom}
 use Rattle.landlord.proofs.Folds.{tab-eq}
 use Rattle.landlord.proofs.Sums.{sum-zero}

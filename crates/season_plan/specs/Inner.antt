@@ -1,5 +1,6 @@
 -- How the program holds what a plan has, and what its functions give. Assumes nothing.
-use Rattle.landlord.specs.{Types.actItem, Plan.{Plan, Copy, noCopy, cleanCopy, dirtyCopy, copyAt, cleaned, owed, Done, done, faulty, Fault, unknownItem, notHeld, alreadyHeld, requestNotHeld, overCapacity, faultNumber, planUsed, planEvicts, planFetches, planActs, allActs, planServes}, Fold.tab, Catalog.{Catalog, CatalogOk}, Calls.{inRange, stepOf}}
+use Rattle.types.specs.Types.{actItem}
+use Rattle.landlord.specs.{Plan.{Plan, Copy, noCopy, cleanCopy, dirtyCopy, copyAt, cleaned, owed, Done, done, faulty, Fault, unknownItem, notHeld, alreadyHeld, requestNotHeld, overCapacity, faultNumber, planUsed, planEvicts, planFetches, planActs, allActs, planServes}, Fold.tab, Catalog.{Catalog, CatalogOk}, Calls.{inRange, stepOf}}
 use Rattle.season_tables.specs.{Tables.{Placed, Sofar}, declared.Seen.Seen, Inner.Holds, InnerSound.{Sound, placedAt}}
 use Rattle.season_plan.specs.declared.{Copies.Copies, Did.Did, Acted.Acted, Price.{Price, the-variants.{Cost, Refused}}}
 use Rattle.season_plan.specs.Plans.{actsAt, actsBefore, priceOf, PricedBy}

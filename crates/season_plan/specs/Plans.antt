@@ -3,8 +3,9 @@
 use mathlib.Core.{Path._≡_, Bool.cond, List.{List, [], _∷_}}
 use Prim.Native.Nat.{ℕ, suc, _+_}
 use lib.{ListN.length, Dec.{ltb, eqb}}
-use Rattle.landlord.specs.declared.Act.{Act}
-use Rattle.landlord.specs.{Types.{Told, nothingTold, told}, Plan.{Fault, unknownItem, notHeld, alreadyHeld, requestNotHeld, overCapacity, faultRefusal, Priced, costs, fault, price}}
+use Rattle.types.specs.declared.Act.{Act}
+use Rattle.types.specs.Types.{Told, nothingTold, told}
+use Rattle.landlord.specs.Plan.{Fault, unknownItem, notHeld, alreadyHeld, requestNotHeld, overCapacity, faultRefusal, Priced, costs, fault, price}
 use Rattle.season_tables.specs.Tables.{Placed, Sofar}
 use Rattle.season_plan.specs.declared.Price.{Price, the-variants.{Cost, Refused}}
 

@@ -3,8 +3,8 @@ ghost use mathlib.Core.Path.{_≡_};
 ghost use Prim.Native.Nat.{_≤_};
 ghost use lib.Dec.{leb};
 ghost use Rattle.season_plan.specs.Inner.{PlanReady, Known, Evicts, Fetches, Acts, Owes, Cleans, lacking, PlanServable, Serves, Actable, RunsActs, ActsWithin, Priceable, PricedAs, PriceSmall};
-use landlord::Refusal;
 use season_tables::Seen;
+use types::Refusal;
 
 // What the plan has of each item: 0 no copy, 1 a clean one, 2 a dirty one; the blocks that it holds; and what it has paid.
 pub struct Copies {
@@ -227,7 +227,7 @@ pub fn price_plan(seen: Seen, catalog: &[u8], calls: &[u32], acts: &[u32]) -> Pr
         a = before.next;
         let number = before.number;
         if number != 0 {
-            return Price::Refused(landlord::refusal_of(
+            return Price::Refused(types::refusal_of(
                 number,
                 (9 + seen.n + steps + a) as u32,
                 acts[3 * a + 2],
@@ -239,7 +239,7 @@ pub fn price_plan(seen: Seen, catalog: &[u8], calls: &[u32], acts: &[u32]) -> Pr
         let served = serve(catalog, seen.h, ready, kind, item as usize);
         let fault = served.number;
         if fault != 0 {
-            return Price::Refused(landlord::refusal_of(fault, (7 + seen.n + s) as u32, item));
+            return Price::Refused(types::refusal_of(fault, (7 + seen.n + s) as u32, item));
         }
         let next = served.copies;
         p = next;

@@ -11,8 +11,8 @@ use borrow.Author.Tests.{ltb-true}
 use lib.Dec.{ltb, eqb}
 use lib.ListN.{length, take, drop, set, length-append, length-drop, length-set, length-map}
 use lib.Seq.{take-suc-set, length-take-le, getD-at, drop-drop}
-use Rattle.landlord.specs.declared.Refusal.{Refusal}
-use Rattle.landlord.specs.declared.Refusal.the-variants.{Malformed, Heading}
+use Rattle.types.specs.declared.Refusal.{Refusal}
+use Rattle.types.specs.declared.Refusal.the-variants.{Malformed, Heading}
 use Rattle.line_fields.specs.declared.Field.{Field}
 use Rattle.line_fields.specs.declared.Field.the-variants.{Empty}
 use Rattle.season_lines.specs.declared.Line.the-variants.{Refused as Torn}

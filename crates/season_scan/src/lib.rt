@@ -2,10 +2,10 @@
 ghost use Rattle.season_tables.specs.Tables.{readingTo};
 ghost use Rattle.season_tables.specs.Inner.{Leads, Scannable};
 ghost use Rattle.season_scan.specs.Inner.{Few, Leaves};
-use landlord::Refusal;
 use line_fields::Field;
 use season_tables::Scanned;
 use season_tables::Verdict;
+use types::Refusal;
 
 // Reads the tables up to the one numbered `upto`, the last, or up to the first faulty line. The items are noted in `catalog`, five
 // bytes each, the steps in `calls`, four numbers each, and the acts in `acts`, three.

@@ -10,16 +10,16 @@ use lib.ListN.{length, take, drop, length-append}
 use lib.Seq.{sets}
 use lib.Dec.{eqb, leb, ltb}
 use borrow.Author.Tests.{lt-ltb, le-ltb, le-leb, lt-leb, eq-eqb, ne-eqb}
-use Rattle.landlord.specs.declared.Step.{Step}
-use Rattle.landlord.specs.declared.Act.{Act}
-use Rattle.landlord.specs.declared.Deduction.{Deduction}
-use Rattle.landlord.specs.declared.Refusal.{Refusal}
-use Rattle.landlord.specs.declared.Refusal.the-variants.{Malformed, Heading, OutOfSequence, PlanTooLarge, UnknownItem, ActOutOfOrder}
-use Rattle.landlord.specs.Types.{stepItem, actItem, telling, told}
+use Rattle.types.specs.declared.Step.{Step}
+use Rattle.types.specs.declared.Act.{Act}
+use Rattle.types.specs.declared.Deduction.{Deduction}
+use Rattle.types.specs.declared.Refusal.{Refusal}
+use Rattle.types.specs.declared.Refusal.the-variants.{Malformed, Heading, OutOfSequence, PlanTooLarge, UnknownItem, ActOutOfOrder}
+use Rattle.types.specs.Types.{stepItem, actItem, telling, told}
 use Rattle.landlord.specs.Fold.{fold}
 use Rattle.landlord.specs.Calls.{itemRefusal}
 use Rattle.landlord.proofs.Folds.{fold-append}
-use Rattle.landlord.proofs.Refusals.{refusal-one}
+use Rattle.types.proofs.Refusals.{refusal-one}
 use Rattle.catalog_bytes.specs.Inner.{catalogOfFirst, itemBytes}
 use Rattle.catalog_bytes.proofs.Laws.{none-first, one-more}
 use Rattle.season_lines.specs.declared.Line.{Line}

@@ -9,9 +9,9 @@ use Prim.Native.Nat.{ℕ, zero, suc, _+_, _*_, _-_, _≤_, _<_}
 use native.Mathlib.Omega.{arith}
 use lib.ListN.{length, length-append}
 use lib.Dec.{leb, ltb, eqb}
-use Rattle.landlord.specs.declared.Refusal.{Refusal}
-use Rattle.landlord.specs.declared.Refusal.the-variants.{UnknownItem, ItemTooLarge}
-use Rattle.landlord.specs.Types.{stepItem, actItem, refusalLine}
+use Rattle.types.specs.declared.Refusal.{Refusal}
+use Rattle.types.specs.declared.Refusal.the-variants.{UnknownItem, ItemTooLarge}
+use Rattle.types.specs.Types.{stepItem, actItem, refusalLine}
 use Rattle.landlord.specs.Calls.{itemRefusal}
 use Rattle.landlord.proofs.Folds.{either}
 use Rattle.season_lines.specs.declared.Names.{Names}

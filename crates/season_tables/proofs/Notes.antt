@@ -6,7 +6,7 @@ use native.Mathlib.Omega.{arith}
 use native.Mathlib.Nat.{mul-add, mul-one}
 use lib.ListN.{length, take, drop, set, length-append}
 use lib.Seq.{sets, sets-eq, length-sets, length-take-le, take-at, drop-at}
-use Rattle.landlord.specs.declared.Step.{Step}
+use Rattle.types.specs.declared.Step.{Step}
 use Rattle.season_tables.specs.Tables.{Placed}
 use Rattle.season_tables.specs.Inner.{callNumbers, actNumbers, putAt}
 

@@ -1,7 +1,8 @@
 -- How the program holds what has been read: the sizes and counts in a struct, the catalog as bytes in one lent slice, the steps and
 -- acts as numbers in two; and what a line leaves of them as it was. Assumes nothing.
 use lib.{ListN.{length, take, drop}, Dec.{eqb, leb}}
-use Rattle.landlord.specs.{Fold.fold, declared.{Step.Step, Deduction.the-variants.WriteFirst, Refusal.{Refusal, the-variants.Heading}}, Types.{stepKind, stepItem, stepMinutes, actKind, actItem}}
+use Rattle.types.specs.{declared.{Step.Step, Deduction.the-variants.WriteFirst, Refusal.{Refusal, the-variants.Heading}}, Types.{stepKind, stepItem, stepMinutes, actKind, actItem}}
+use Rattle.landlord.specs.Fold.{fold}
 use mathlib.Core.{Bool.{Bool, true, false, cond, not, _&&_}, List.{List, [], _∷_, _++_, map}, Path._≡_}
 use Rattle.season_tables.specs.declared.{Seen.Seen, Scanned.Scanned, Verdict.{Verdict, the-variants.{Taken, Refused}}}
 use Rattle.season_tables.specs.Tables.{Placed, Sofar, Led, on, stop, mayEnd, mustEnd}

@@ -3,7 +3,8 @@
 use mathlib.Core.List.{List}
 use Prim.Native.Nat.{ℕ, _≤_, _<_}
 use lib.ListN.{length, getD}
-use Rattle.landlord.specs.{declared.Act.the-variants.Fetch, Types.actItem, Catalog.{CapacityOk, CatalogOk}, Claims.AllowedLog}
+use Rattle.types.specs.{declared.Act.the-variants.Fetch, Types.actItem}
+use Rattle.landlord.specs.{Catalog.{CapacityOk, CatalogOk}, Claims.AllowedLog}
 use Rattle.season_tables.specs.Tables.{Placed, Sofar}
 
 -- act j of a text

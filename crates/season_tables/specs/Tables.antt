@@ -3,8 +3,9 @@
 use mathlib.Core.{Bool.{Bool, true, false, cond, _&&_}, List.{List, [], _∷_, _++_}}
 use Prim.Native.Nat.{ℕ, suc}
 use lib.{ListN.length, Dec.{leb, ltb, eqb}}
-use Rattle.landlord.specs.declared.{Step.Step, Act.Act, Deduction.{Deduction, the-variants.WriteFirst}, Refusal.{Refusal, the-variants.{Malformed, Heading, OutOfSequence, PlanTooLarge, UnknownItem, ItemTooLarge, ActOutOfOrder}}}
-use Rattle.landlord.specs.{Types.{stepItem, actItem}, Fold.fold, Catalog.Catalog, Calls.itemRefusal}
+use Rattle.types.specs.declared.{Step.Step, Act.Act, Deduction.{Deduction, the-variants.WriteFirst}, Refusal.{Refusal, the-variants.{Malformed, Heading, OutOfSequence, PlanTooLarge, UnknownItem, ItemTooLarge, ActOutOfOrder}}}
+use Rattle.types.specs.Types.{stepItem, actItem}
+use Rattle.landlord.specs.{Fold.fold, Catalog.Catalog, Calls.itemRefusal}
 use Rattle.season_lines.specs.declared.{Names.{Names, the-variants.{Form, Unknown}}, Line.{Line, the-variants.{Sizes, Item as ItemLine, Step as StepLine, Act as ActLine, Refused}}}
 use Rattle.line_fields.specs.Fields.{split, fieldsOf}
 use Rattle.season_lines.specs.Lines.{formOf, itemFrom, lineIn}

@@ -5,21 +5,21 @@ ghost use mathlib.Core.List.{[], _∷_};
 ghost use Prim.Native.Nat.{_+_, _*_, _≤_};
 ghost use lib.ListN.{length};
 ghost use lib.Dec.{eqb};
-ghost use Rattle.landlord.specs.declared.Step.the-variants.{Read};
-ghost use Rattle.landlord.specs.declared.Refusal.the-variants.{Malformed};
+ghost use Rattle.types.specs.declared.Step.the-variants.{Read};
+ghost use Rattle.types.specs.declared.Refusal.the-variants.{Malformed};
 ghost use Rattle.landlord.specs.Calls.{itemRefusal};
 ghost use Rattle.catalog_bytes.specs.Inner.{catalogOfFirst};
 ghost use Rattle.season_lines.specs.declared.Line.the-variants.{Sizes, Item as ItemLine, Step as StepLine, Act as ActLine};
 ghost use Rattle.season_tables.specs.declared.Verdict.the-variants.{Taken, Refused};
 ghost use Rattle.season_tables.specs.Tables.{on, stop, mayEnd, mustEnd, namedBy, nextTable, takes, leads, atEnd};
 ghost use Rattle.season_tables.specs.Inner.{nothingRead, endVerdict, LeadsFrom, LeadsBy, NotesItem, NotesStep, NotesAct, KeepsSeen, KeepsPast, Keeps, Takeable, Leadable, wantsValues, callNumbers, actNumbers, putAt};
-use landlord::Act;
-use landlord::Deduction;
-use landlord::Refusal;
-use landlord::Step;
 use line_fields::Field;
 use season_lines::Line;
 use season_lines::Names;
+use types::Act;
+use types::Deduction;
+use types::Refusal;
+use types::Step;
 
 // What has been read: in which table, and whether behind its line of names; the sizes, k 0 before they are read; how many items,
 // steps and acts, which stand in lent slices; the place of the last act; which table is the last, and which of its headings this table
@@ -244,7 +244,7 @@ fn take_step(seen: Seen, step: Step, at: u32, catalog: &[u8], calls: &mut [u32])
 {
     let number = step_refused(seen, catalog, step);
     if number != 0 {
-        return stopped(seen, landlord::refusal_of(number, at, step.item()));
+        return stopped(seen, types::refusal_of(number, at, step.item()));
     }
     let steps = seen.steps;
     put_step(calls, 4 * steps, step);

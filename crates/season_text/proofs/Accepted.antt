@@ -6,8 +6,8 @@ use Prim.Native.Nat.{ℕ, _≤_}
 use lib.ListN.{length}
 use lib.Dec.{leb}
 use borrow.Author.Tests.{leb-true}
-use Rattle.landlord.specs.declared.Refusal.{Refusal}
-use Rattle.landlord.specs.declared.Refusal.the-variants.{InputTooLong}
+use Rattle.types.specs.declared.Refusal.{Refusal}
+use Rattle.types.specs.declared.Refusal.the-variants.{InputTooLong}
 use Rattle.landlord.specs.Plan.{Priced, costs, fault}
 use Rattle.season_tables.specs.Tables.{Sofar, Led, on, stop, readingOf}
 use Rattle.season_tables.proofs.Sound.{accepted-sound}

@@ -6,10 +6,10 @@ use lib.ListN.{length, take}
 use lib.Seq.{length-take-le, take-take}
 use native.Mathlib.Omega.{arith}
 use borrow.Author.Tests.{le-leb, lt-leb}
-use Rattle.landlord.specs.declared.Refusal.{Refusal}
-use Rattle.landlord.specs.declared.Refusal.the-variants.{InputTooLong}
-use Rattle.landlord.specs.Types.{Told, told}
-use Rattle.landlord.proofs.Refusals.{refused-some}
+use Rattle.types.specs.declared.Refusal.{Refusal}
+use Rattle.types.specs.declared.Refusal.the-variants.{InputTooLong}
+use Rattle.types.specs.Types.{Told, told}
+use Rattle.types.proofs.Refusals.{refused-some}
 use Rattle.landlord.specs.Figures.{Standing}
 use Rattle.landlord.specs.Plan.{faultRefusal, Priced, costs, fault}
 use Rattle.cache_state.specs.Cache.{view}

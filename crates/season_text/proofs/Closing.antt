@@ -6,12 +6,12 @@ use Prim.Native.Nat.{ℕ, zero, suc, _+_, _*_, _/_, _≤_, _<_}
 use native.Mathlib.Omega.{arith}
 use lib.ListN.{length, getD, take, drop, set, length-drop}
 use lib.Seq.{length-take-le, take-append-add, set-split}
-use Rattle.landlord.specs.declared.Step.{Step}
-use Rattle.landlord.specs.Types.{stepKind, stepItem, stepMinutes, deductionNumber, deductionOf}
+use Rattle.types.specs.declared.Step.{Step}
+use Rattle.types.specs.Types.{stepKind, stepItem, stepMinutes, deductionNumber, deductionOf}
 use Rattle.landlord.specs.Fold.{tabFrom}
 use Rattle.landlord.specs.Calls.{Call, close, callOf}
 use Rattle.landlord.proofs.Folds.{tab-of}
-use Rattle.landlord.proofs.Slots.{deduction-number}
+use Rattle.types.proofs.Deductions.{deduction-number}
 use Rattle.landlord.proofs.Ranges.{opening-accepts}
 use Rattle.catalog_bytes.specs.Catalogs.{catalogIn}
 use Rattle.cache_open.specs.Opening.{openingNumber}

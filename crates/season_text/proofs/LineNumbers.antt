@@ -6,10 +6,10 @@ use Prim.Native.Nat.{ℕ, _+_, _≤_}
 use native.Mathlib.Omega.{arith}
 use lib.ListN.{length}
 use lib.Dec.{leb}
-use Rattle.landlord.specs.declared.Refusal.{Refusal}
-use Rattle.landlord.specs.declared.Refusal.the-variants.{InputTooLong}
-use Rattle.landlord.specs.Types.{Told, refusalLine}
-use Rattle.landlord.proofs.Refusals.{fault-tells}
+use Rattle.types.specs.declared.Refusal.{Refusal}
+use Rattle.types.specs.declared.Refusal.the-variants.{InputTooLong}
+use Rattle.types.specs.Types.{Told, refusalLine}
+use Rattle.landlord.proofs.Faults.{fault-tells}
 use Rattle.landlord.specs.Plan.{Priced, costs, fault}
 use Rattle.season_tables.specs.Tables.{Sofar, Led, on, stop, readingOf}
 use Rattle.season_tables.proofs.LineNumbers.{stop-line}

@@ -6,15 +6,15 @@ use Prim.Native.Nat.{ℕ, _≤_}
 use native.Mathlib.Omega.{arith}
 use lib.ListN.{length, drop}
 use borrow.Author.Tests.{le-leb}
-use Rattle.landlord.specs.declared.Refusal.{Refusal}
-use Rattle.landlord.specs.declared.Refusal.the-variants.{ShortBuffer}
-use Rattle.landlord.specs.Types.{Told, telling, nothingTold, told}
+use Rattle.types.specs.declared.Refusal.{Refusal}
+use Rattle.types.specs.declared.Refusal.the-variants.{ShortBuffer}
+use Rattle.types.specs.Types.{Told, telling, nothingTold, told}
 use Rattle.decimal.specs.Decimal.{fits, wroteOf, pageOf}
 use Rattle.decimal.proofs.Laws.{wrote-all, wrote-fits, page-all, page-length}
 use Rattle.report.specs.declared.Written.{Written}
 use Rattle.report.specs.declared.Written.the-variants.{Text, Refused}
 use Rattle.report.specs.Report.{refusalText, writtenLength, Put, longest}
-use Rattle.landlord.proofs.Refusals.{refusal-one, refused-some}
+use Rattle.types.proofs.Refusals.{refusal-one, refused-some}
 use Rattle.season_text.specs.Answer.{Outcome, refused, reported, outcomeOf, TextAnswered, printedOn, outputOf, Printed}
 use Rattle.season_text.specs.Inner.{ReportFits}
 

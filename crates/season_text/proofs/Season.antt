@@ -8,19 +8,20 @@ use native.Mathlib.Omega.{arith}
 use native.Mathlib.Decide.{ℕ-discrete}
 use lib.ListN.{length, getD, take, length-append, length-map}
 use lib.Seq.{length-take-le, getD-take, getD-at}
-use Rattle.landlord.specs.declared.Deduction.{Deduction}
-use Rattle.landlord.specs.declared.Step.{Step}
-use Rattle.landlord.specs.declared.Step.the-variants.{Flush}
+use Rattle.types.specs.declared.Deduction.{Deduction}
+use Rattle.types.specs.declared.Step.{Step}
+use Rattle.types.specs.declared.Step.the-variants.{Flush}
 use Rattle.landlord.specs.Fold.{fold}
 use Rattle.landlord.specs.Catalog.{Catalog}
-use Rattle.landlord.specs.Types.{deductionNumber}
+use Rattle.types.specs.Types.{deductionNumber}
 use Rattle.landlord.specs.Slot.{splitOf}
 use Rattle.landlord.specs.Figures.{ran, totalCost, leftSide, rightSide}
 use Rattle.landlord.specs.Plan.{costs}
 use Rattle.landlord.specs.Calls.{Call, close, callOf, Log, noLog, refusalAt, refusalIn, refusal, joins, logOf, ruleOver}
 use Rattle.landlord.specs.Claims.{AllowedLog}
 use Rattle.landlord.proofs.Folds.{fold-append}
-use Rattle.landlord.proofs.Slots.{deduction-ok, deduction-number}
+use Rattle.types.proofs.Deductions.{deduction-number}
+use Rattle.landlord.proofs.Slots.{deduction-ok}
 use Rattle.landlord.proofs.Calls.{allowed-logged}
 use Rattle.landlord.proofs.Logs.{all-served, ran-stands, closes-stands}
 use Rattle.landlord.proofs.Competitive.{competitive-bound}

@@ -8,9 +8,9 @@ use native.Mathlib.Omega.{arith}
 use lib.ListN.{length, length-append}
 use lib.Dec.{leb, ltb, eqb}
 use borrow.Author.Tests.{eqb-true, eqb-false, ne-eqb, le-leb}
-use Rattle.landlord.specs.declared.Step.{Step}
-use Rattle.landlord.specs.declared.Refusal.the-variants.{Malformed}
-use Rattle.landlord.specs.Types.{actItem}
+use Rattle.types.specs.declared.Step.{Step}
+use Rattle.types.specs.declared.Refusal.the-variants.{Malformed}
+use Rattle.types.specs.Types.{actItem}
 use Rattle.landlord.specs.Calls.{itemRefusal}
 use Rattle.landlord.proofs.Folds.{either}
 use Rattle.decimal.specs.Decimal.{textOf, sameText}

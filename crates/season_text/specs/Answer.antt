@@ -3,8 +3,9 @@
 use mathlib.Core.{Path._≡_, Bool.cond, List.{List, _++_, [], _∷_, map}}
 use Prim.Native.Nat.{ℕ, _≤_, _<_}
 use lib.{ListN.{length, drop, getD, take}, Dec.leb}
-use Rattle.landlord.specs.declared.Refusal.{Refusal, the-variants.{InputTooLong, ShortBuffer}}
-use Rattle.landlord.specs.{Types.{told, deductionNumber}, Slot.splitOf, Figures.{Standing, season, totalCost, leftSide, rightSide}, Plan.{faultRefusal, Priced, costs, fault}, Calls.{Call, close, callOf, openingRefusal, refusal}}
+use Rattle.types.specs.declared.Refusal.{Refusal, the-variants.{InputTooLong, ShortBuffer}}
+use Rattle.types.specs.Types.{told, deductionNumber}
+use Rattle.landlord.specs.{Slot.splitOf, Figures.{Standing, season, totalCost, leftSide, rightSide}, Plan.{faultRefusal, Priced, costs, fault}, Calls.{Call, close, callOf, openingRefusal, refusal}}
 use Rattle.decimal.specs.Decimal.{fits, wroteOf, pageOf}
 use Rattle.report_lines.specs.declared.Rival.the-variants.{Against}
 use Rattle.report.specs.{declared.Written.Written, Report.{reportOf, refusalText, writtenTold, Put, longest}}

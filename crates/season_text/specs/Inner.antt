@@ -3,7 +3,8 @@ use mathlib.Core.{Path._≡_, List.List}
 use Prim.Native.Nat.{ℕ, _*_, _≤_}
 use lib.ListN.{length}
 use Rattle.cache_state.specs.Cache.{view}
-use Rattle.landlord.specs.{Types.refusalLine, Figures.Standing}
+use Rattle.types.specs.Types.{refusalLine}
+use Rattle.landlord.specs.Figures.{Standing}
 use Rattle.layout.specs.Layout.{stateBytes, cacheOf, ValidBytes}
 use Rattle.report.specs.{declared.Written.Written, Report.{Put, longest}}
 use Rattle.season_tables.specs.{declared.Seen.Seen, Tables.Sofar, Inner.Holds, InnerSound.Sound}

@@ -3,12 +3,12 @@ ghost use Prim.Native.Nat.{_≤_};
 ghost use lib.ListN.{length};
 ghost use Rattle.season_text.specs.Answer.{outcomeOf, TextAnswered, Printed};
 ghost use Rattle.season_text.specs.Inner.{Closable, Closes, Reportable, Reports, ReportFits};
-use landlord::Refusal;
 use report::Written;
 use report_lines::Rival;
 use season_plan::Price;
 use season_tables::Seen;
 use season_tables::Verdict;
+use types::Refusal;
 
 // Runs the steps of an accepted text and the closing, as calls on a new state.
 fn close_season(seen: Seen, catalog: &[u8], calls: &mut [u32], state: &mut [u8])

@@ -18,7 +18,7 @@ use Rattle.decimal.specs.InnerPages.{textOver}
 use Rattle.decimal.proofs.Laws.{less-or-not, digits-all, digits-length, wrote-all, wrote-none, page-all, page-none}
 use Rattle.decimal.proofs.Texts.{same-true}
 use Rattle.decimal.proofs.Pages.{TextGoing, go-first, go-as, go-room, go-next, go-end}
-use Rattle.landlord.specs.Types.{namesItem}
+use Rattle.types.specs.Types.{namesItem}
 use Rattle.landlord.proofs.Tables.{every, every-at}
 use Rattle.sentence.specs.Sentences.{words, wordOf, inTable, linePart, itemPart, sentenceOf, longestSentence}
 use Rattle.sentence.specs.InnerSentences.{inOneText, startOf, WordAt, OnPage, toldOf, isStop, pieceOf, placeOf}

@@ -15,7 +15,7 @@ use Rattle.decimal.specs.Decimal.{textOf, sameText, digitsOf}
 use Rattle.decimal.specs.InnerReads.{readOf}
 use Rattle.decimal.proofs.Laws.{read-digits, read-value}
 use Rattle.decimal.proofs.Texts.{same-lengths, same-refl, same-true}
-use Rattle.landlord.specs.Types.{namesItem, itemTold}
+use Rattle.types.specs.Types.{namesItem, itemTold}
 use Rattle.sentence.specs.declared.Part.{Part}
 use Rattle.sentence.specs.declared.Part.the-variants.{Missing, Told}
 use Rattle.sentence.specs.declared.Reading.{Reading}

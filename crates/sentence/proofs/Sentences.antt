@@ -6,7 +6,7 @@ use mathlib.Core.List.{List}
 use Prim.Native.Nat.{ℕ, _+_, _≤_}
 use native.Mathlib.Omega.{arith}
 use lib.ListN.{length}
-use Rattle.landlord.specs.Types.{itemTold}
+use Rattle.types.specs.Types.{itemTold}
 use Rattle.sentence.specs.declared.Reading.{Reading}
 use Rattle.sentence.specs.declared.Reading.the-variants.{Sentence}
 use Rattle.sentence.specs.Sentences.{inTable, sentenceOf, Sayable, SaysThat, longestSentence}

@@ -4,7 +4,7 @@ use mathlib.Core.{Path._≡_, Bool.{Bool, cond, _||_}, List.{List, [], _∷_, _+
 use Prim.Native.{Nat.{ℕ, suc, _+_, _-_, _≤_}, String.String}
 use lib.{Dec.eqb, ListN.{length, take, drop}}
 use Rattle.decimal.specs.{declared.Number.{Number, the-variants.{Malformed, OutOfRange, Value}}, Decimal.{textOf, sameText, digitsOf}, InnerReads.readOf, InnerPages.textOver}
-use Rattle.landlord.specs.Types.{namesItem}
+use Rattle.types.specs.Types.{namesItem}
 use Rattle.sentence.specs.declared.{Part.{Part, the-variants.{Missing, Told}}, Reading.{Reading, the-variants.{NoSentence, Sentence}}}
 use Rattle.sentence.specs.Sentences.{words, wordOf, inTable}
 

@@ -4,7 +4,7 @@ use mathlib.Core.{Path._≡_, Bool.{Bool, true, cond, not}, List.{List, [], _∷
 use Prim.Native.{Nat.{ℕ, _≤_}, String.String}
 use lib.{ListN.{length, getD}, Dec.eqb}
 use Rattle.decimal.specs.Decimal.{textOf, digitsOf}
-use Rattle.landlord.specs.Types.{namesItem, itemTold}
+use Rattle.types.specs.Types.{namesItem, itemTold}
 use Rattle.sentence.specs.declared.Reading.{Reading, the-variants.{NoSentence, Sentence}}
 
 -- The words of the refusals, each at the place of its number: 1 to 17 from paper 01's table, the others from paper 02. There is no

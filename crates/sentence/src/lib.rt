@@ -5,7 +5,7 @@ ghost use mathlib.Core.List.{_++_};
 ghost use Prim.Native.Nat.{_≤_};
 ghost use lib.ListN.{length};
 ghost use Rattle.decimal.specs.Decimal.{textOf, sameText, wroteOf, pageOf};
-ghost use Rattle.landlord.specs.Types.{namesItem};
+ghost use Rattle.types.specs.Types.{namesItem};
 ghost use Rattle.sentence.specs.Sentences.{words, wordOf, inTable, linePart, itemPart, sentenceOf, SaysThat};
 ghost use Rattle.sentence.specs.InnerSentences.{startOf, WordAt, OnPage, toldOf, pieceOf, placeOf, partOf, endOf, restOf, behindWord};
 use decimal::Number;

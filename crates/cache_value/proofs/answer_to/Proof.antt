@@ -1,8 +1,8 @@
--- `cache_value::answer_to` meets its contract: 0 is taken, and the rows of the table are `landlord::refusal_of`. Assumes nothing.
+-- `cache_value::answer_to` meets its contract: 0 is taken, and the rows of the table are `types::refusal_of`. Assumes nothing.
 use mathlib.Core.Path.{sym, ap}
 use Prim.Native.Nat.{ℕ}
 use borrow.Author.Needs.{needs}
-use Rattle.landlord.specs.Types.{telling}
+use Rattle.types.specs.Types.{telling}
 use Rattle.cache_value.proofs.answer_to.Statement.{statement}
 use Rattle.cache_value.proofs.answer_to.Tie as tie
 

@@ -1,7 +1,7 @@
 -- `layout::rule` meets its contract: it is the rule of the number at its place. Assumes nothing.
 use mathlib.Core.Path.{ap, _∙_}
 use borrow.Author.Needs.{needs}
-use Rattle.landlord.specs.Types.{deductionOf}
+use Rattle.types.specs.Types.{deductionOf}
 use Rattle.layout.proofs.rule.Statement.{statement}
 use Rattle.layout.proofs.rule.Tie as tie
 

@@ -7,7 +7,7 @@ use borrow.Rule.Slice.PartMut.{putMid}
 use lib.ListN.{length}
 use Rattle.decimal.specs.Decimal.{textOf, digitsOf}
 use Rattle.decimal.proofs.Pages.{TextGoing, go-first, go-room, go-next, go-end}
-use Rattle.landlord.specs.declared.Step.the-variants.{Read}
+use Rattle.types.specs.declared.Step.the-variants.{Read}
 use Rattle.season_log.specs.Log.{stepText}
 use Rattle.season_log.proofs.put_read.Statement.{statement}
 use Rattle.season_log.proofs.put_read.Tie as tie

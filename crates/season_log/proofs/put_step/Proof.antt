@@ -5,8 +5,8 @@ use Prim.Native.Nat.{ℕ, _+_, _≤_}
 use native.Mathlib.Omega.{arith}
 use borrow.Author.Needs.{needs}
 use lib.ListN.{length}
-use Rattle.landlord.specs.declared.Step.{Step}
-use Rattle.landlord.specs.declared.Step.the-variants.{Read, Write, Flush}
+use Rattle.types.specs.declared.Step.{Step}
+use Rattle.types.specs.declared.Step.the-variants.{Read, Write, Flush}
 use Rattle.season_log.specs.Log.{stepText, listNumber}
 use Rattle.season_log.specs.Inner.{stepAt}
 use Rattle.season_log.proofs.Writing.{LineOn, step-flush, step-read, step-write, is-write, item-range, minutes-range}

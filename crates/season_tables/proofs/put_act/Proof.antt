@@ -8,8 +8,8 @@ use Rattle.season_tables.proofs.put_act.Statement.{statement}
 use Rattle.season_tables.proofs.put_act.Tie as tie
 use Rattle.season_tables.proofs.put_act.Reads as reads
 use Rattle.season_tables.proofs.put_act.Lts as lts
-use Rattle.landlord.proofs.Act.item.Reads as item-reads
-use Rattle.landlord.proofs.Act.kind.Reads as kind-reads
+use Rattle.types.proofs.Act.item.Reads as item-reads
+use Rattle.types.proofs.Act.kind.Reads as kind-reads
 
 mul-acts : tie.Need-mul-acts
 mul-acts c = search needs

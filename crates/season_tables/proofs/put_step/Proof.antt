@@ -8,9 +8,9 @@ use Rattle.season_tables.proofs.put_step.Statement.{statement}
 use Rattle.season_tables.proofs.put_step.Tie as tie
 use Rattle.season_tables.proofs.put_step.Reads as reads
 use Rattle.season_tables.proofs.put_step.Lts as lts
-use Rattle.landlord.proofs.Step.item.Reads as item-reads
-use Rattle.landlord.proofs.Step.kind.Reads as kind-reads
-use Rattle.landlord.proofs.Step.minutes.Reads as minutes-reads
+use Rattle.types.proofs.Step.item.Reads as item-reads
+use Rattle.types.proofs.Step.kind.Reads as kind-reads
+use Rattle.types.proofs.Step.minutes.Reads as minutes-reads
 
 mul-calls : tie.Need-mul-calls
 mul-calls c = search needs

@@ -9,7 +9,7 @@ use Rattle.season_tables.proofs.take_act.Statement.{statement}
 use Rattle.season_tables.proofs.take_act.Tie as tie
 use Rattle.season_tables.proofs.take_act.Reads as reads
 use Rattle.season_tables.proofs.take_act.Lts as lts
-use Rattle.landlord.proofs.Act.item.Reads as item-reads
+use Rattle.types.proofs.Act.item.Reads as item-reads
 use Rattle.season_tables.proofs.put_act.Reads as put-act-reads
 use Rattle.season_tables.proofs.stopped.Reads as stopped-reads
 use Rattle.season_tables.proofs.taken.Reads as taken-reads

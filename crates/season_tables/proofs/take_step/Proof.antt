@@ -2,7 +2,7 @@
 use borrow.Author.Needs.{needs}
 use mathlib.Core.Path.{refl, ap, _∙_}
 use native.Mathlib.Omega.{arith}
-use Rattle.landlord.specs.Types.{telling}
+use Rattle.types.specs.Types.{telling}
 use Rattle.catalog_bytes.specs.Inner.{catalogOfFirst}
 use Rattle.season_tables.proofs.Items.{step-range}
 use Rattle.season_tables.proofs.Held.{step-refuses, step-noted, step-past}
@@ -10,8 +10,8 @@ use Rattle.season_tables.proofs.take_step.Statement.{statement}
 use Rattle.season_tables.proofs.take_step.Tie as tie
 use Rattle.season_tables.proofs.take_step.Reads as reads
 use Rattle.season_tables.proofs.take_step.Lts as lts
-use Rattle.landlord.proofs.Step.item.Reads as item-reads
-use Rattle.landlord.proofs.refusal_of.Reads as refusal-of-reads
+use Rattle.types.proofs.Step.item.Reads as item-reads
+use Rattle.types.proofs.refusal_of.Reads as refusal-of-reads
 use Rattle.season_tables.proofs.put_step.Reads as put-step-reads
 use Rattle.season_tables.proofs.step_refused.Reads as step-refused-reads
 use Rattle.season_tables.proofs.stopped.Reads as stopped-reads

@@ -5,7 +5,7 @@ use native.Mathlib.Omega.{arith}
 use borrow.Author.Needs.{needs}
 use borrow.Author.Tests.{not-true, not-false}
 use lib.ListN.{length}
-use Rattle.landlord.specs.Types.{namesItem}
+use Rattle.types.specs.Types.{namesItem}
 use Rattle.sentence.proofs.Laws.{item-none, item-told, put-none, put-as}
 use Rattle.sentence.proofs.put_item.Statement.{statement}
 use Rattle.sentence.proofs.put_item.Tie as tie

@@ -4,7 +4,7 @@ use mathlib.Core.Bool.{true}
 use borrow.Author.Needs.{needs}
 use borrow.Author.Tests.{not-true, not-false}
 use Rattle.decimal.specs.Decimal.{textOf}
-use Rattle.landlord.specs.Types.{namesItem}
+use Rattle.types.specs.Types.{namesItem}
 use Rattle.sentence.specs.InnerSentences.{endOf, itemBehind}
 use Rattle.sentence.proofs.Readings.{part-is, lent-rest, rest-bare, rest-named}
 use Rattle.sentence.proofs.read_rest.Statement.{statement}

@@ -1,7 +1,7 @@
 -- `cache_value::Cache::step` meets its contract: a step by its numbers, the reply's number as an answer. Assumes nothing.
 use mathlib.Core.Path.{ap, _∙_}
 use borrow.Author.Needs.{needs}
-use Rattle.landlord.specs.Types.{telling}
+use Rattle.types.specs.Types.{telling}
 use Rattle.landlord.specs.Calls.{callOf}
 use Rattle.cache_value.proofs.Answers.{answered, call-number}
 use Rattle.cache_value.proofs.Calls.{called-as}

@@ -3,7 +3,7 @@
 use mathlib.Core.Bool.{Bool, cond, _||_}
 use Prim.Native.Nat.{ℕ}
 use lib.Dec.{leb, eqb}
-use Rattle.landlord.specs.declared.{Step.{Step, the-variants.{Read, Write, Flush}}, Act.{Act, the-variants.{Evict, Fetch}}, Deduction.{Deduction, the-variants.{WriteFirst, LoadFirst}}, Refusal.{Refusal, the-variants.{Malformed, Heading, OutOfRange, OutOfSequence, PlanTooLarge, UnknownItem, ItemTooLarge, LogFull, Closed, ActOutOfOrder, NotHeld, AlreadyHeld, OverCapacity, RequestNotHeld, ShortBuffer, InputTooLong, InvalidState, UnknownRule}}}
+use Rattle.types.specs.declared.{Step.{Step, the-variants.{Read, Write, Flush}}, Act.{Act, the-variants.{Evict, Fetch}}, Deduction.{Deduction, the-variants.{WriteFirst, LoadFirst}}, Refusal.{Refusal, the-variants.{Malformed, Heading, OutOfRange, OutOfSequence, PlanTooLarge, UnknownItem, ItemTooLarge, LogFull, Closed, ActOutOfOrder, NotHeld, AlreadyHeld, OverCapacity, RequestNotHeld, ShortBuffer, InputTooLong, InvalidState, UnknownRule}}}
 
 -- a step's letter, as its code: R is 82, W is 87, L is 76
 abbrev pub stepKind : Step → ℕ

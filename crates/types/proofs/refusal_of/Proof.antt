@@ -1,10 +1,10 @@
--- `landlord::refusal_of` meets its contract: each arm is the row of its number, and the last one is left for 18. Assumes nothing.
+-- `types::refusal_of` meets its contract: each arm is the row of its number, and the last one is left for 18. Assumes nothing.
 use mathlib.Core.Path.{_≡_, sym, ap}
 use Prim.Native.Nat.{ℕ, suc, _≤_}
 use native.Mathlib.Omega.{arith}
-use Rattle.landlord.specs.Types.{telling}
-use Rattle.landlord.proofs.refusal_of.Statement.{statement}
-use Rattle.landlord.proofs.refusal_of.Tie as tie
+use Rattle.types.specs.Types.{telling}
+use Rattle.types.proofs.refusal_of.Statement.{statement}
+use Rattle.types.proofs.refusal_of.Tie as tie
 
 row : {number m : ℕ} (line item : ℕ) → number ≡ m → telling m line item ≡ telling number line item
 row line item e = ap (λ (n : ℕ). telling n line item) (sym e)

@@ -4,10 +4,9 @@ use mathlib.Core.List.{List, [], _∷_}
 use Prim.Native.Nat.{ℕ, _≤_}
 use native.Mathlib.Omega.{arith}
 use lib.ListN.{getD}
-use Rattle.landlord.specs.declared.Refusal.{Refusal}
-use Rattle.landlord.specs.declared.Refusal.the-variants.{Malformed, Heading, OutOfRange, OutOfSequence, PlanTooLarge, UnknownItem, ItemTooLarge, LogFull, Closed, ActOutOfOrder, NotHeld, AlreadyHeld, OverCapacity, RequestNotHeld, ShortBuffer, InputTooLong, InvalidState, UnknownRule}
-use Rattle.landlord.specs.Types.{Told, telling, told, refusalNumber}
-use Rattle.landlord.specs.Plan.{Fault, unknownItem, notHeld, alreadyHeld, requestNotHeld, overCapacity, faultRefusal, faultNumber}
+use Rattle.types.specs.declared.Refusal.{Refusal}
+use Rattle.types.specs.declared.Refusal.the-variants.{Malformed, Heading, OutOfRange, OutOfSequence, PlanTooLarge, UnknownItem, ItemTooLarge, LogFull, Closed, ActOutOfOrder, NotHeld, AlreadyHeld, OverCapacity, RequestNotHeld, ShortBuffer, InputTooLong, InvalidState, UnknownRule}
+use Rattle.types.specs.Types.{Told, telling, told, refusalNumber}
 
 -- the refusals on a line and about an item, in the order of the table
 abbrev refusals : ℕ → ℕ → List Refusal
@@ -66,23 +65,3 @@ refusal-range (UnknownRule l) = omega arith
 -- so it is not 0
 pub refused-some : (r : Refusal) → refusalNumber r ≡ 0 → ⊥
 refused-some r e = omega (arith, refusal-range r .0)
-
--- the item that a fault is about; a plan that holds too much names none
-abbrev pub faultItem : Fault → ℕ
-faultItem (unknownItem s a i) = i
-faultItem (notHeld s a i) = i
-faultItem (alreadyHeld s a i) = i
-faultItem (requestNotHeld s i) = i
-faultItem (overCapacity s) = 0
-
--- a fault of a plan is told by its number and its item, on the line where it is told
-pub fault-tells : (f : Fault) (n : ℕ) → told (faultRefusal f n) ≡ telling (faultNumber f) n (faultItem f)
-fault-tells (unknownItem s a i) n = refl
-fault-tells (notHeld s a i) n = refl
-fault-tells (alreadyHeld s a i) n = refl
-fault-tells (requestNotHeld s i) n = refl
-fault-tells (overCapacity s) n = refl
-
--- so its number is one of the table's
-pub fault-range : (f : Fault) → (1 ≤ faultNumber f) × (faultNumber f ≤ 18)
-fault-range f = refusal-range (faultRefusal f 0)

@@ -1,13 +1,13 @@
--- `landlord::Deduction::split` meets its contract: each rule's own arithmetic. Assumes nothing.
+-- `landlord::split` meets its contract: each rule's own arithmetic. Assumes nothing.
 use mathlib.Core.Path.{_≡_, sym, ap, _∙_}
 use Prim.Native.Nat.{ℕ, _-_, _≤_, _<_, min}
 use native.Mathlib.Omega.{arith}
 use borrow.Author.Needs.{needs}
-use Rattle.landlord.specs.declared.Deduction.{Deduction}
-use Rattle.landlord.specs.declared.Deduction.the-variants.{WriteFirst, LoadFirst}
+use Rattle.types.specs.declared.Deduction.{Deduction}
+use Rattle.types.specs.declared.Deduction.the-variants.{WriteFirst, LoadFirst}
 use Rattle.landlord.specs.Slot.{splitOf}
-use Rattle.landlord.proofs.Deduction.split.Statement.{statement}
-use Rattle.landlord.proofs.Deduction.split.Tie as tie
+use Rattle.landlord.proofs.split.Statement.{statement}
+use Rattle.landlord.proofs.split.Tie as tie
 
 -- the part that the write credit bears, by the rule that it is
 write-bears : (rule : Deduction) (loss load write r : ℕ) → rule ≡ WriteFirst → r ≡ min loss write → (blocks : ℕ) → r ≡ splitOf rule blocks loss load write
@@ -28,22 +28,22 @@ sub-result c = search needs
 returns : tie.Need-returns
 returns c =
     let a = c .before .before .before .args in
-    write-bears (a .self) (a .loss) (a .load) (a .write) _ (c .before .enum-told .given .1) (omega (arith, c .if1 .taken))
+    write-bears (a .rule) (a .loss) (a .load) (a .write) _ (c .before .enum-told .given .1) (omega (arith, c .if1 .taken))
 
 returns-2 : tie.Need-returns-2
 returns-2 c =
     let a = c .before .before .before .args in
-    write-bears (a .self) (a .loss) (a .load) (a .write) _ (c .before .enum-told .given .1) (omega (arith, c .if1 .left))
+    write-bears (a .rule) (a .loss) (a .load) (a .write) _ (c .before .enum-told .given .1) (omega (arith, c .if1 .left))
 
 returns-3 : tie.Need-returns-3
 returns-3 c =
     let a = c .before .before .before .args in
-    load-bears (a .self) (a .loss) (a .load) (a .write) _ (c .before .enum-told2 .given .1) (omega (arith, c .if2 .taken))
+    load-bears (a .rule) (a .loss) (a .load) (a .write) _ (c .before .enum-told2 .given .1) (omega (arith, c .if2 .taken))
 
 returns-4 : tie.Need-returns-4
 returns-4 c =
     let a = c .before .before .before .args in
-    load-bears (a .self) (a .loss) (a .load) (a .write) _ (c .before .enum-told2 .given .1) (omega (arith, c .if2 .left))
+    load-bears (a .rule) (a .loss) (a .load) (a .write) _ (c .before .enum-told2 .given .1) (omega (arith, c .if2 .left))
 
 pub split-spec : {M : Type 1} → statement M
 split-spec = tie.close (tie.spec enum-told enum-told-2 sub-result returns returns-2 returns-3 returns-4)

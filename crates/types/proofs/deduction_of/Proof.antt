@@ -1,11 +1,11 @@
--- `landlord::deduction_of` meets its contract: 0 is write-first. Assumes nothing.
+-- `types::deduction_of` meets its contract: 0 is write-first. Assumes nothing.
 use mathlib.Core.Path.{_≡_, sym, ap}
 use mathlib.Core.Bool.{Bool, cond}
 use borrow.Author.Tests.{eq-eqb, ne-eqb}
-use Rattle.landlord.specs.declared.Deduction.{Deduction}
-use Rattle.landlord.specs.declared.Deduction.the-variants.{WriteFirst, LoadFirst}
-use Rattle.landlord.proofs.deduction_of.Statement.{statement}
-use Rattle.landlord.proofs.deduction_of.Tie as tie
+use Rattle.types.specs.declared.Deduction.{Deduction}
+use Rattle.types.specs.declared.Deduction.the-variants.{WriteFirst, LoadFirst}
+use Rattle.types.proofs.deduction_of.Statement.{statement}
+use Rattle.types.proofs.deduction_of.Tie as tie
 
 abbrev ruleIf : Bool → Deduction
 ruleIf t = cond t WriteFirst LoadFirst

@@ -1,0 +1,282 @@
+// The types that every part of the library shares: a step of the log, an act of a rival plan, a rule of deduction, and a refusal.
+// specs/Types.antt gives the papers' number, letter and values for each of their cases.
+ghost use mathlib.Core.Path.{_≡_};
+ghost use Prim.Native.Nat.{_≤_};
+ghost use Rattle.types.specs.Types.{stepKind, stepItem, stepMinutes, actKind, actItem, deductionNumber, deductionOf, told, telling, refusalNumber, refusalLine, refusalItem};
+
+// A step of the log. Its numbers are as given: nothing here says that they are in range.
+pub enum Step {
+    Read { item: u32 },
+    Write { item: u32, minutes: u32 },
+    // paper 01: a landing
+    Flush,
+}
+
+// An act of a plan, done before a step is served.
+pub enum Act {
+    // paper 01: D, drops a held sail
+    Evict { item: u32 },
+    // paper 01: F, fetches a sail not held
+    Fetch { item: u32 },
+}
+
+// The rule of deduction: which of its two credits an item loses from first. It is chosen at the opening.
+pub enum Deduction {
+    // paper 01's: from the write credit first
+    WriteFirst,
+    // paper 02's: from the load credit first
+    LoadFirst,
+}
+
+// A refusal, one case for each row of paper 01's table, in its order. The payload is the line of the text, counted
+// from 1; it is 0 where a call is refused and no text was read. Some name the item that they are about.
+pub enum Refusal {
+    // 1, torn
+    Malformed { line: u32 },
+    // 2, heading
+    Heading { line: u32 },
+    // 3, off the tape
+    OutOfRange { line: u32 },
+    // 4, miscounted
+    OutOfSequence { line: u32 },
+    // 5, outsized rival
+    PlanTooLarge { line: u32 },
+    // 6, stranger
+    UnknownItem { line: u32, item: u32 },
+    // 7, too bulky
+    ItemTooLarge { line: u32, item: u32 },
+    // 8, log full
+    LogFull { line: u32 },
+    // 9, closed
+    Closed { line: u32 },
+    // 10, out of turn
+    ActOutOfOrder { line: u32 },
+    // 11, not aboard
+    NotHeld { line: u32, item: u32 },
+    // 12, aboard
+    AlreadyHeld { line: u32, item: u32 },
+    // 13, overstowed
+    OverCapacity { line: u32 },
+    // 14, missing
+    RequestNotHeld { line: u32, item: u32 },
+    // 15, short page
+    ShortBuffer { line: u32 },
+    // 16, long roll
+    InputTooLong { line: u32 },
+    // 17, foul locker
+    InvalidState { line: u32 },
+    // 18, odd rule
+    UnknownRule { line: u32 },
+}
+
+impl Step {
+    // The letter that stands for the step in the log, as its code: R, W or L.
+    pub fn kind(self) -> u32
+        ensures { λ r. ⌜ r ≡ stepKind self ⌝ }
+    {
+        match self {
+            Step::Read { item: _ } => 82,
+            Step::Write {
+                item: _,
+                minutes: _,
+            } => 87,
+            Step::Flush => 76,
+        }
+    }
+}
+
+impl Step {
+    // The item that the step names; 0 for a flush, which names none.
+    pub fn item(self) -> u32
+        ensures { λ r. ⌜ r ≡ stepItem self ⌝ }
+    {
+        match self {
+            Step::Read { item } => item,
+            Step::Write { item, minutes: _ } => item,
+            Step::Flush => 0,
+        }
+    }
+
+    // The minutes of a write; 0 for other steps, which have none.
+    pub fn minutes(self) -> u32
+        ensures { λ r. ⌜ r ≡ stepMinutes self ⌝ }
+    {
+        match self {
+            Step::Read { item: _ } => 0,
+            Step::Write { item: _, minutes } => minutes,
+            Step::Flush => 0,
+        }
+    }
+}
+
+impl Act {
+    // The letter that stands for the act in the text, as its code: D or F.
+    pub fn kind(self) -> u32
+        ensures { λ r. ⌜ r ≡ actKind self ⌝ }
+    {
+        match self {
+            Act::Evict { item: _ } => 68,
+            Act::Fetch { item: _ } => 70,
+        }
+    }
+}
+
+impl Act {
+    pub fn item(self) -> u32
+        ensures { λ r. ⌜ r ≡ actItem self ⌝ }
+    {
+        match self {
+            Act::Evict { item } => item,
+            Act::Fetch { item } => item,
+        }
+    }
+}
+
+impl Deduction {
+    // The number by which a call names the rule.
+    pub fn number(self) -> u32
+        ensures { λ r. ⌜ r ≡ deductionNumber self ⌝ }
+    {
+        match self {
+            Deduction::WriteFirst => 0,
+            Deduction::LoadFirst => 1,
+        }
+    }
+}
+
+// The rule of deduction of a number: 0 is write-first. Every other is load-first here; whoever takes a number asks first whether it is a
+// rule's.
+pub fn deduction_of(number: u32) -> Deduction
+    ensures { λ r. ⌜ r ≡ deductionOf number ⌝ }
+{
+    if number == 0 {
+        return Deduction::WriteFirst;
+    }
+    Deduction::LoadFirst
+}
+
+impl Refusal {
+    // The number in paper 01's table.
+    pub fn number(self) -> u32
+        ensures { λ r. ⌜ r ≡ refusalNumber self ⌝ }
+    {
+        match self {
+            Refusal::Malformed { line: _ } => 1,
+            Refusal::Heading { line: _ } => 2,
+            Refusal::OutOfRange { line: _ } => 3,
+            Refusal::OutOfSequence { line: _ } => 4,
+            Refusal::PlanTooLarge { line: _ } => 5,
+            Refusal::UnknownItem { line: _, item: _ } => 6,
+            Refusal::ItemTooLarge { line: _, item: _ } => 7,
+            Refusal::LogFull { line: _ } => 8,
+            Refusal::Closed { line: _ } => 9,
+            Refusal::ActOutOfOrder { line: _ } => 10,
+            Refusal::NotHeld { line: _, item: _ } => 11,
+            Refusal::AlreadyHeld { line: _, item: _ } => 12,
+            Refusal::OverCapacity { line: _ } => 13,
+            Refusal::RequestNotHeld { line: _, item: _ } => 14,
+            Refusal::ShortBuffer { line: _ } => 15,
+            Refusal::InputTooLong { line: _ } => 16,
+            Refusal::InvalidState { line: _ } => 17,
+            Refusal::UnknownRule { line: _ } => 18,
+        }
+    }
+}
+
+impl Refusal {
+    // The line of the text, counted from 1; 0 where no text was read.
+    pub fn line(self) -> u32
+        ensures { λ r. ⌜ r ≡ refusalLine self ⌝ }
+    {
+        match self {
+            Refusal::Malformed { line } => line,
+            Refusal::Heading { line } => line,
+            Refusal::OutOfRange { line } => line,
+            Refusal::OutOfSequence { line } => line,
+            Refusal::PlanTooLarge { line } => line,
+            Refusal::UnknownItem { line, item: _ } => line,
+            Refusal::ItemTooLarge { line, item: _ } => line,
+            Refusal::LogFull { line } => line,
+            Refusal::Closed { line } => line,
+            Refusal::ActOutOfOrder { line } => line,
+            Refusal::NotHeld { line, item: _ } => line,
+            Refusal::AlreadyHeld { line, item: _ } => line,
+            Refusal::OverCapacity { line } => line,
+            Refusal::RequestNotHeld { line, item: _ } => line,
+            Refusal::ShortBuffer { line } => line,
+            Refusal::InputTooLong { line } => line,
+            Refusal::InvalidState { line } => line,
+            Refusal::UnknownRule { line } => line,
+        }
+    }
+}
+
+impl Refusal {
+    // The item that the refusal is about; 0 where it names none.
+    pub fn item(self) -> u32
+        ensures { λ r. ⌜ r ≡ refusalItem self ⌝ }
+    {
+        match self {
+            Refusal::Malformed { line: _ } => 0,
+            Refusal::Heading { line: _ } => 0,
+            Refusal::OutOfRange { line: _ } => 0,
+            Refusal::OutOfSequence { line: _ } => 0,
+            Refusal::PlanTooLarge { line: _ } => 0,
+            Refusal::UnknownItem { line: _, item } => item,
+            Refusal::ItemTooLarge { line: _, item } => item,
+            Refusal::LogFull { line: _ } => 0,
+            Refusal::Closed { line: _ } => 0,
+            Refusal::ActOutOfOrder { line: _ } => 0,
+            Refusal::NotHeld { line: _, item } => item,
+            Refusal::AlreadyHeld { line: _, item } => item,
+            Refusal::OverCapacity { line: _ } => 0,
+            Refusal::RequestNotHeld { line: _, item } => item,
+            Refusal::ShortBuffer { line: _ } => 0,
+            Refusal::InputTooLong { line: _ } => 0,
+            Refusal::InvalidState { line: _ } => 0,
+            Refusal::UnknownRule { line: _ } => 0,
+        }
+    }
+}
+
+// The refusal of a number of the table, told on a line of the text. The item is looked at where the number names one.
+pub fn refusal_of(number: u32, line: u32, item: u32) -> Refusal
+    requires { ⌜ (1 ≤ number) × (number ≤ 18) ⌝ }
+    ensures { λ r. ⌜ told r ≡ telling number line item ⌝ }
+{
+    match number {
+        1 => Refusal::Malformed { line: line },
+        2 => Refusal::Heading { line: line },
+        3 => Refusal::OutOfRange { line: line },
+        4 => Refusal::OutOfSequence { line: line },
+        5 => Refusal::PlanTooLarge { line: line },
+        6 => Refusal::UnknownItem {
+            line: line,
+            item: item,
+        },
+        7 => Refusal::ItemTooLarge {
+            line: line,
+            item: item,
+        },
+        8 => Refusal::LogFull { line: line },
+        9 => Refusal::Closed { line: line },
+        10 => Refusal::ActOutOfOrder { line: line },
+        11 => Refusal::NotHeld {
+            line: line,
+            item: item,
+        },
+        12 => Refusal::AlreadyHeld {
+            line: line,
+            item: item,
+        },
+        13 => Refusal::OverCapacity { line: line },
+        14 => Refusal::RequestNotHeld {
+            line: line,
+            item: item,
+        },
+        15 => Refusal::ShortBuffer { line: line },
+        16 => Refusal::InputTooLong { line: line },
+        17 => Refusal::InvalidState { line: line },
+        _ => Refusal::UnknownRule { line: line },
+    }
+}
