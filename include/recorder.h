@@ -28,7 +28,7 @@
  * always returns. A pointer must be good for the count of bytes that is handed in with it; with a count of 0 it is not used,
  * and may be NULL.
  *
- * STACK. Measured on x86-64 (make bench prints it): at most 191 bytes for recorder_open, 343 for recorder_step, 199 for
+ * STACK. Measured on x86-64 (make bench prints it): at most 191 bytes for recorder_open, 391 for recorder_step, 199 for
  * recorder_close, 471 for recorder_report, 623 for recorder_sentence and 191 for recorder_log, with no recursion, what the C
  * library's memcpy and memset use included. The library works on the lent bytes in place and makes no copy of them.
  */

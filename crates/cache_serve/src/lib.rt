@@ -21,12 +21,32 @@ fn cost(price: u16) -> u64
     price as u64
 }
 
+// The shares a block of a cost of 1, where 1, 2, .. or 16 blocks bear it: 720,720 divided by their number.
+const QUOTIENTS: [u32; 16] = [
+    720720,
+    360360,
+    240240,
+    180180,
+    144144,
+    120120,
+    102960,
+    90090,
+    80080,
+    72072,
+    65520,
+    60060,
+    55440,
+    51480,
+    48048,
+    45045,
+];
+
 // A cost's shares a block, where so many blocks bear it.
 fn shares_per_block(price: u16, blocks: u8) -> u64
     requires { ⌜ (1 ≤ blocks) × (blocks ≤ 16) ⌝ }
     ensures { λ r. ⌜ r ≡ sharesPerBlock price blocks ⌝ }
 {
-    cost(price) * (720720 / (blocks as u64))
+    cost(price) * (QUOTIENTS[blocks as usize - 1] as u64)
 }
 
 // A cost in shares: what a credit is when it is full. 720,720 is a multiple of 1 to 16, so that nothing of it is lost.
