@@ -1,7 +1,7 @@
 // Serving a request, and flushing, in place on the state's bytes: what a step of the rule does once there is room for its item.
 // The small functions store the fields of one item and count what happened to it; specs/InnerStores.antt says which cache the bytes are
 // then. The public ones say where the rule stands after it.
-ghost use Prim.Native.Nat.{_<_, _≤_};
+ghost use Prim.Native.Nat.{_≤_};
 ghost use mathlib.Core.Path.{_≡_};
 ghost use Rattle.types.specs.declared.Step.the-variants.{Flush};
 ghost use Rattle.landlord.specs.Catalog.{full, sharesPerBlock};

@@ -1,7 +1,7 @@
 -- Laws of one slot: the share fact, and what each change of a slot keeps. Assumes nothing.
 use mathlib.Core.Path.{_≡_, refl, ap, _∙_}
 use mathlib.Core.Bool.{true, false, false≢true}
-use Prim.Native.Nat.{ℕ, zero, suc, _+_, _*_, _/_, _≤_, _<_, _∣_, _%_, min}
+use Prim.Native.Nat.{ℕ, zero, suc, _+_, _*_, _/_, _≤_, _∣_, _%_, min}
 use native.Mathlib.Nat.{dvd-zero, dvd-sub, dvd-mul-left-of-dvd, div-mul-cancel, dvd-of-mod-eq-zero, mul-assoc}
 use native.Mathlib.Decide.{decLe}
 use native.Mathlib.Omega.{arith}

@@ -6,7 +6,7 @@ use native.Mathlib.Omega.{arith}
 use lib.ListN.{getD}
 use Rattle.types.specs.declared.Refusal.{Refusal}
 use Rattle.types.specs.declared.Refusal.the-variants.{Malformed, Heading, OutOfRange, OutOfSequence, PlanTooLarge, UnknownItem, ItemTooLarge, LogFull, Closed, ActOutOfOrder, NotHeld, AlreadyHeld, OverCapacity, RequestNotHeld, ShortBuffer, InputTooLong, InvalidState, UnknownRule}
-use Rattle.types.specs.Types.{Told, telling, told, refusalNumber}
+use Rattle.types.specs.Types.{Told, told, refusalNumber}
 
 -- the refusals on a line and about an item, in the order of the table
 abbrev refusals : ℕ → ℕ → List Refusal
