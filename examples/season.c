@@ -25,14 +25,19 @@ static void show(const char *call, uint32_t answer, const uint8_t *state) {
     putchar('\n');
 }
 
+/* A read, a write or a flush; blocks, load and write are an arrival's, and not looked at. */
+static uint32_t step(uint8_t *state, uint32_t kind, uint32_t item, uint32_t minutes) {
+    return recorder_step(state, RECORDER_STATE_BYTES, kind, item, minutes, 0, 0, 0);
+}
+
 int main(void) {
     static uint8_t state[RECORDER_STATE_BYTES];
     show("open", recorder_open(state, sizeof state, 3, RECORDER_WRITE_FIRST, catalog, sizeof catalog), state);
-    show("W 0 90", recorder_step(state, sizeof state, RECORDER_WRITE, 0, 90), state);
-    show("R 1", recorder_step(state, sizeof state, RECORDER_READ, 1, 0), state);
-    show("W 2 45", recorder_step(state, sizeof state, RECORDER_WRITE, 2, 45), state);
-    show("R 0", recorder_step(state, sizeof state, RECORDER_READ, 0, 0), state);
-    show("L", recorder_step(state, sizeof state, RECORDER_FLUSH, 0, 0), state);
+    show("W 0 90", step(state, RECORDER_WRITE, 0, 90), state);
+    show("R 1", step(state, RECORDER_READ, 1, 0), state);
+    show("W 2 45", step(state, RECORDER_WRITE, 2, 45), state);
+    show("R 0", step(state, RECORDER_READ, 0, 0), state);
+    show("L", step(state, RECORDER_FLUSH, 0, 0), state);
     show("close", recorder_close(state, sizeof state), state);
 
     static uint8_t page[RECORDER_REPORT_BYTES];

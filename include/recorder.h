@@ -28,8 +28,8 @@
  * always returns. A pointer must be good for the count of bytes that is handed in with it; with a count of 0 it is not used,
  * and may be NULL.
  *
- * STACK. Measured on x86-64 (make bench prints it): at most 191 bytes for recorder_open, 391 for recorder_step, 199 for
- * recorder_close, 471 for recorder_report, 623 for recorder_sentence and 191 for recorder_log, with no recursion, what the C
+ * STACK. Measured on x86-64 (make bench prints it): at most 191 bytes for recorder_open, 423 for recorder_step, 199 for
+ * recorder_close, 471 for recorder_report, 623 for recorder_sentence and 207 for recorder_log, with no recursion, what the C
  * library's memcpy and memset use included. The library works on the lent bytes in place and makes no copy of them.
  */
 #ifndef RECORDER_H
@@ -44,7 +44,7 @@ extern "C" {
 #endif
 
 /* The bytes of a state; a state of any other length is RECORDER_INVALID_STATE. */
-#define RECORDER_STATE_BYTES 8796
+#define RECORDER_STATE_BYTES 8836
 
 /*
  * The number of the layout, at the head of every state. It rises with every change of the layout, so that a state stored by
@@ -52,7 +52,7 @@ extern "C" {
  * another number, close the open season and report it with the old one; or keep the steps, and replay them after an
  * opening with the new one.
  */
-#define RECORDER_FORMAT 3
+#define RECORDER_FORMAT 4
 
 /* The bytes of the longest report there can be, here or in the office: a page of this size is never too short. */
 #define RECORDER_REPORT_BYTES 7931
@@ -75,12 +75,14 @@ extern "C" {
 
 /* The limits of the arguments. */
 #define RECORDER_MAX_K 4096         /* capacity, in blocks: 1 to 4,096 */
-#define RECORDER_MAX_ITEMS 256      /* items of a catalog: 0 to 256, numbered from 0 */
+#define RECORDER_MAX_ITEMS 256      /* items of a catalog: 0 to 256, numbered from 0, with those that arrive */
 #define RECORDER_ITEM_BYTES 5       /* bytes of an item in a catalog */
 #define RECORDER_MAX_BLOCKS 16      /* blocks of an item: 1 to 16 */
 #define RECORDER_MAX_MINUTES 1440   /* minutes of a write: 0 to 1,440 */
+#define RECORDER_MAX_COST 65535     /* load cost and write cost of an item: 0 to 65,535 */
 #define RECORDER_MAX_STEPS 1000000  /* steps of a log */
-#define RECORDER_STEP_BYTES 12      /* bytes of a step in a list of steps */
+#define RECORDER_STEP_NUMBERS 6     /* numbers of a step in a list of steps */
+#define RECORDER_STEP_BYTES 24      /* bytes of a step in a list of steps */
 
 /* One unit of cost in credit units (the scope's 'shares'): the least common multiple of 1 to 16. */
 #define RECORDER_UNIT 720720
@@ -88,8 +90,8 @@ extern "C" {
 /* What a call answers. The numbers and the words in quotes are those of the table of refusals. */
 enum recorder_answer {
     RECORDER_TAKEN = 0,
-    RECORDER_OUT_OF_RANGE = 3,   /* 'off the tape': k, the catalog, a kind, an item number or minutes out of range; a list
-                                    of steps that is not whole; or the number of no refusal */
+    RECORDER_OUT_OF_RANGE = 3,   /* 'off the tape': k, the catalog, a kind, an item number, minutes or an arrival's values out of
+                                    range; a list of steps that is not whole; the number of no heading, or of no refusal */
     RECORDER_UNKNOWN_ITEM = 6,   /* 'stranger': the item is not in the catalog */
     RECORDER_ITEM_TOO_LARGE = 7, /* 'too bulky': the item has more than k blocks */
     RECORDER_LOG_FULL = 8,       /* 'log full': 1,000,000 steps are already taken */
@@ -97,14 +99,24 @@ enum recorder_answer {
     RECORDER_SHORT_PAGE = 15,    /* 'short page': the page is shorter than the report, the sentence or the log's text; or this
                                     has over 65,536 bytes */
     RECORDER_INVALID_STATE = 17, /* 'foul locker': a state of the wrong length, of another layout, or damaged */
-    RECORDER_UNKNOWN_RULE = 18   /* 'odd rule': the rule of deduction is neither 0 nor 1 */
+    RECORDER_UNKNOWN_RULE = 18,  /* 'odd rule': the rule of deduction is neither 0 nor 1 */
+    RECORDER_NOT_NEXT_NUMBER = 19, /* 'misnumbered': an arrival that does not carry the next unused number */
+    RECORDER_RETIRED_ITEM = 20   /* 'gone': the item has left */
 };
 
 /* The kinds of a step: the letters of the text log. */
 enum recorder_kind {
     RECORDER_READ = 82,  /* 'R' */
     RECORDER_WRITE = 87, /* 'W' */
-    RECORDER_FLUSH = 76  /* 'L', a landing: each dirty item is written back and stays, clean */
+    RECORDER_FLUSH = 76, /* 'L', a landing: each dirty item is written back and stays, clean */
+    RECORDER_ARRIVE = 65, /* 'A': the catalog grows by an item, which is not held */
+    RECORDER_RETIRE = 81 /* 'Q': an item leaves; if it is held it is dropped, and written back first if it is dirty */
+};
+
+/* The headings of a log, by which recorder_log is told what its lines have. */
+enum recorder_heading {
+    RECORDER_THREE_NAMES = 0, /* step sail minutes: R, W and L alone */
+    RECORDER_SIX_NAMES = 1    /* step sail minutes blocks load write: every kind */
 };
 
 /*
@@ -130,21 +142,30 @@ enum recorder_kind {
 uint32_t recorder_open(uint8_t *state, size_t state_len, uint32_t k, uint32_t rule, const uint8_t *catalog, size_t catalog_len);
 
 /*
- * Takes one step of the log: a read of an item, a write of an item that took some minutes, or a flush.
- * A read looks at kind and item; a write at kind, item and minutes; a flush at kind alone. The rest may be any numbers.
+ * Takes one step of the log: a read of an item, a write of an item that took some minutes, a flush, the arrival of an item with its
+ * blocks, load cost and write cost, or the retirement of an item.
+ * A read and a retirement look at kind and item; a write at kind, item and minutes; a flush at kind alone; an arrival at kind, item,
+ * blocks, load and write. The rest may be any numbers.
+ *
+ * An arrival carries the next unused number: the count of items in the state (RECORDER_AT_N). An item of more than k blocks may arrive
+ * and leave, but not be read or written. An item that has left keeps its number and its line in the report. A retirement of a held
+ * item counts as an eviction; no other item loses credit by it.
  *
  * Answers, the first that holds:
  *     17  the state is invalid
  *      9  the cache is closed
  *      8  1,000,000 steps are already taken
- *      3  kind is none of 82, 87 and 76; or the item of a read or write is above 255; or a write's minutes are above 1,440
- *      6  the item of a read or write is not in the catalog
+ *      3  kind is none of the five; or the item is above 255, but for a flush; or a write's minutes are above 1,440; or an
+ *         arrival's blocks are not 1 to 16, or its load or write cost is above 65,535
+ *     19  the item of an arrival is not the next unused number
+ *      6  the item of a read, write or retirement is not in the catalog
+ *     20  the item of a read, write or retirement has left
  *      7  the item of a read or write has more than k blocks
  *      0  taken: the step is done and counted
  *
  * A step may evict items to make room; see below for how to learn which.
  */
-uint32_t recorder_step(uint8_t *state, size_t state_len, uint32_t kind, uint32_t item, uint32_t minutes);
+uint32_t recorder_step(uint8_t *state, size_t state_len, uint32_t kind, uint32_t item, uint32_t minutes, uint32_t blocks, uint32_t load, uint32_t write);
 
 /*
  * Closes the log: each dirty item is written back, as by a flush, which is no step. A closed cache takes no more calls
@@ -161,7 +182,7 @@ uint32_t recorder_close(uint8_t *state, size_t state_len);
  * Writes the report of a state, open or closed, at the start of the page, as text without a zero byte behind it, and its
  * length in bytes to *length. Bytes of the page past the text keep their contents. The state is only read.
  *
- * The report has a line of names and a line for each item of the catalog (its number, tenths of an hour, loads,
+ * The report has a line of names and a line for each item of the catalog, those that have left too (its number, tenths of an hour, loads,
  * writebacks), a blank line, and a line of names and one of numbers for the totals. Numbers are decimal, split by single
  * spaces; each line ends with a line feed:
  *
@@ -216,35 +237,38 @@ uint32_t recorder_sentence(uint32_t number, uint32_t line, uint32_t item, uint8_
  * of the page, without a zero byte behind it, and its length in bytes to *length. Bytes of the page past the text keep their
  * contents. The steps are only read. No state is needed, and none keeps the steps: the caller does.
  *
- * The list has RECORDER_STEP_BYTES bytes a step, in the order of the log:
- *     bytes 0 to 3   kind, low byte first: 82, 87 or 76, as for recorder_step
- *     bytes 4 to 7   item, low byte first
- *     bytes 8 to 11  minutes, low byte first
- * On this machine an array of uint32_t, three a step, is such bytes: hand it in as (const uint8_t *)array, with its size in
- * bytes. The list may stand at any alignment. As for recorder_step, a read's minutes and a flush's item and minutes may be any
- * numbers. Neither a catalog nor k is known here, so 6 and 7 never fall due: list the steps that recorder_step has taken.
+ * The heading is RECORDER_THREE_NAMES or RECORDER_SIX_NAMES. Arrivals and retirements need the six names; a season without them has a
+ * shorter text under the three.
  *
- * The text has a line of names and a line for each step, its kind, item and minutes, with `-` for what it lacks. Numbers are
- * decimal, split by single spaces; each line ends with a line feed:
+ * The list has RECORDER_STEP_BYTES bytes a step under both headings, in the order of the log: kind, item, minutes, blocks, load and
+ * write, four bytes each, low byte first, as for recorder_step. On this machine an array of uint32_t, RECORDER_STEP_NUMBERS a step,
+ * is such bytes: hand it in as (const uint8_t *)array, with its size in bytes. The list may stand at any alignment. As for
+ * recorder_step, numbers that a step lacks may be any. Neither a catalog nor k is known here, so 6, 7, 19 and 20 never fall due: list
+ * the steps that recorder_step has taken.
  *
- *     step sail minutes
- *     W 0 90
- *     R 1 -
- *     L - -
+ * The text has a line of names and a line for each step, its kind, item and minutes, and under the six names its blocks, load and
+ * write, with `-` for what it lacks. Numbers are decimal, split by single spaces; each line ends with a line feed:
  *
- * A list in range has one text, and the office reads the same steps back from it. A line has 6 to 11 bytes, so 5,956 steps
- * always have a text, and more than 10,919 never have one. The office's text has no more bytes either, with its other three
- * tables; leave room for them (docs/GUIDE.md, 'The log that the box writes').
+ *     step sail minutes        step sail minutes blocks load write
+ *     W 0 90                   A 3 - 1 7 8
+ *     R 1 -                    W 3 90 - - -
+ *     L - -                    Q 3 - - - -
+ *
+ * A heading and a list in range under it have one text, and the office reads the same heading and steps back from it. Under the three
+ * names a line has 6 to 11 bytes, so 5,956 steps always have a text, and more than 10,919 never have one; under the six a line has 12
+ * to 23 bytes, so 2,847 steps always have one, and more than 5,458 never. The office's text has no more bytes either, with its other
+ * three tables; leave room for them (docs/GUIDE.md, 'The log that the box writes').
  *
  * Answers a number and a line, as RECORDER_LOG_NUMBER and RECORDER_LOG_LINE take them from the answer. The first that holds:
- *      3  a step is out of range: its kind is none of 82, 87 and 76; or it is a read or write of an item above 255; or a write
- *         of more than 1,440 minutes. Or the list is not whole: behind its last whole step there are 1 to 11 bytes more. The
- *         line is that of the first such step, which is 2 for the first of the list; one above 4,294,967,295 is told as that
+ *      3  the heading is neither 0 nor 1: line 1. Or a step is out of range: its kind is none of the five, or is an arrival or a
+ *         retirement under the three names; or a number that it has is out of its range, as for recorder_step. Or the list is not
+ *         whole: behind its last whole step there are 1 to 23 bytes more. The line is that of the first such step, which is 2 for the
+ *         first of the list; one above 4,294,967,295 is told as that
  *     15  the page is shorter than the text, or the text has over RECORDER_LOG_BYTES bytes; line 0
  *      0  written; line 0
  * Refused, every byte of the page and *length are as before. `length` must point to a size_t, always.
  */
-uint64_t recorder_log(const uint8_t *steps, size_t steps_len, uint8_t *page, size_t page_len, size_t *length);
+uint64_t recorder_log(uint32_t heading, const uint8_t *steps, size_t steps_len, uint8_t *page, size_t page_len, size_t *length);
 
 /* The two halves of what recorder_log answers: the number, 0, 3 or 15, and the line of a 3, else 0. */
 #define RECORDER_LOG_NUMBER(answer) ((uint32_t)(answer))
@@ -264,7 +288,7 @@ enum recorder_place {
     RECORDER_AT_K = 4,                 /* u32 */
     RECORDER_AT_N = 8,                 /* u16: items in the catalog */
     RECORDER_AT_CLOSED = 10,           /* u16: 0 open, 1 closed */
-    RECORDER_AT_STEPS = 12,            /* u32: reads, writes and flushes; the close is none */
+    RECORDER_AT_STEPS = 12,            /* u32: steps of every kind; the close is none */
     RECORDER_AT_HITS = 16,             /* u32 */
     RECORDER_AT_LOADS = 20,            /* u32: misses */
     RECORDER_AT_EVICTIONS = 24,        /* u32 ('drops') */
@@ -283,16 +307,20 @@ enum recorder_place {
     RECORDER_AT_WRITE = 7768,          /* run of u16: write costs of the catalog */
     RECORDER_AT_BLOCKS = 8280,         /* run of u8: blocks of the catalog */
     RECORDER_AT_HELD = 8536,           /* run of u8: 1 held, 0 not */
-    RECORDER_AT_RULE = 8792            /* u32: RECORDER_WRITE_FIRST or RECORDER_LOAD_FIRST */
+    RECORDER_AT_RULE = 8792,           /* u32: RECORDER_WRITE_FIRST or RECORDER_LOAD_FIRST */
+    RECORDER_AT_LEFT = 8796,           /* four u64: 256 marks of the items that have left, as of the dirty ones */
+    RECORDER_AT_ARRIVALS = 8828,       /* u32 */
+    RECORDER_AT_RETIREMENTS = 8832     /* u32: as many as items have left */
 };
 
 /*
- * Whether an item is held (in working memory), and whether it is dirty (held, and to be written back). False for a
- * state of the wrong length and for an item number above 255; of a valid state, false past the catalog.
+ * Whether an item is held (in working memory), whether it is dirty (held, and to be written back), and whether it has left (its
+ * retirement was taken; it is not held, and no step may name it again). False for a state of the wrong length and for an item
+ * number above 255; of a valid state, false past the catalog.
  *
- * Which items left, came in or were written back is seen by comparing these marks before and after a call, so keep the
+ * Which items were evicted, came in or were written back is seen by comparing these marks before and after a call, so keep the
  * marks (or the whole state) from before it. After a call that was taken:
- *     held before, not held now        evicted; it was written back first if it was dirty before
+ *     held before, not held now        evicted, or retired by the step; it was written back first if it was dirty before
  *     not held before, held now        loaded (at most one, the item of the step)
  *     dirty before, held and clean now written back by the flush or the close
  * After a call that was refused no mark has changed.
@@ -307,6 +335,12 @@ static inline bool recorder_is_dirty(const uint8_t *state, size_t state_len, uin
     /* Low byte first: bit i % 64 of word i / 64 is bit i % 8 of byte i / 8. */
     return state_len == RECORDER_STATE_BYTES && item < RECORDER_MAX_ITEMS
         && ((state[RECORDER_AT_DIRTY + item / 8] >> (item % 8)) & 1) == 1;
+}
+
+static inline bool recorder_is_left(const uint8_t *state, size_t state_len, uint32_t item)
+{
+    return state_len == RECORDER_STATE_BYTES && item < RECORDER_MAX_ITEMS
+        && ((state[RECORDER_AT_LEFT + item / 8] >> (item % 8)) & 1) == 1;
 }
 
 #ifdef __cplusplus

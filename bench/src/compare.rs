@@ -2,7 +2,10 @@
 //! states, and on valid states that no log leads to.
 
 use bench::calls::{LIBRARY, PLAIN};
-use bench::plain::{self, FLUSH, LOAD_FIRST, MAX_STEPS, READ, STATE_BYTES, WRITE, WRITE_FIRST, at};
+use bench::plain::{
+    self, ARRIVE, FLUSH, LOAD_FIRST, MAX_STEPS, Numbers, READ, RETIRE, STATE_BYTES, WRITE,
+    WRITE_FIRST, at, of_three,
+};
 use bench::random::{Random, catalog, odd_rule, some_k, some_n, some_rule};
 use bench::states;
 
@@ -16,7 +19,7 @@ struct Pair {
 /// How often each number was answered.
 #[derive(Default)]
 pub struct Tally {
-    pub answers: [u64; 19],
+    pub answers: [u64; 21],
 }
 
 impl Pair {
@@ -72,18 +75,21 @@ impl Pair {
         self.both(tally, &what, &before, answers)
     }
 
-    fn step(&mut self, tally: &mut Tally, [kind, item, minutes]: [u32; 3]) -> u32 {
+    fn step(&mut self, tally: &mut Tally, numbers: Numbers) -> u32 {
         let before = self.plain.clone();
         let answers = [
-            (LIBRARY.step)(&mut self.library, kind, item, minutes),
-            (PLAIN.step)(&mut self.plain, kind, item, minutes),
+            (LIBRARY.step)(&mut self.library, numbers),
+            (PLAIN.step)(&mut self.plain, numbers),
         ];
-        self.both(
-            tally,
-            &format!("step {kind} {item} {minutes}"),
-            &before,
-            answers,
-        )
+        self.both(tally, &format!("step {numbers:?}"), &before, answers)
+    }
+
+    /// How many items the catalog has now.
+    fn count(&self) -> usize {
+        usize::from(u16::from_le_bytes([
+            self.plain[at::N],
+            self.plain[at::N + 1],
+        ]))
     }
 
     fn close(&mut self, tally: &mut Tally) -> u32 {
@@ -96,14 +102,29 @@ impl Pair {
     }
 }
 
-/// The arguments of a step: mostly good ones, over the first `n` items.
-fn arguments(r: &mut Random, n: usize) -> [u32; 3] {
+/// The arguments of a step: mostly good ones, over the first `n` items; at times one arrives or leaves.
+fn arguments(r: &mut Random, n: usize) -> Numbers {
     if r.one_in(25) {
-        let any = [0, 5, 76, 82, 87, 255, 256, 1440, 1441, u32::MAX];
-        return [r.pick(&any), r.pick(&any), r.pick(&any)];
+        let any = [0, 5, 65, 76, 81, 82, 87, 255, 256, 1440, 1441, u32::MAX];
+        return [0; 6].map(|_| r.pick(&any));
+    }
+    if r.one_in(20) {
+        let next = (n as u32).saturating_add(r.pick(&[0, 0, 0, 0, 1, u32::MAX]));
+        let blocks = r.pick(&[1, 2, 4, 16, 0, 17]);
+        let costs = [0, 1, 9, 65_535, 65_536];
+        return [
+            ARRIVE,
+            next,
+            r.next() as u32,
+            blocks,
+            r.pick(&costs),
+            r.pick(&costs),
+        ];
     }
     let kind = if r.one_in(12) {
         FLUSH
+    } else if r.one_in(25) {
+        RETIRE
     } else {
         r.pick(&[READ, WRITE])
     };
@@ -117,7 +138,7 @@ fn arguments(r: &mut Random, n: usize) -> [u32; 3] {
     } else {
         r.below(1441) as u32
     };
-    [kind, item, minutes]
+    of_three([kind, item, minutes])
 }
 
 /// Changes some bytes: any, or a number by little.
@@ -128,6 +149,7 @@ fn damage(r: &mut Random, s: &mut Pair) {
         let any = r.below(STATE_BYTES as u64) as usize;
         let head = r.below(at::LOAD_CREDIT as u64) as usize;
         let rule = at::RULE + r.below(4) as usize;
+        let behind = at::LEFT + r.below((STATE_BYTES - at::LEFT) as u64) as usize;
         let place = r.pick(&[
             any,
             head,
@@ -141,6 +163,7 @@ fn damage(r: &mut Random, s: &mut Pair) {
             at::BLOCKS + i,
             at::HELD + i,
             rule,
+            behind,
         ]);
         let old = s.plain[place];
         let bit = 1 << r.below(8);
@@ -165,6 +188,7 @@ fn random_log(r: &mut Random, tally: &mut Tally) {
     let mut pair = Pair::of(vec![r.next() as u8; STATE_BYTES]);
     assert_eq!(pair.open(tally, k, some_rule(r), &catalog), 0);
     for _ in 0..150 {
+        let n = pair.count();
         pair.step(tally, arguments(r, n));
         if r.one_in(4) {
             let mut other = pair.clone();
@@ -201,7 +225,7 @@ fn random_opening(r: &mut Random, tally: &mut Tally) {
         _ => some_rule(r),
     };
     pair.open(tally, k, rule, &bytes);
-    pair.step(tally, [READ, 0, 0]);
+    pair.step(tally, of_three([READ, 0, 0]));
     pair.close(tally);
 }
 
@@ -215,6 +239,7 @@ fn from_valid(r: &mut Random, tally: &mut Tally) {
     );
     let mut pair = start.clone();
     for _ in 0..20 {
+        let n = pair.count();
         pair.step(tally, arguments(r, n));
     }
     pair.close(tally);
@@ -257,10 +282,12 @@ fn longest_log(r: &mut Random, tally: &mut Tally, rule: u32) {
         } else {
             r.pick(&[READ, WRITE])
         };
-        assert_eq!(pair.step(tally, [kind, r.below(4) as u32, 1440]), 0);
+        let numbers = of_three([kind, r.below(4) as u32, 1440]);
+        assert_eq!(pair.step(tally, numbers), 0);
     }
-    assert_eq!(pair.step(tally, [READ, 0, 0]), plain::LOG_FULL);
-    assert_eq!(pair.step(tally, [0, 0, 0]), plain::LOG_FULL);
+    for numbers in [[READ, 0, 0], [0, 0, 0], [ARRIVE, 4, 0], [RETIRE, 0, 0]] {
+        assert_eq!(pair.step(tally, of_three(numbers)), plain::LOG_FULL);
+    }
     assert_eq!(pair.close(tally), 0);
     assert_eq!(pair.close(tally), plain::CLOSED);
 }

@@ -4,7 +4,7 @@
 
 use std::fmt::{self, Write};
 
-pub const STATE_BYTES: usize = 8_796;
+pub const STATE_BYTES: usize = 8_836;
 /// One unit of cost in shares: the least common multiple of 1 to 16.
 pub const UNIT: u64 = 720_720;
 pub const MAX_STEPS: u32 = 1_000_000;
@@ -19,17 +19,29 @@ pub const CLOSED: u32 = 9; // closed
 pub const SHORT_PAGE: u32 = 15; // short page
 pub const INVALID_STATE: u32 = 17; // foul locker
 pub const UNKNOWN_RULE: u32 = 18; // odd rule
+pub const NOT_NEXT_NUMBER: u32 = 19; // misnumbered
+pub const RETIRED_ITEM: u32 = 20; // gone
 
 pub const READ: u32 = b'R' as u32;
 pub const WRITE: u32 = b'W' as u32;
 pub const FLUSH: u32 = b'L' as u32; // landing
+pub const ARRIVE: u32 = b'A' as u32;
+pub const RETIRE: u32 = b'Q' as u32;
+
+/// A step's numbers: kind, item, minutes, blocks, load and write.
+pub type Numbers = [u32; 6];
+
+/// A step by its first three; the others are an arrival's.
+pub fn of_three([kind, item, minutes]: [u32; 3]) -> Numbers {
+    [kind, item, minutes, 0, 0, 0]
+}
 
 // The rules of deduction: from which of its credits an item loses first when another is evicted.
 pub const WRITE_FIRST: u32 = 0;
 pub const LOAD_FIRST: u32 = 1;
 
 /// The number of the layout, which stands at the head of the bytes.
-pub const FORMAT: u32 = 3;
+pub const FORMAT: u32 = 4;
 
 /// Where each field stands.
 pub mod at {
@@ -57,6 +69,9 @@ pub mod at {
     pub const BLOCKS: usize = 8280;
     pub const HELD: usize = 8536;
     pub const RULE: usize = 8792;
+    pub const LEFT: usize = 8796;
+    pub const ARRIVALS: usize = 8828;
+    pub const RETIREMENTS: usize = 8832;
 }
 
 type Bytes = [u8; STATE_BYTES];
@@ -121,13 +136,21 @@ fn set_write_credit(s: &mut Bytes, i: usize, credit: u64) {
     run_mut::<{ at::WRITE_CREDIT }, 8>(s)[i] = credit.to_le_bytes();
 }
 
-/// The four words of dirty marks.
-fn dirty_words(s: &Bytes) -> [u64; 4] {
-    [0, 1, 2, 3].map(|w| get64(s, at::DIRTY + 8 * w))
+/// The four words of the marks at a place: of the dirty items, or of those that have left.
+fn words(s: &Bytes, at: usize) -> [u64; 4] {
+    [0, 1, 2, 3].map(|w| get64(s, at + 8 * w))
 }
 
-fn is_dirty(s: &Bytes, i: usize) -> bool {
-    s[at::DIRTY + i / 8] >> (i % 8) & 1 == 1
+fn count_set(words: [u64; 4]) -> u32 {
+    words.iter().map(|word| word.count_ones()).sum()
+}
+
+fn is_marked(s: &Bytes, at: usize, i: usize) -> bool {
+    s[at + i / 8] >> (i % 8) & 1 == 1
+}
+
+fn mark(s: &mut Bytes, at: usize, i: usize) {
+    s[at + i / 8] |= 1 << (i % 8);
 }
 
 /// Whether every byte of the places from `n` on is 0.
@@ -159,18 +182,31 @@ fn used_if_valid(s: &Bytes) -> Option<u32> {
         return None;
     }
 
-    let [hits, loads, flushes, evictions, dirty_evictions, writebacks] = [
+    let [
+        hits,
+        loads,
+        flushes,
+        evictions,
+        dirty_evictions,
+        writebacks,
+        arrivals,
+        retirements,
+    ] = [
         at::HITS,
         at::LOADS,
         at::FLUSHES,
         at::EVICTIONS,
         at::DIRTY_EVICTIONS,
         at::WRITEBACKS,
+        at::ARRIVALS,
+        at::RETIREMENTS,
     ]
     .map(|at| u64::from(get32(s, at)));
-    let dirty = dirty_words(s);
-    let dirty_count: u32 = dirty.iter().map(|word| word.count_ones()).sum();
-    if hits + loads + flushes != u64::from(steps)
+    let dirty = words(s, at::DIRTY);
+    let left = words(s, at::LEFT);
+    let dirty_count = count_set(dirty);
+    if hits + loads + flushes + arrivals + retirements != u64::from(steps)
+        || retirements != u64::from(count_set(left))
         || dirty_evictions > evictions
         || dirty_evictions > writebacks
         || writebacks + u64::from(dirty_count) > u64::from(steps)
@@ -204,7 +240,9 @@ fn used_if_valid(s: &Bytes) -> Option<u32> {
     let mut used = 0;
     let mut held = 0;
     let mut held_words = [0u64; 4];
+    let mut known_words = [0u64; 4];
     for i in 0..n {
+        known_words[i / 64] |= 1 << (i % 64);
         let it = item(s, i);
         if !(1..=16).contains(&it.blocks) {
             return None;
@@ -230,7 +268,9 @@ fn used_if_valid(s: &Bytes) -> Option<u32> {
         held_words[i / 64] |= 1 << (i % 64);
     }
     let held_only = dirty.iter().zip(held_words).all(|(d, h)| d & !h == 0);
-    (held_only && used <= k && evictions + held == loads).then_some(used)
+    let none_held = left.iter().zip(held_words).all(|(l, h)| l & h == 0);
+    let known_only = left.iter().zip(known_words).all(|(l, k)| l & !k == 0);
+    (held_only && none_held && known_only && used <= k && evictions + held == loads).then_some(used)
 }
 
 /// Item `i` is written back: it pays its write cost, is clean, and has no write credit.
@@ -246,7 +286,7 @@ fn write_back(s: &mut Bytes, i: usize) {
 
 /// Every dirty item is written back.
 fn flush(s: &mut Bytes) {
-    for (w, mut word) in dirty_words(s).into_iter().enumerate() {
+    for (w, mut word) in words(s, at::DIRTY).into_iter().enumerate() {
         while word != 0 {
             write_back(s, 64 * w + word.trailing_zeros() as usize);
             word &= word - 1;
@@ -283,13 +323,48 @@ fn evict(s: &mut Bytes, n: usize) -> u32 {
             set_load_credit(s, i, it.load_credit - (loss - from_write));
         }
     }
-    add32(s, at::EVICTIONS, 1);
-    if is_dirty(s, victim) {
-        add32(s, at::DIRTY_EVICTIONS, 1);
-        write_back(s, victim);
-    }
-    s[at::HELD + victim] = 0;
+    drop_item(s, victim);
     u32::from(s[at::BLOCKS + victim])
+}
+
+/// Drops a held item: a dirty one pays, and it has no credits then. The others are not charged.
+fn drop_item(s: &mut Bytes, i: usize) {
+    add32(s, at::EVICTIONS, 1);
+    if is_marked(s, at::DIRTY, i) {
+        add32(s, at::DIRTY_EVICTIONS, 1);
+        write_back(s, i);
+    }
+    set_load_credit(s, i, 0);
+    s[at::HELD + i] = 0;
+}
+
+/// An item arrives at the next number.
+fn arrive(s: &mut Bytes, n: usize, [blocks, load, write]: [u32; 3]) {
+    s[at::BLOCKS + n] = blocks as u8;
+    run_mut::<{ at::LOAD }, 2>(s)[n] = (load as u16).to_le_bytes();
+    run_mut::<{ at::WRITE }, 2>(s)[n] = (write as u16).to_le_bytes();
+    s[at::N..at::N + 2].copy_from_slice(&(n as u16 + 1).to_le_bytes());
+    add32(s, at::ARRIVALS, 1);
+}
+
+/// An item leaves: dropped if it is held, and marked.
+fn retire(s: &mut Bytes, i: usize) {
+    if s[at::HELD + i] == 1 {
+        drop_item(s, i);
+    }
+    mark(s, at::LEFT, i);
+    add32(s, at::RETIREMENTS, 1);
+}
+
+/// Whether a step's kind is one, and its values are in range.
+fn in_range([kind, item, minutes, blocks, load, write]: Numbers) -> bool {
+    match kind {
+        READ | RETIRE => item <= 255,
+        WRITE => item <= 255 && minutes <= 1440,
+        FLUSH => true,
+        ARRIVE => item <= 255 && (1..=16).contains(&blocks) && load <= 65_535 && write <= 65_535,
+        _ => false,
+    }
 }
 
 /// Opens a cache of `k` blocks, with a rule of deduction, for a catalog of 5 bytes an item.
@@ -322,7 +397,8 @@ pub fn open(state: &mut [u8], k: u32, rule: u32, catalog: &[u8]) -> u32 {
 }
 
 /// Takes one step.
-pub fn step(state: &mut [u8], kind: u32, number: u32, minutes: u32) -> u32 {
+pub fn step(state: &mut [u8], numbers: Numbers) -> u32 {
+    let [kind, number, minutes, values @ ..] = numbers;
     let Ok(s): Result<&mut Bytes, _> = state.try_into() else {
         return INVALID_STATE;
     };
@@ -335,13 +411,7 @@ pub fn step(state: &mut [u8], kind: u32, number: u32, minutes: u32) -> u32 {
     if get32(s, at::STEPS) >= MAX_STEPS {
         return LOG_FULL;
     }
-    let in_range = match kind {
-        READ => number <= 255,
-        WRITE => number <= 255 && minutes <= 1440,
-        FLUSH => true,
-        _ => false,
-    };
-    if !in_range {
+    if !in_range(numbers) {
         return OUT_OF_RANGE;
     }
     if kind == FLUSH {
@@ -354,8 +424,24 @@ pub fn step(state: &mut [u8], kind: u32, number: u32, minutes: u32) -> u32 {
     let k = get32(s, at::K);
     let n = get16(s, at::N) as usize;
     let i = number as usize;
+    if kind == ARRIVE {
+        if i != n {
+            return NOT_NEXT_NUMBER;
+        }
+        arrive(s, n, values);
+        add32(s, at::STEPS, 1);
+        return TAKEN;
+    }
     if i >= n {
         return UNKNOWN_ITEM;
+    }
+    if is_marked(s, at::LEFT, i) {
+        return RETIRED_ITEM;
+    }
+    if kind == RETIRE {
+        retire(s, i);
+        add32(s, at::STEPS, 1);
+        return TAKEN;
     }
     let it = item(s, i);
     if u32::from(it.blocks) > k {
@@ -376,7 +462,7 @@ pub fn step(state: &mut [u8], kind: u32, number: u32, minutes: u32) -> u32 {
     add32(s, at::STEPS, 1);
     set_load_credit(s, i, u64::from(it.load) * UNIT);
     if kind == WRITE {
-        s[at::DIRTY + i / 8] |= 1 << (i % 8);
+        mark(s, at::DIRTY, i);
         set_write_credit(s, i, u64::from(it.write) * UNIT);
         let sofar = &mut run_mut::<{ at::MINUTES }, 4>(s)[i];
         *sofar = (u32::from_le_bytes(*sofar) + minutes).to_le_bytes();

@@ -5,7 +5,9 @@ use std::hint::black_box;
 use std::thread;
 
 use bench::calls::{self, LIBRARY};
-use bench::plain::{FLUSH, LOAD_FIRST, READ, STATE_BYTES, WRITE, WRITE_FIRST};
+use bench::plain::{
+    ARRIVE, FLUSH, LOAD_FIRST, READ, RETIRE, STATE_BYTES, WRITE, WRITE_FIRST, of_three,
+};
 
 /// How far down is painted, in a thread whose stack is larger; and how far the frame of the painter itself may reach.
 const DEPTH: usize = 256 * 1024;
@@ -41,8 +43,8 @@ fn taken_by(call: &mut dyn FnMut()) -> usize {
 }
 
 /// The most that each call takes, over a few states: a catalog of 3 and one of 256 items, the latter by both rules, little and much
-/// held, clean and dirty; and the sentence of each number that has one, with the longest line and item; and a log with a step of each
-/// kind, on a page and on none.
+/// held, clean and dirty, and with items that arrive and leave; and the sentence of each number that has one, with the longest line and
+/// item; and a log with a step of each kind, on a page and on none.
 fn most() -> [usize; 6] {
     let [
         mut open,
@@ -64,7 +66,7 @@ fn most() -> [usize; 6] {
         for kind in [WRITE, READ, WRITE, FLUSH] {
             for i in 0..n {
                 step = step.max(taken_by(&mut || {
-                    assert_eq!((LIBRARY.step)(&mut state, kind, i, 60), 0);
+                    assert_eq!((LIBRARY.step)(&mut state, of_three([kind, i, 60])), 0);
                 }));
             }
             report = report.max(taken_by(&mut || {
@@ -76,6 +78,19 @@ fn most() -> [usize; 6] {
             }));
         }
     }
+    let mut state = vec![0; STATE_BYTES];
+    assert_eq!((LIBRARY.open)(&mut state, 1, WRITE_FIRST, &[]), 0);
+    for i in 0..256 {
+        for numbers in [
+            [ARRIVE, i, 0, 1, 9, 7],
+            of_three([WRITE, i, 60]),
+            of_three([RETIRE, i, 0]),
+        ] {
+            step = step.max(taken_by(&mut || {
+                assert_eq!((LIBRARY.step)(&mut state, numbers), 0);
+            }));
+        }
+    }
     for number in (1..=27).filter(|&number| number != 23) {
         let mut page = vec![0; 64];
         sentence = sentence.max(taken_by(&mut || {
@@ -83,16 +98,22 @@ fn most() -> [usize; 6] {
             assert_eq!(answer, 0);
         }));
     }
-    let steps = [[READ, 255, 0], [WRITE, 255, 1440], [FLUSH, 0, 0]];
+    let steps = [
+        of_three([READ, 255, 0]),
+        of_three([WRITE, 255, 1440]),
+        of_three([FLUSH, 0, 0]),
+        [ARRIVE, 255, 0, 16, 65_535, 65_535],
+        of_three([RETIRE, 255, 0]),
+    ];
     let list: Vec<u8> = steps
         .as_flattened()
         .iter()
         .flat_map(|number| number.to_le_bytes())
         .collect();
-    for (page_len, expected) in [(64, 0), (0, 15)] {
+    for (page_len, expected) in [(128, 0), (0, 15)] {
         let mut page = vec![0; page_len];
         log = log.max(taken_by(&mut || {
-            assert_eq!(calls::log(&list, &mut page, &mut 0), expected);
+            assert_eq!(calls::log(1, &list, &mut page, &mut 0), expected);
         }));
     }
     [open, step, close, report, sentence, log]

@@ -32,45 +32,64 @@ fn credit(r: &mut Random, blocks: u8, cost: [u8; 2]) -> u64 {
     r.pick(&[0, most, any, any]) * u64::from(blocks)
 }
 
-/// Puts some items into an empty cache of `k` blocks. Answers how many are held, and how many of these are dirty.
-fn fill(r: &mut Random, s: &mut [u8], k: u32, catalog: &[u8], closed: bool) -> (u32, u32) {
-    let (mut used, mut held, mut dirty) = (0, 0, 0);
+/// How many items are held, how many of these are dirty, and how many have left.
+#[derive(Default)]
+struct Marked {
+    held: u32,
+    dirty: u32,
+    left: u32,
+}
+
+/// Puts some items into an empty cache of `k` blocks, and has some others leave.
+fn fill(r: &mut Random, s: &mut [u8], k: u32, catalog: &[u8], closed: bool) -> Marked {
+    let mut used = 0;
+    let mut marked = Marked::default();
+    let leaves = r.pick(&[2, 10, 1000]);
     for (i, &[blocks, load_low, load_high, write_low, write_high]) in
         catalog.as_chunks().0.iter().enumerate()
     {
+        if r.one_in(leaves) {
+            marked.left += 1;
+            s[at::LEFT + i / 8] |= 1 << (i % 8);
+            continue;
+        }
         if used + u32::from(blocks) > k || r.one_in(4) {
             continue;
         }
         used += u32::from(blocks);
-        held += 1;
+        marked.held += 1;
         s[at::HELD + i] = 1;
         let load_credit = credit(r, blocks, [load_low, load_high]);
         put64(s, at::LOAD_CREDIT + 8 * i, load_credit);
         if !closed && r.one_in(2) {
-            dirty += 1;
+            marked.dirty += 1;
             s[at::DIRTY + i / 8] |= 1 << (i % 8);
             let write_credit = credit(r, blocks, [write_low, write_high]);
             put64(s, at::WRITE_CREDIT + 8 * i, write_credit);
         }
     }
-    (held, dirty)
+    marked
 }
 
-/// Figures that go with so many items held and dirty.
-fn count(r: &mut Random, s: &mut [u8], n: usize, held: u32, dirty: u32) {
+/// Figures that go with so many items held, dirty and gone.
+fn count(r: &mut Random, s: &mut [u8], n: usize, Marked { held, dirty, left }: Marked) {
     let some = if n == 0 { 0 } else { u32::MAX };
     let evictions = some & r.pick(&[0, 1, 5, 1000, 300_000]);
     let writebacks = some & r.pick(&[0, 1, 5, 1000, 300_000]);
     let loads = held + evictions;
     let dirty_evictions = r.below(u64::from(evictions.min(writebacks)) + 1) as u32;
-    let least = loads.max(writebacks + dirty);
+    let least = (loads + left).max(writebacks + dirty);
     let steps = r.pick(&[least, least + 1, MAX_STEPS - 1, MAX_STEPS]);
-    let hits = r.below(u64::from(steps - loads) + 1) as u32;
+    let rest = u64::from(steps - loads - left);
+    let hits = r.below(rest + 1) as u32;
+    let flushes = r.below(rest - u64::from(hits) + 1) as u32;
     for (at, count) in [
         (at::STEPS, steps),
         (at::HITS, hits),
         (at::LOADS, loads),
-        (at::FLUSHES, steps - loads - hits),
+        (at::FLUSHES, flushes),
+        (at::ARRIVALS, steps - loads - left - hits - flushes),
+        (at::RETIREMENTS, left),
         (at::EVICTIONS, evictions),
         (at::DIRTY_EVICTIONS, dirty_evictions),
         (at::WRITEBACKS, writebacks),
@@ -97,7 +116,7 @@ pub fn valid(r: &mut Random, n: usize) -> Vec<u8> {
     assert_eq!(plain::open(&mut s, k, some_rule(r), &catalog), 0);
     let closed = r.one_in(20);
     s[at::CLOSED] = u8::from(closed);
-    let (held, dirty) = fill(r, &mut s, k, &catalog, closed);
-    count(r, &mut s, n, held, dirty);
+    let marked = fill(r, &mut s, k, &catalog, closed);
+    count(r, &mut s, n, marked);
     s
 }

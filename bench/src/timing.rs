@@ -1,10 +1,14 @@
-//! ns per step: hits, misses under both rules of deduction, and steps that are refused once the state has been tested.
+//! ns per step: hits, misses under both rules of deduction, arrivals and departures in turn, and steps that are refused once the state
+//! has been tested.
 
 use std::hint::black_box;
 use std::time::Instant;
 
 use bench::calls::{Calls, LIBRARY, PLAIN};
-use bench::plain::{self, LOAD_FIRST, OUT_OF_RANGE, READ, STATE_BYTES, WRITE, WRITE_FIRST, at};
+use bench::plain::{
+    self, ARRIVE, LOAD_FIRST, Numbers, OUT_OF_RANGE, READ, RETIRE, STATE_BYTES, WRITE, WRITE_FIRST,
+    at, of_three,
+};
 use bench::random::Random;
 
 const STEPS: usize = 1_000;
@@ -13,7 +17,7 @@ const ROUNDS: usize = 100;
 /// A state to start from and steps to take, each answered by `answer`.
 struct Log {
     start: Vec<u8>,
-    steps: Vec<[u32; 3]>,
+    steps: Vec<Numbers>,
     answer: u32,
     evictions: u32,
 }
@@ -23,6 +27,17 @@ enum Kind {
     Hit,
     Miss,
     Refused,
+    Change,
+}
+
+impl Kind {
+    /// Of how many items a log is measured. Where items arrive, the catalogue must have room for them.
+    fn sizes(self) -> [u32; 3] {
+        match self {
+            Kind::Change => [3, 30, 200],
+            _ => [3, 30, 256],
+        }
+    }
 }
 
 fn get32(s: &[u8], at: usize) -> u32 {
@@ -30,7 +45,8 @@ fn get32(s: &[u8], at: usize) -> u32 {
 }
 
 /// `n` items of 1 to 4 blocks, under a rule of deduction. For hits the cache has room for all and holds them; for misses it has room for half, is
-/// full, and each step asks for an item that is not held. Half of the steps are writes.
+/// full, and each step asks for an item that is not held. Half of the steps are writes. Where items change, each number up to 255 arrives
+/// in turn, and the lowest of those that have not left leaves: some are held, and dirty.
 fn log(kind: Kind, rule: u32, n: u32) -> Log {
     let r = &mut Random(u64::from(n));
     let mut catalog = Vec::new();
@@ -50,11 +66,26 @@ fn log(kind: Kind, rule: u32, n: u32) -> Log {
     let mut state = vec![0; STATE_BYTES];
     assert_eq!(plain::open(&mut state, k, rule, &catalog), 0);
     for i in 0..n {
-        assert_eq!(plain::step(&mut state, WRITE, i, 60), 0);
+        assert_eq!(plain::step(&mut state, of_three([WRITE, i, 60])), 0);
     }
     let start = state.clone();
     let mut steps = Vec::new();
     let mut answer = 0;
+    if matches!(kind, Kind::Change) {
+        for i in n..256 {
+            steps.push([ARRIVE, i, 0, 1 + i % 4, 9, 7]);
+            steps.push(of_three([RETIRE, i - n, 0]));
+        }
+        for &step in &steps {
+            assert_eq!(plain::step(&mut state, step), 0);
+        }
+        return Log {
+            evictions: get32(&state, at::EVICTIONS) - get32(&start, at::EVICTIONS),
+            start,
+            steps,
+            answer,
+        };
+    }
     for _ in 0..STEPS {
         let wanted = matches!(kind, Kind::Miss);
         let item = loop {
@@ -64,10 +95,10 @@ fn log(kind: Kind, rule: u32, n: u32) -> Log {
             }
         };
         let step = match kind {
-            Kind::Refused => [0, item, 0],
-            _ => [r.pick(&[READ, WRITE]), item, r.below(1441) as u32],
+            Kind::Refused => of_three([0, item, 0]),
+            _ => of_three([r.pick(&[READ, WRITE]), item, r.below(1441) as u32]),
         };
-        answer = plain::step(&mut state, step[0], step[1], step[2]);
+        answer = plain::step(&mut state, step);
         steps.push(step);
     }
     let moved = |at| get32(&state, at) - get32(&start, at);
@@ -75,7 +106,7 @@ fn log(kind: Kind, rule: u32, n: u32) -> Log {
     match kind {
         Kind::Hit => assert_eq!((hits, answer), (STEPS as u32, 0)),
         Kind::Miss => assert_eq!((loads, answer), (STEPS as u32, 0)),
-        Kind::Refused => assert_eq!((hits + loads, answer), (0, OUT_OF_RANGE)),
+        _ => assert_eq!((hits + loads, answer), (0, OUT_OF_RANGE)),
     }
     Log {
         evictions: moved(at::EVICTIONS),
@@ -90,18 +121,19 @@ fn run(calls: Calls, log: &Log, state: &mut Vec<u8>) -> f64 {
     state.clone_from(&log.start);
     let step = black_box(calls).step;
     let begun = Instant::now();
-    for &[kind, item, minutes] in &log.steps {
-        assert_eq!(step(state, kind, item, minutes), log.answer);
+    for &numbers in &log.steps {
+        assert_eq!(step(state, numbers), log.answer);
     }
     begun.elapsed().as_nanos() as f64 / log.steps.len() as f64
 }
 
 /// Only a miss looks at the rule, so that the others are measured under the first alone.
-const KINDS: [(&str, Kind, u32); 4] = [
+const KINDS: [(&str, Kind, u32); 5] = [
     ("hit", Kind::Hit, WRITE_FIRST),
     ("miss", Kind::Miss, WRITE_FIRST),
     ("miss-load-first", Kind::Miss, LOAD_FIRST),
     ("refused", Kind::Refused, WRITE_FIRST),
+    ("change", Kind::Change, WRITE_FIRST),
 ];
 
 /// Takes the steps of one log, once. What is outside the calls of step is not to be counted.
@@ -109,24 +141,25 @@ pub fn take(kind: &str, n: u32, which: &str) {
     let (_, kind, rule) = KINDS
         .into_iter()
         .find(|(name, _, _)| *name == kind)
-        .expect("hit, miss, miss-load-first or refused");
+        .expect("hit, miss, miss-load-first, refused or change");
     let calls = match which {
         "library" => LIBRARY,
         "plain" => PLAIN,
         _ => panic!("library or plain"),
     };
-    run(calls, &log(kind, rule, n), &mut Vec::new());
-    println!("{STEPS}");
+    let log = log(kind, rule, n);
+    run(calls, &log, &mut Vec::new());
+    println!("{}", log.steps.len());
 }
 
 pub fn table() {
     println!(
-        "ns per step: the least of {ROUNDS} rounds of {STEPS} steps, library and plain Rust in turn"
+        "ns per step: the least of {ROUNDS} rounds of {STEPS} steps, fewer where items change, library and plain Rust in turn"
     );
     println!("step             items  evictions a step  library ns  plain Rust ns  ratio");
     let mut state = Vec::new();
     for (name, kind, rule) in KINDS {
-        for n in [3, 30, 256] {
+        for n in kind.sizes() {
             let log = log(kind, rule, n);
             let (mut library, mut plain) = (f64::MAX, f64::MAX);
             for _ in 0..ROUNDS {

@@ -11,7 +11,7 @@
 #include <stddef.h>
 #include <stdint.h>
 
-#define CARD_RECORDS 5
+#define CARD_RECORDS 6
 
 /* An item's record (the paper's sail record). Of its contents only this matters here: which step wrote it last, 0 for none. */
 struct card_record {

@@ -1,6 +1,6 @@
 /*
- * The recorder's main loop, in small: a season of a few steps with a card that fails, a state that is damaged, and a night
- * without power. It prints what it does; examples/firmware/run compares that with expected.txt. At the end it writes the season's
+ * The recorder's main loop, in small: a season of a few steps with a card that fails, a state that is damaged, a night
+ * without power, a sail that is delivered and one that is scrapped. It prints what it does; examples/firmware/run compares that with expected.txt. At the end it writes the season's
  * log for the office, and with a file's name as argument into that file.
  *
  * THE ORDER OF A STEP. (1) Keep a copy of the state. (2) Make the call. (3) Compare the marks of both states. (4) Write back
@@ -47,11 +47,11 @@ static const uint8_t catalog[] = {
 
 /*
  * The log. On the boat each step is put on the card as it comes in, before it is taken, so that it can be taken again.
- * Step 1 is the first; the one behind the last stands for the close.
+ * Step 1 is the first; the one behind the last stands for the close. A step has six numbers; those that it lacks are left 0.
  */
-static const struct {
-    uint32_t kind, item, minutes;
-} steps[] = {
+enum number { KIND, NUMBER, MINUTES, BLOCKS, LOAD, WRITE };
+
+static const uint32_t steps[][RECORDER_STEP_NUMBERS] = {
     { RECORDER_WRITE, 0, 90 },
     { RECORDER_READ, 1, 0 },
     { RECORDER_WRITE, 2, 45 },
@@ -67,11 +67,14 @@ static const struct {
     { RECORDER_WRITE, 1, 20 },
     { RECORDER_READ, 0, 0 },
     { RECORDER_WRITE, 2, 5 },
+    { RECORDER_ARRIVE, 5, 0, 1, 8, 2 }, /* a delivery: one block, load cost 8, write cost 2 */
+    { RECORDER_WRITE, 5, 30 },
+    { RECORDER_RETIRE, 5 }, /* and a scrapping: its record goes to the card a last time */
 };
 
-enum { ITEMS = sizeof catalog / RECORDER_ITEM_BYTES, CLOSE = sizeof steps / sizeof *steps + 1 };
+enum { LISTED = sizeof catalog / RECORDER_ITEM_BYTES, ITEMS = LISTED + 1, CLOSE = sizeof steps / sizeof *steps + 1 };
 
-_Static_assert(ITEMS == CARD_RECORDS, "the card has a record for each item");
+_Static_assert(ITEMS == CARD_RECORDS, "the card has a record for each item of the catalogue and for each that arrives");
 
 /* The faults of the demonstration, each before the step is tried for the first time. */
 static const struct fault {
@@ -89,13 +92,13 @@ static const struct fault {
 static uint8_t state[RECORDER_STATE_BYTES], before[RECORDER_STATE_BYTES];
 
 /*
- * The steps that were taken, three numbers each, which are the bytes that recorder_log wants. They stand on the card as the log
+ * The steps that were taken, six numbers each, which are the bytes that recorder_log wants. They stand on the card as the log
  * does. How many there are says the state's own count, and a step is put at its place before the state is stored: broken off and
  * taken again it comes to the same place, and a step that was not stored is past the count.
  */
-static uint32_t taken[CLOSE - 1][3];
+static uint32_t taken[CLOSE - 1][RECORDER_STEP_NUMBERS];
 
-_Static_assert(sizeof *taken == RECORDER_STEP_BYTES, "a step of the list is three numbers");
+_Static_assert(sizeof *taken == RECORDER_STEP_BYTES, "a step of the list is six numbers");
 
 /*
  * Working memory, with a place for each item, so that a fetch never lands on a record that was evicted in the same step and
@@ -119,7 +122,7 @@ struct moves {
 enum outcome { DONE, REFUSED, DAMAGED, CARD_FAILED };
 enum end { CLOSED, POWERED_OFF, GAVE_UP };
 
-/* The marks before and after a call tell which items left, which of them were dirty, and which came in. */
+/* The marks before and after a call tell which items were evicted or retired, which of them were dirty, and which came in. */
 static struct moves compare(void)
 {
     struct moves m;
@@ -162,17 +165,18 @@ static uint32_t call(uint32_t step)
 {
     if (step == CLOSE)
         return recorder_close(state, sizeof state);
-    return recorder_step(state, sizeof state, steps[step - 1].kind, steps[step - 1].item, steps[step - 1].minutes);
+    const uint32_t *n = steps[step - 1];
+    return recorder_step(state, sizeof state, n[KIND], n[NUMBER], n[MINUTES], n[BLOCKS], n[LOAD], n[WRITE]);
 }
 
 static void say_call(uint32_t step)
 {
     if (step == CLOSE)
         printf("close");
-    else if (steps[step - 1].kind == RECORDER_FLUSH)
+    else if (steps[step - 1][KIND] == RECORDER_FLUSH)
         printf("step %u: L", step);
     else
-        printf("step %u: %c %u", step, (int)steps[step - 1].kind, steps[step - 1].item);
+        printf("step %u: %c %u", step, (int)steps[step - 1][KIND], steps[step - 1][NUMBER]);
 }
 
 /*
@@ -193,7 +197,7 @@ static void say_refusal(uint32_t answer, uint32_t line, uint32_t item)
 static uint32_t last_write(uint32_t item, uint32_t step)
 {
     while (--step > 0)
-        if (steps[step - 1].kind == RECORDER_WRITE && steps[step - 1].item == item)
+        if (steps[step - 1][KIND] == RECORDER_WRITE && steps[step - 1][NUMBER] == item)
             return step;
     return 0;
 }
@@ -204,12 +208,12 @@ static uint32_t last_write(uint32_t item, uint32_t step)
  */
 static void serve_boat(uint32_t step)
 {
-    if (step == CLOSE || steps[step - 1].kind == RECORDER_FLUSH)
+    if (step == CLOSE)
         return;
-    uint32_t item = steps[step - 1].item;
-    if (steps[step - 1].kind == RECORDER_WRITE)
+    uint32_t item = steps[step - 1][NUMBER];
+    if (steps[step - 1][KIND] == RECORDER_WRITE)
         memory[item].written_by = step;
-    else if (memory[item].written_by != last_write(item, step))
+    else if (steps[step - 1][KIND] == RECORDER_READ && memory[item].written_by != last_write(item, step))
         tally.wrong_records++;
 }
 
@@ -226,10 +230,7 @@ static void keep(uint32_t step)
 {
     if (step == CLOSE)
         return;
-    uint32_t *place = taken[steps_taken() - 1];
-    place[0] = steps[step - 1].kind;
-    place[1] = steps[step - 1].item;
-    place[2] = steps[step - 1].minutes;
+    memcpy(taken[steps_taken() - 1], steps[step - 1], sizeof *taken);
 }
 
 /* (4), (5) and (6) of the order above. */
@@ -254,7 +255,7 @@ static enum outcome take(uint32_t step)
     uint32_t answer = call(step);
     say_call(step);
     if (answer != RECORDER_TAKEN) {
-        say_refusal(answer, 0, step == CLOSE ? 0 : steps[step - 1].item);
+        say_refusal(answer, 0, step == CLOSE ? 0 : steps[step - 1][NUMBER]);
         return answer == RECORDER_INVALID_STATE ? DAMAGED : REFUSED;
     }
     struct moves m = compare();
@@ -415,14 +416,14 @@ static bool finish(void)
 }
 
 /*
- * The season's log for the office, which puts it between its other tables. What a page of RECORDER_LOG_BYTES bytes does not hold
+ * The season's log for the office, which puts it between its other tables. A sail arrived and left, so it has the six names. What a page of RECORDER_LOG_BYTES bytes does not hold
  * has no text at all; a box that may sail so long closes its season before.
  */
 static bool hand_over(const char *name)
 {
     static uint8_t page[RECORDER_LOG_BYTES];
     size_t length = 0;
-    uint64_t answer = recorder_log((const uint8_t *)taken, steps_taken() * sizeof *taken, page, sizeof page, &length);
+    uint64_t answer = recorder_log(RECORDER_SIX_NAMES, (const uint8_t *)taken, steps_taken() * sizeof *taken, page, sizeof page, &length);
     if (answer != RECORDER_TAKEN) {
         printf("the log is refused");
         say_refusal(RECORDER_LOG_NUMBER(answer), RECORDER_LOG_LINE(answer), 0);

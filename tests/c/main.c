@@ -1,6 +1,6 @@
 /*
- * The exported calls from C: the worked example, every refusal, damaged states, both rules of deduction, the marks of 256 items, reports,
- * sentences, logs. It prints short lines that tests/c/run compares with expected.txt.
+ * The exported calls from C: the worked example, every refusal, damaged states, both rules of deduction, the marks of 256 items, items
+ * that arrive and leave, reports, sentences, logs. It prints short lines that tests/c/run compares with expected.txt.
  *
  * Every call on a state is made twice on copies of it: at an odd address between guard bytes, and in a heap block of exactly
  * the state's length, so that valgrind sees a byte read or written outside it. Both must give the same answer and bytes. A log is
@@ -18,12 +18,15 @@
 
 enum { OPEN, STEP, CLOSE };
 
+/* A step's numbers: kind, item, minutes, blocks, load, write. */
+typedef uint32_t numbers[RECORDER_STEP_NUMBERS];
+
 struct call {
     int what;
     uint32_t k, rule;
     const uint8_t *catalog;
     size_t catalog_len;
-    uint32_t kind, item, minutes;
+    numbers step;
 };
 
 /* A state, with a byte more for the test of a length that is one too long. */
@@ -45,7 +48,7 @@ static uint32_t make(uint8_t *bytes, size_t len, const struct call *c, const uin
     if (c->what == OPEN)
         return recorder_open(bytes, len, c->k, c->rule, catalog, c->catalog_len);
     if (c->what == STEP)
-        return recorder_step(bytes, len, c->kind, c->item, c->minutes);
+        return recorder_step(bytes, len, c->step[0], c->step[1], c->step[2], c->step[3], c->step[4], c->step[5]);
     return recorder_close(bytes, len);
 }
 
@@ -103,10 +106,22 @@ static uint32_t open_with(struct state *s, uint32_t k, const uint8_t *catalog, s
     return open_by(s, RECORDER_WRITE_FIRST, k, catalog, catalog_len);
 }
 
+static uint32_t step_by(struct state *s, const numbers n)
+{
+    struct call c = { .what = STEP };
+    memcpy(c.step, n, sizeof c.step);
+    return lend(s, BYTES, &c);
+}
+
+/* A read, a write, a flush or a retirement; an arrival's values are not looked at, and are wild. */
 static uint32_t step(struct state *s, uint32_t kind, uint32_t item, uint32_t minutes)
 {
-    struct call c = { .what = STEP, .kind = kind, .item = item, .minutes = minutes };
-    return lend(s, BYTES, &c);
+    return step_by(s, (const numbers) { kind, item, minutes, 17, 65536, 4294967295u });
+}
+
+static uint32_t arrive(struct state *s, uint32_t item, uint32_t blocks, uint32_t load, uint32_t write)
+{
+    return step_by(s, (const numbers) { RECORDER_ARRIVE, item, 4294967295u, blocks, load, write });
 }
 
 static uint32_t close_it(struct state *s)
@@ -134,6 +149,8 @@ static uint64_t get64(const struct state *s, size_t at) { return get(s, at, 8); 
 
 static bool held(const struct state *s, uint32_t item) { return recorder_is_held(s->bytes, BYTES, item); }
 static bool dirty(const struct state *s, uint32_t item) { return recorder_is_dirty(s->bytes, BYTES, item); }
+static bool left(const struct state *s, uint32_t item) { return recorder_is_left(s->bytes, BYTES, item); }
+static bool gone_or_held(const struct state *s, uint32_t item) { return left(s, item) != held(s, item); }
 
 static void print_figures(const struct state *s)
 {
@@ -157,7 +174,7 @@ static void print_marks(const struct state *before, const struct state *s)
         else if (dirty(s, i))
             fault("an item that is not held is dirty");
         else if (held(before, i))
-            printf("  item %u left\n", i);
+            printf("  item %u dropped\n", i);
 }
 
 static void say(const char *what, uint32_t answer)
@@ -393,12 +410,12 @@ static void arguments(void)
         printf("W 0 %u: %u, minutes %u more\n", minutes[i], answer, get32(&s, RECORDER_AT_MINUTES) - before);
     }
 
-    static const size_t lengths[] = { 0, 1, BYTES - 4, BYTES - 1, BYTES + 1 };
+    static const size_t lengths[] = { 0, 1, 8796, BYTES - 4, BYTES - 1, BYTES + 1 };
     for (size_t i = 0; i < sizeof lengths / sizeof *lengths; i++) {
-        struct call c = { .what = STEP, .kind = RECORDER_READ };
+        struct call c = { .what = STEP, .step = { RECORDER_READ } };
         busy(&s);
         printf("length %zu: step %u", lengths[i], lend(&s, lengths[i], &c));
-        c.kind = 0;
+        c.step[0] = 0;
         printf(", step out of range %u", lend(&s, lengths[i], &c));
         c.what = CLOSE;
         printf(", close %u\n", lend(&s, lengths[i], &c));
@@ -423,9 +440,9 @@ static void damaged(const struct damage *d, struct state *s)
 static const struct damage broken[] = {
     { "no number of a layout", busy, { { 0, 1, 0 } } },
     { "the number of the first layout", busy, { { 0, 1, 1 } } },
-    { "the number of the layout before", busy, { { 0, 1, 2 } } },
-    { "the number of the next layout", busy, { { 0, 1, 4 } } },
-    { "the number of a layout 2^24 + 3", busy, { { 3, 1, 1 } } },
+    { "the number of the layout before", busy, { { 0, 1, 3 } } },
+    { "the number of the next layout", busy, { { 0, 1, 5 } } },
+    { "the number of a layout 2^24 + 4", busy, { { 3, 1, 1 } } },
     { "rule 2", busy, { { 8792, 1, 2 } } },
     { "rule 255", busy, { { 8792, 1, 255 } } },
     { "rule 256", busy, { { 8793, 1, 1 } } },
@@ -512,6 +529,16 @@ static const struct damage broken[] = {
     { "minutes above 1,440 a step", busy, { { 4185, 1, 40 } } },
     { "minutes just above", busy, { { 4184, 4, 10081 } } },
     { "minutes just above, last of 256 items", wide, { { 5204, 1, 1 } } },
+    { "left, held", busy, { { 8796, 1, 1 }, { 8832, 1, 1 }, { 16, 1, 1 } } },
+    { "left, held and dirty", busy, { { 8796, 1, 8 }, { 8832, 1, 1 }, { 16, 1, 1 } } },
+    { "left past the catalog", busy, { { 8796, 1, 0x40 }, { 8832, 1, 1 }, { 16, 1, 1 } } },
+    { "left in the last place", busy, { { 8827, 1, 0x80 }, { 8832, 1, 1 }, { 16, 1, 1 } } },
+    { "left, and no retirement", busy, { { 8796, 1, 0x10 } } },
+    { "a retirement, and none left", busy, { { 8832, 1, 1 }, { 16, 1, 1 } } },
+    { "two retirements, and one left", busy, { { 8796, 1, 0x10 }, { 8832, 1, 2 }, { 16, 1, 0 } } },
+    { "a retirement no step", busy, { { 8796, 1, 0x10 }, { 8832, 1, 1 } } },
+    { "an arrival no step", busy, { { 8828, 1, 1 } } },
+    { "hits + arrivals beyond 2^32", busy, { { 16, 4, 0xFFFFFFFF }, { 8828, 4, 3 } } },
     { "closed and dirty", busy, { { 10, 1, 1 } } },
     { "closed, a hit too many (17 before 9)", closed_full, { { 16, 1, 0x3C } } },
 };
@@ -538,6 +565,8 @@ static const struct damage sound[] = {
     { "writecost 65,535 a writeback", busy, { { 48, 8, 131070 } } },
     { "costs 0", busy, { { 40, 8, 0 }, { 48, 8, 0 } } },
     { "minutes 1,440 a step", busy, { { 4184, 4, 10080 } } },
+    { "an item that has left", busy, { { 8796, 1, 0x10 }, { 8832, 1, 1 }, { 16, 1, 1 } } },
+    { "arrivals for hits, more than items", busy, { { 8828, 1, 2 }, { 16, 1, 0 } } },
 };
 
 static void states(void)
@@ -597,11 +626,98 @@ static void marks(void)
 
     memset(&s, 0xFF, sizeof s);
     memset(s.bytes + RECORDER_AT_HELD, 1, 256);
-    printf("item 255: %d %d, item 256: %d %d, item 4294967295: %d %d\n", held(&s, 255), dirty(&s, 255), held(&s, 256),
-           dirty(&s, 256), held(&s, 4294967295u), dirty(&s, 4294967295u));
-    printf("length 8795: %d %d, length 8797: %d %d, no state: %d %d\n", recorder_is_held(s.bytes, BYTES - 1, 0),
-           recorder_is_dirty(s.bytes, BYTES - 1, 0), recorder_is_held(s.bytes, BYTES + 1, 0),
-           recorder_is_dirty(s.bytes, BYTES + 1, 0), recorder_is_held(NULL, 0, 0), recorder_is_dirty(NULL, 0, 0));
+    printf("item 255: %d %d %d, item 256: %d %d %d, item 4294967295: %d %d %d\n", held(&s, 255), dirty(&s, 255), left(&s, 255),
+           held(&s, 256), dirty(&s, 256), left(&s, 256), held(&s, 4294967295u), dirty(&s, 4294967295u), left(&s, 4294967295u));
+    printf("length 8835: %d %d %d, length 8837: %d %d %d, no state: %d %d %d\n", recorder_is_held(s.bytes, BYTES - 1, 0),
+           recorder_is_dirty(s.bytes, BYTES - 1, 0), recorder_is_left(s.bytes, BYTES - 1, 0), recorder_is_held(s.bytes, BYTES + 1, 0),
+           recorder_is_dirty(s.bytes, BYTES + 1, 0), recorder_is_left(s.bytes, BYTES + 1, 0), recorder_is_held(NULL, 0, 0),
+           recorder_is_dirty(NULL, 0, 0), recorder_is_left(NULL, 0, 0));
+}
+
+static void report(const char *what, const struct state *s, size_t state_len, size_t page_len);
+
+/* 256 items arrive in an empty catalog, and leave one after the other; each is seen by its mark. */
+static void turnover(void)
+{
+    puts("256 items arrive and leave");
+    struct state s;
+    unsigned n = 0;
+    memset(&s, 0xA5, sizeof s);
+    say("open 4096", open_with(&s, 4096, NULL, 0));
+    for (uint32_t i = 0; i < 256; i++) {
+        if (arrive(&s, i, 1 + i % 16, i, 255 - i) != 0 || step(&s, RECORDER_WRITE, i, 6) != 0)
+            fault("an arrival or its write was refused");
+        n += astray(&s, held, i + 1) + astray(&s, left, 0) + (get32(&s, RECORDER_AT_N) % 65536 != i + 1);
+    }
+    say("A 255", arrive(&s, 255, 1, 1, 1));
+    say("A 256", arrive(&s, 256, 1, 1, 1));
+    print_figures(&s);
+    for (uint32_t i = 0; i < 256; i++) {
+        if (step(&s, RECORDER_RETIRE, i, 6) != 0)
+            fault("a retirement was refused");
+        n += astray(&s, left, i + 1) + astray(&s, gone_or_held, 256) + (get32(&s, RECORDER_AT_RETIREMENTS) != i + 1);
+    }
+    say("A 0", arrive(&s, 0, 1, 1, 1));
+    say("R 255", step(&s, RECORDER_READ, 255, 0));
+    print_figures(&s);
+    for (size_t w = 0; w < 4; w++)
+        printf("  word %zu %016llx\n", w, (unsigned long long)get64(&s, RECORDER_AT_LEFT + 8 * w));
+    say("close", close_it(&s));
+    printf("marks astray: %u\n", n);
+}
+
+/* The busy state: a delivery, a scrapping of an item held clean, of one held dirty, of one not held and of one too bulky; and what is refused. */
+static void changes(void)
+{
+    static const struct { const char *name; numbers step; } rows[] = {
+        { "R 6 before its arrival", { RECORDER_READ, 6 } },
+        { "Q 6 before its arrival", { RECORDER_RETIRE, 6 } },
+        { "A 5 (the last number)", { RECORDER_ARRIVE, 5, 0, 1, 1, 1 } },
+        { "A 7 (one too far)", { RECORDER_ARRIVE, 7, 0, 1, 1, 1 } },
+        { "A 256 (3 before 19)", { RECORDER_ARRIVE, 256, 0, 1, 1, 1 } },
+        { "A 7, no blocks (3 before 19)", { RECORDER_ARRIVE, 7, 0, 0, 1, 1 } },
+        { "A 6, 17 blocks", { RECORDER_ARRIVE, 6, 0, 17, 1, 1 } },
+        { "A 6, 257 blocks", { RECORDER_ARRIVE, 6, 0, 257, 1, 1 } },
+        { "A 6, load 65536", { RECORDER_ARRIVE, 6, 0, 1, 65536, 1 } },
+        { "A 6, write 4294967295", { RECORDER_ARRIVE, 6, 0, 1, 1, 4294967295u } },
+        { "A 6, minutes wild", { RECORDER_ARRIVE, 6, 4294967295u, 2, 65535, 65535 } },
+        { "A 6 again", { RECORDER_ARRIVE, 6, 0, 2, 1, 1 } },
+        { "W 6 30", { RECORDER_WRITE, 6, 30 } },
+        { "A 7, 16 blocks, k 4", { RECORDER_ARRIVE, 7, 0, 16, 1, 1 } },
+        { "R 7", { RECORDER_READ, 7 } },
+        { "Q 7", { RECORDER_RETIRE, 7 } },
+        { "R 7 (20 before 7)", { RECORDER_READ, 7 } },
+        { "Q 6, held dirty", { RECORDER_RETIRE, 6, 1441, 17, 65536, 65536 } },
+        { "W 6 1441 (3 before 20)", { RECORDER_WRITE, 6, 1441 } },
+        { "W 6 30", { RECORDER_WRITE, 6, 30 } },
+        { "Q 6 again", { RECORDER_RETIRE, 6 } },
+        { "A 6 (its number is used)", { RECORDER_ARRIVE, 6, 0, 1, 1, 1 } },
+        { "Q 4, not held", { RECORDER_RETIRE, 4 } },
+        { "R 0", { RECORDER_READ, 0 } },
+        { "Q 0, held clean", { RECORDER_RETIRE, 0 } },
+        { "Q 256", { RECORDER_RETIRE, 256 } },
+        { "L", { RECORDER_FLUSH, 4294967295u } },
+    };
+    puts("items that arrive and leave");
+    struct state s, before;
+    busy(&s);
+    for (size_t i = 0; i < sizeof rows / sizeof *rows; i++) {
+        before = s;
+        say(rows[i].name, step_by(&s, rows[i].step));
+        print_marks(&before, &s);
+        for (uint32_t j = 0; j < RECORDER_MAX_ITEMS; j++)
+            if (left(&s, j) != left(&before, j))
+                printf("  %u has left\n", j);
+    }
+    print_figures(&s);
+    printf("  items %u, arrivals %u, retirements %u\n", get32(&s, RECORDER_AT_N) % 65536, get32(&s, RECORDER_AT_ARRIVALS), get32(&s, RECORDER_AT_RETIREMENTS));
+    report("left items stay in the report", &s, BYTES, RECORDER_REPORT_BYTES);
+    full(&s);
+    say("full log, A 6", arrive(&s, 6, 1, 1, 1));
+    say("full log, Q 0", step(&s, RECORDER_RETIRE, 0, 0));
+    closed_full(&s);
+    say("closed, A 6", arrive(&s, 6, 1, 1, 1));
+    say("closed, Q 0", step(&s, RECORDER_RETIRE, 0, 0));
 }
 
 /*
@@ -750,10 +866,11 @@ static void reports(void)
     foul.bytes[RECORDER_AT_RULE] = 2;
     report("a state whose rule is 2", &foul, BYTES, RECORDER_REPORT_BYTES);
     foul = s;
-    foul.bytes[RECORDER_AT_FORMAT] = 2;
+    foul.bytes[RECORDER_AT_FORMAT] = 3;
     report("a state of the layout before", &foul, BYTES, RECORDER_REPORT_BYTES);
+    report("a state of the layout before, of its length", &foul, 8796, RECORDER_REPORT_BYTES);
     foul.bytes[RECORDER_AT_FORMAT] = 1;
-    report("a state of the first layout, of its length", &foul, BYTES - 4, RECORDER_REPORT_BYTES);
+    report("a state of the first layout, of its length", &foul, 8792, RECORDER_REPORT_BYTES);
     foul = s;
     foul.bytes[RECORDER_AT_RULE] = 1;
     report("a state of the other rule", &foul, BYTES, RECORDER_REPORT_BYTES);
@@ -849,8 +966,10 @@ struct log {
 };
 
 /* A list with one more step than any text has, and bytes of a step that is not whole. */
-#define LIST_BYTES (12 * 10920 + 11)
+#define LIST_BYTES (RECORDER_STEP_BYTES * 10920 + 23)
 #define PAGE_BYTES (RECORDER_LOG_BYTES + 64)
+
+static uint32_t heading; /* under which the logs are written */
 
 /* The log of a list at an odd address, on a page at an odd address; the bytes around both have to be as before. */
 static uint64_t log_between_guards(const uint8_t *list, size_t list_len, uint8_t *page, size_t page_len, size_t *length)
@@ -861,7 +980,7 @@ static uint64_t log_between_guards(const uint8_t *list, size_t list_len, uint8_t
     if (list_len != 0)
         memcpy(lists + GUARD, list, list_len);
     memset(pages + GUARD, 0x7E, page_len);
-    uint64_t answer = recorder_log(lists + GUARD, list_len, pages + GUARD, page_len, length);
+    uint64_t answer = recorder_log(heading, lists + GUARD, list_len, pages + GUARD, page_len, length);
     for (size_t i = 0; i < sizeof pages; i++)
         if ((i < GUARD || i >= GUARD + page_len) && pages[i] != 0xC3) {
             fault("a byte outside the page was written");
@@ -882,7 +1001,7 @@ static const struct log *log_of(const uint8_t *list, size_t list_len, size_t pag
     static uint8_t other[PAGE_BYTES];
     uint8_t *steps = block(list, list_len), *page = blank(page_len);
     size_t length = UNTOLD, other_length = UNTOLD;
-    l.answer = recorder_log(steps, list_len, page, page_len, &length);
+    l.answer = recorder_log(heading, steps, list_len, page, page_len, &length);
     l.length = written(page, page_len, l.answer == 0 ? 0 : 1, length);
     if (l.length > sizeof l.text) {
         fault("a log longer than the longest");
@@ -901,8 +1020,8 @@ static const struct log *log_of(const uint8_t *list, size_t list_len, size_t pag
     return &l;
 }
 
-/* A list of steps, each three numbers, which on this machine are the bytes that are lent. */
-static const struct log *log_of_steps(const uint32_t (*steps)[3], size_t count, size_t page_len)
+/* A list of steps, each six numbers, which on this machine are the bytes that are lent. */
+static const struct log *log_of_steps(const numbers *steps, size_t count, size_t page_len)
 {
     return log_of((const uint8_t *)steps, count * sizeof *steps, page_len);
 }
@@ -928,23 +1047,25 @@ static void print_text(const char *what, const struct log *l)
 /* Each count of digits, and the ends of both ranges; what a step lacks is wild. */
 static void good_logs(void)
 {
-    static const uint32_t kinds[][3] = {
+    static const numbers kinds[] = {
         { RECORDER_READ, 0, 0 }, { RECORDER_READ, 9, 0 }, { RECORDER_READ, 10, 0 }, { RECORDER_READ, 99, 0 },
         { RECORDER_READ, 100, 0 }, { RECORDER_READ, 255, 0 }, { RECORDER_WRITE, 0, 0 }, { RECORDER_WRITE, 9, 9 },
         { RECORDER_WRITE, 10, 10 }, { RECORDER_WRITE, 99, 99 }, { RECORDER_WRITE, 100, 100 }, { RECORDER_WRITE, 199, 999 },
         { RECORDER_WRITE, 200, 1000 }, { RECORDER_WRITE, 255, 1440 }, { RECORDER_FLUSH, 0, 0 },
     };
-    static const uint32_t wild[][3] = {
-        { RECORDER_READ, 3, 1441 }, { RECORDER_READ, 3, 4294967295u }, { RECORDER_FLUSH, 256, 1441 },
-        { RECORDER_FLUSH, 4294967295u, 4294967295u }, { RECORDER_FLUSH, RECORDER_READ, RECORDER_WRITE },
+    static const numbers wild[] = {
+        { RECORDER_READ, 3, 1441, 17 }, { RECORDER_READ, 3, 4294967295u, 0, 65536, 65536 }, { RECORDER_FLUSH, 256, 1441 },
+        { RECORDER_FLUSH, 4294967295u, 4294967295u, 4294967295u, 4294967295u, 4294967295u },
+        { RECORDER_FLUSH, RECORDER_READ, RECORDER_WRITE, RECORDER_ARRIVE, RECORDER_RETIRE },
     };
-    static const uint32_t tame[][3] = {
+    static const numbers tame[] = {
         { RECORDER_READ, 3, 0 }, { RECORDER_READ, 3, 0 }, { RECORDER_FLUSH, 0, 0 }, { RECORDER_FLUSH, 0, 0 }, { RECORDER_FLUSH, 0, 0 },
     };
     enum { KINDS = sizeof kinds / sizeof *kinds, WILD = sizeof wild / sizeof *wild };
     print_text("no steps", log_of(NULL, 0, RECORDER_LOG_BYTES));
-    print_log("no steps, a page that just fits", log_of(NULL, 0, 18));
-    print_log("no steps, a byte short", log_of(NULL, 0, 17));
+    size_t names = log_of(NULL, 0, RECORDER_LOG_BYTES)->length;
+    print_log("no steps, a page that just fits", log_of(NULL, 0, names));
+    print_log("no steps, a byte short", log_of(NULL, 0, names - 1));
     print_log("no steps, no page", log_of(NULL, 0, 0));
     print_text("each kind", log_of_steps(kinds, KINDS, RECORDER_LOG_BYTES));
     size_t fits = log_of_steps(kinds, KINDS, RECORDER_LOG_BYTES)->length;
@@ -961,9 +1082,9 @@ static void good_logs(void)
 /* A step out of range in front, in the middle and at the end of good ones; with a page, and with none (3 before 15). */
 static void faulty_steps(void)
 {
-    static const struct { const char *name; uint32_t step[3]; } rows[] = {
+    static const struct { const char *name; numbers step; } rows[] = {
         { "kind 0", { 0, 0, 0 } },
-        { "kind 65 (A)", { 65, 0, 0 } },
+        { "kind 66 (B)", { 66, 0, 0, 1, 1, 1 } },
         { "kind 114 (r)", { 114, 0, 0 } },
         { "kind 82 + 256", { 338, 0, 0 } },
         { "kind 82, high byte first", { 82u << 24, 0, 0 } },
@@ -974,32 +1095,70 @@ static void faulty_steps(void)
         { "W 0 1441", { RECORDER_WRITE, 0, 1441 } },
         { "W 0 4294967295", { RECORDER_WRITE, 0, 4294967295u } },
         { "W 65536 65536", { RECORDER_WRITE, 65536, 65536 } },
+        { "A 256", { RECORDER_ARRIVE, 256, 0, 1, 1, 1 } },
+        { "A 0, no blocks", { RECORDER_ARRIVE, 0, 0, 0, 1, 1 } },
+        { "A 0, 17 blocks", { RECORDER_ARRIVE, 0, 0, 17, 1, 1 } },
+        { "A 0, load 65536", { RECORDER_ARRIVE, 0, 0, 1, 65536, 1 } },
+        { "A 0, write 65536", { RECORDER_ARRIVE, 0, 0, 1, 1, 65536 } },
+        { "Q 256", { RECORDER_RETIRE, 256 } },
     };
     static const size_t places[] = { 0, 3, 6 };
     for (size_t i = 0; i < sizeof rows / sizeof *rows; i++) {
         printf("%s:", rows[i].name);
         for (size_t j = 0; j < 3; j++) {
-            uint32_t steps[7][3];
+            numbers steps[7];
+            const numbers *list = (const numbers *)steps;
             for (size_t k = 0; k < 7; k++)
-                memcpy(steps[k], k == places[j] ? rows[i].step : (const uint32_t[3]) { RECORDER_WRITE, 7, 60 }, sizeof *steps);
-            uint64_t answer = log_of_steps(steps, 7, RECORDER_LOG_BYTES)->answer;
-            if (log_of_steps(steps, 7, 0)->answer != answer)
+                memcpy(steps[k], k == places[j] ? rows[i].step : (const numbers) { RECORDER_WRITE, 7, 60 }, sizeof *steps);
+            uint64_t answer = log_of_steps(list, 7, RECORDER_LOG_BYTES)->answer;
+            if (log_of_steps(list, 7, 0)->answer != answer)
                 fault("another answer without a page");
             printf(" %u on line %u%s", RECORDER_LOG_NUMBER(answer), RECORDER_LOG_LINE(answer), j < 2 ? "," : "\n");
         }
     }
-    uint32_t two[4][3] = { { RECORDER_FLUSH, 0, 0 }, { RECORDER_WRITE, 0, 1441 }, { RECORDER_FLUSH, 0, 0 }, { 0, 0, 0 } };
-    print_log("two faults", log_of_steps((const uint32_t (*)[3])two, 4, RECORDER_LOG_BYTES));
+    static const numbers two[4] = { { RECORDER_FLUSH, 0, 0 }, { RECORDER_WRITE, 0, 1441 }, { RECORDER_FLUSH, 0, 0 }, { 0, 0, 0 } };
+    print_log("two faults", log_of_steps(two, 4, RECORDER_LOG_BYTES));
+}
+
+/* Arrivals and retirements, each count of digits; under the three names the first of them is out of range. */
+static void changing_logs(void)
+{
+    static const numbers kinds[] = {
+        { RECORDER_FLUSH }, { RECORDER_ARRIVE, 0, 1441, 1, 0, 0 }, { RECORDER_ARRIVE, 9, 0, 9, 9, 10 }, { RECORDER_ARRIVE, 10, 0, 10, 99, 100 },
+        { RECORDER_ARRIVE, 99, 0, 16, 999, 1000 }, { RECORDER_ARRIVE, 100, 0, 2, 9999, 10000 }, { RECORDER_ARRIVE, 255, 4294967295u, 16, 65535, 65535 },
+        { RECORDER_RETIRE, 0, 1441 }, { RECORDER_RETIRE, 99, 0, 17, 65536, 65536 }, { RECORDER_RETIRE, 255 }, { RECORDER_WRITE, 255, 1440 },
+    };
+    enum { KINDS = sizeof kinds / sizeof *kinds };
+    print_text("arrivals and retirements", log_of_steps(kinds, KINDS, RECORDER_LOG_BYTES));
+    size_t fits = log_of_steps(kinds, KINDS, RECORDER_LOG_BYTES)->length;
+    print_log("a page that just fits", log_of_steps(kinds, KINDS, fits));
+    if (fits != 0)
+        print_log("a byte short", log_of_steps(kinds, KINDS, fits - 1));
+    print_log("a retirement first", log_of_steps(kinds + 7, KINDS - 7, RECORDER_LOG_BYTES));
+}
+
+/* A number that is no heading's: 3 on line 1, whatever the list and the page are. */
+static void odd_headings(void)
+{
+    static const uint32_t odd[] = { 2, 3, 256, 257, 2147483648u, 4294967295u };
+    static const numbers bad[] = { { 0 } };
+    for (size_t i = 0; i < sizeof odd / sizeof *odd; i++) {
+        heading = odd[i];
+        printf("heading %u:\n", heading);
+        print_log("  no steps", log_of(NULL, 0, RECORDER_LOG_BYTES));
+        print_log("  a step out of range, no page", log_of_steps(bad, 1, 0));
+        print_log("  a list that is not whole", log_of((const uint8_t *)bad, 5, RECORDER_LOG_BYTES));
+    }
 }
 
 /* Lists that are not whole: behind three good steps, as the whole list, and behind a fault, which is the first then. */
 static void rests(void)
 {
-    static const uint32_t good[4][3] = { { 76, 0, 0 }, { 82, 3, 0 }, { 87, 3, 40 }, { 82, 4, 0 } };
-    static const uint32_t bad[4][3] = { { 76, 0, 0 }, { 82, 256, 0 }, { 87, 3, 40 }, { 82, 4, 0 } };
-    for (size_t rest = 1; rest < 12; rest++) {
+    static const numbers good[4] = { { 76, 0, 0 }, { 82, 3, 0 }, { 87, 3, 40 }, { 82, 4, 0 } };
+    static const numbers bad[4] = { { 76, 0, 0 }, { 82, 256, 0 }, { 87, 3, 40 }, { 82, 4, 0 } };
+    for (size_t rest = 1; rest < RECORDER_STEP_BYTES; rest++) {
         printf("%zu bytes:", rest);
-        const struct { const uint32_t (*steps)[3]; size_t whole; } lists[] = { { good, 3 }, { good, 0 }, { bad, 3 } };
+        const struct { const numbers *steps; size_t whole; } lists[] = { { good, 3 }, { good, 0 }, { bad, 3 } };
         for (size_t i = 0; i < 3; i++) {
             const uint8_t *list = (const uint8_t *)lists[i].steps;
             size_t list_len = lists[i].whole * RECORDER_STEP_BYTES + rest;
@@ -1014,23 +1173,24 @@ static void rests(void)
 /* The longest texts. A line has six bytes or more, so 10,919 steps are the most. */
 static void long_logs(void)
 {
-    static uint32_t steps[10921][3];
-    const uint32_t (*list)[3] = (const uint32_t (*)[3])steps;
+    static numbers steps[10921];
+    const numbers *list = (const numbers *)steps;
+    heading = RECORDER_THREE_NAMES;
     for (size_t i = 0; i < sizeof steps / sizeof *steps; i++)
         steps[i][0] = RECORDER_FLUSH;
     print_log("10919 times L", log_of_steps(list, 10919, RECORDER_LOG_BYTES));
     print_log("  on a page that just fits", log_of_steps(list, 10919, 65532));
     print_log("  a byte short", log_of_steps(list, 10919, 65531));
     print_log("10920 times L, 65538 bytes", log_of_steps(list, 10920, PAGE_BYTES));
-    print_log("  and 5 bytes more (3 before 15)", log_of((const uint8_t *)list, 12 * 10920 + 5, PAGE_BYTES));
-    memcpy(steps[10918], (const uint32_t[3]) { RECORDER_WRITE, 0, 1000 }, sizeof *steps);
-    memcpy(steps[0], (const uint32_t[3]) { RECORDER_READ, 10, 0 }, sizeof *steps);
+    print_log("  and 5 bytes more (3 before 15)", log_of((const uint8_t *)list, RECORDER_STEP_BYTES * 10920 + 5, PAGE_BYTES));
+    memcpy(steps[10918], (const numbers) { RECORDER_WRITE, 0, 1000 }, sizeof *steps);
+    memcpy(steps[0], (const numbers) { RECORDER_READ, 10, 0 }, sizeof *steps);
     print_log("65536 bytes", log_of_steps(list, 10919, RECORDER_LOG_BYTES));
     const struct log *l = log_of_steps(list, 10919, RECORDER_LOG_BYTES);
     printf("  begins and ends with\n%.25s%.15s", (const char *)l->text, (const char *)l->text + l->length - 15);
     print_log("  on a longer page", log_of_steps(list, 10919, PAGE_BYTES));
     print_log("  a byte short", log_of_steps(list, 10919, RECORDER_LOG_BYTES - 1));
-    memcpy(steps[1], (const uint32_t[3]) { RECORDER_READ, 10, 0 }, sizeof *steps);
+    memcpy(steps[1], (const numbers) { RECORDER_READ, 10, 0 }, sizeof *steps);
     print_log("65537 bytes", log_of_steps(list, 10919, RECORDER_LOG_BYTES + 1));
     print_log("  on a longer page", log_of_steps(list, 10919, PAGE_BYTES));
     steps[10918][1] = 256;
@@ -1040,16 +1200,42 @@ static void long_logs(void)
     print_log("  a step out of range behind it", log_of_steps(list, 10920, PAGE_BYTES));
 }
 
+/* The same under the six names, where a line has twelve bytes or more: 5,458 steps are the most. */
+static void long_logs_of_six(void)
+{
+    static numbers steps[5459];
+    const numbers *list = (const numbers *)steps;
+    heading = RECORDER_SIX_NAMES;
+    for (size_t i = 0; i < sizeof steps / sizeof *steps; i++)
+        steps[i][0] = RECORDER_FLUSH;
+    print_log("5458 times L, six names", log_of_steps(list, 5458, RECORDER_LOG_BYTES));
+    print_log("  5459 times", log_of_steps(list, 5459, PAGE_BYTES));
+    memcpy(steps[5457], (const numbers) { RECORDER_ARRIVE, 0, 0, 1, 10, 100 }, sizeof *steps);
+    memcpy(steps[0], (const numbers) { RECORDER_ARRIVE, 0, 0, 1, 10, 1 }, sizeof *steps);
+    print_log("  65536 bytes", log_of_steps(list, 5458, RECORDER_LOG_BYTES));
+    steps[0][4] = 100;
+    print_log("  65537 bytes", log_of_steps(list, 5458, PAGE_BYTES));
+}
+
 static void logs(void)
 {
+    static const char *const names[] = { "three", "six" };
     puts("logs");
-    good_logs();
-    puts("steps out of range: in front, in the middle, at the end");
-    faulty_steps();
+    for (heading = RECORDER_THREE_NAMES; heading <= RECORDER_SIX_NAMES; heading++) {
+        printf("under the %s names\n", names[heading]);
+        good_logs();
+        changing_logs();
+        puts("steps out of range: in front, in the middle, at the end");
+        faulty_steps();
+    }
+    heading = RECORDER_SIX_NAMES;
     puts("lists that are not whole: behind three steps, alone, behind a step out of range");
     rests();
     puts("the longest logs");
     long_logs();
+    long_logs_of_six();
+    puts("numbers of no heading");
+    odd_headings();
 }
 
 int main(void)
@@ -1059,6 +1245,8 @@ int main(void)
     arguments();
     states();
     marks();
+    turnover();
+    changes();
     evictions();
     rules();
     reports();

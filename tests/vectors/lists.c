@@ -1,6 +1,6 @@
 /*
- * A vector of lists/ on standard input: a line with the number of a heading, 0 for the three names, and the length of the lent page;
- * then a step a line, three numbers. Prints what recorder_log writes on such a page, or the number and the line of its refusal.
+ * A vector of lists/ on standard input: a line with the number of a heading, 0 for the three names and 1 for the six, and the length of
+ * the lent page; then a step a line, six numbers. Prints what recorder_log writes on such a page, or the number and the line of its refusal.
  */
 #include "recorder.h"
 
@@ -13,14 +13,16 @@
 
 int main(void)
 {
-    static uint32_t steps[MOST_STEPS][3];
-    unsigned heading;
+    static uint32_t steps[MOST_STEPS][RECORDER_STEP_NUMBERS];
+    uint32_t heading;
     size_t page_len, count = 0, length = 0;
-    if (scanf("%u %zu", &heading, &page_len) != 2 || heading != 0)
+    if (scanf("%" SCNu32 " %zu", &heading, &page_len) != 2)
         return 2;
-    for (int read = 3; read == 3 && count < MOST_STEPS; count += read == 3) {
-        read = scanf("%" SCNu32 " %" SCNu32 " %" SCNu32, &steps[count][0], &steps[count][1], &steps[count][2]);
-        if (read != 3 && read != EOF)
+    for (size_t read = 0; scanf("%" SCNu32, &steps[count][read]) == 1;) {
+        if (++read < RECORDER_STEP_NUMBERS)
+            continue;
+        read = 0;
+        if (++count == MOST_STEPS)
             return 2;
     }
     if (!feof(stdin))
@@ -29,7 +31,7 @@ int main(void)
     if (page == NULL)
         return 2;
     memset(page, 0x7E, page_len + 1);
-    uint64_t answer = recorder_log((const uint8_t *)steps, count * sizeof *steps, page, page_len, &length);
+    uint64_t answer = recorder_log(heading, (const uint8_t *)steps, count * sizeof *steps, page, page_len, &length);
     for (size_t i = length; i <= page_len; i++) /* refused, the length is still 0 */
         if (page[i] != 0x7E)
             return 1;

@@ -3,52 +3,55 @@
 //!   bench_log write NAME library|plain    writes one of the largest logs once, for callgrind to count; prints how many steps it has
 //!   bench_log text NAME                   prints it
 //!   bench_log list <VECTOR                what plain Rust answers to a vector of tests/vectors/lists
-//! The largest logs: mixed, flushes (six bytes a line, so the most steps) and writes (eleven bytes a line, so the fewest).
+//! The largest logs: mixed, flushes (six bytes a line, so the most steps) and writes (eleven bytes a line, so the fewest), under the
+//! three names; and six, all kinds mixed under the six names.
 
 use std::io::{self, Read, Write};
 
 use bench::calls;
-use bench::lists::{LOG_BYTES, Step, bytes_of, some_list, steps_of_bytes};
-use bench::plain::{FLUSH, WRITE};
+use bench::lists::{LOG_BYTES, bytes_of, some_heading, some_list, steps_of_bytes};
+use bench::plain::{FLUSH, Numbers, WRITE, of_three};
 use bench::random::Random;
 use plain_season::log;
 
 /// What stands in the place of a text's length before it is told.
 const UNTOLD: usize = 12_345;
 
-type Writer = fn(&[u8], &mut [u8], &mut usize) -> u64;
+type Writer = fn(u32, &[u8], &mut [u8], &mut usize) -> u64;
 
 /// The plain writer under a name of its own, as the library's has one, so that callgrind can count what is below it.
 #[unsafe(no_mangle)]
 #[inline(never)]
-fn plain_log_writer(steps: &[u8], page: &mut [u8], length: &mut usize) -> u64 {
-    log::write(steps, page, length)
+fn plain_log_writer(heading: u32, steps: &[u8], page: &mut [u8], length: &mut usize) -> u64 {
+    log::write(heading, steps, page, length)
 }
 
-/// One of the largest logs: as many steps as there is room for.
-fn largest(name: &str) -> Vec<Step> {
+/// One of the largest logs, as many steps as there is room for, and the number of its heading.
+fn largest(name: &str) -> (u32, Vec<Numbers>) {
+    let all = |step, bytes| vec![of_three(step); (LOG_BYTES - 18) / bytes];
     match name {
-        "mixed" => steps_of_bytes(&mut Random(1), LOG_BYTES),
-        "flushes" => vec![[FLUSH, 0, 0]; (LOG_BYTES - 18) / 6],
-        "writes" => vec![[WRITE, 255, 1440]; (LOG_BYTES - 18) / 11],
+        "mixed" => (0, steps_of_bytes(&mut Random(1), 0, LOG_BYTES)),
+        "flushes" => (0, all([FLUSH, 0, 0], 6)),
+        "writes" => (0, all([WRITE, 255, 1440], 11)),
+        "six" => (1, steps_of_bytes(&mut Random(1), 1, LOG_BYTES)),
         _ => usage(),
     }
 }
 
 fn usage() -> ! {
     eprintln!("usage: bench_log [write NAME library|plain | text NAME | list]");
-    eprintln!("NAME is mixed, flushes or writes");
+    eprintln!("NAME is mixed, flushes, writes or six");
     std::process::exit(2);
 }
 
-/// Has both write a list on a page of so many bytes; a difference ends the program. Answers the number and the length.
-fn both(list: &[u8], page_len: usize) -> (u64, usize) {
+/// Has both write a list under a heading on a page of so many bytes; a difference ends the program. Answers the number and the length.
+fn both(heading: u32, list: &[u8], page_len: usize) -> (u64, usize) {
     let blank: Vec<u8> = (0..page_len)
         .map(|i| (i as u8).wrapping_mul(7) ^ 0xA5)
         .collect();
     let made = [calls::log as Writer, plain_log_writer].map(|writer| {
         let (mut page, mut length) = (blank.clone(), UNTOLD);
-        let answer = writer(list, &mut page, &mut length);
+        let answer = writer(heading, list, &mut page, &mut length);
         (answer, length, page)
     });
     let [library, plain] = &made;
@@ -56,7 +59,7 @@ fn both(list: &[u8], page_len: usize) -> (u64, usize) {
     let kept = plain.2[written..] == blank[written..] && (plain.0 == 0 || plain.1 == UNTOLD);
     if library != plain || !kept {
         println!(
-            "DIFFERENCE: a list of {} bytes on a page of {page_len}: the library answers {:#x}, length {}; plain Rust {:#x}, length {}",
+            "DIFFERENCE: a list of {} bytes, heading {heading}, on a page of {page_len}: the library answers {:#x}, length {}; plain Rust {:#x}, length {}",
             list.len(),
             library.0,
             library.1,
@@ -75,14 +78,15 @@ fn both(list: &[u8], page_len: usize) -> (u64, usize) {
 fn compare() {
     let r = &mut Random(1);
     let mut answers = [0u64; 16];
-    let mut ask = |list: &[u8], page_len: usize| {
-        let (number, length) = both(list, page_len);
+    let mut ask = |heading: u32, list: &[u8], page_len: usize| {
+        let (number, length) = both(heading, list, page_len);
         answers[number as usize] += 1;
         length
     };
     for _ in 0..20_000 {
-        let list = some_list(r);
-        let fits = ask(&list, LOG_BYTES);
+        let heading = some_heading(r);
+        let list = some_list(r, heading);
+        let fits = ask(heading, &list, LOG_BYTES);
         for page_len in [
             fits,
             fits.saturating_sub(1),
@@ -90,13 +94,13 @@ fn compare() {
             r.below(60) as usize,
             0,
         ] {
-            ask(&list, page_len);
+            ask(heading, &list, page_len);
         }
     }
-    for name in ["mixed", "flushes", "writes"] {
-        let list = bytes_of(&largest(name));
+    for name in ["mixed", "flushes", "writes", "six"] {
+        let (heading, steps) = largest(name);
         assert!(
-            ask(&list, LOG_BYTES) > LOG_BYTES - 11,
+            ask(heading, &bytes_of(&steps), LOG_BYTES) > LOG_BYTES - 11,
             "{name}: one of the largest"
         );
     }
@@ -116,19 +120,18 @@ fn write(name: &str, which: &str) {
         "plain" => plain_log_writer,
         _ => usage(),
     };
-    let steps = largest(name);
+    let (heading, steps) = largest(name);
     let (mut page, mut length) = (vec![0; LOG_BYTES], 0);
-    let answer = writer(&bytes_of(&steps), &mut page, &mut length);
+    let answer = writer(heading, &bytes_of(&steps), &mut page, &mut length);
     assert_eq!(answer, 0);
     println!("{}", steps.len());
 }
 
 fn text(name: &str) -> io::Result<()> {
+    let (heading, steps) = largest(name);
     let (mut page, mut length) = (vec![0; LOG_BYTES], 0);
-    assert_eq!(
-        log::write(&bytes_of(&largest(name)), &mut page, &mut length),
-        0
-    );
+    let answer = log::write(heading, &bytes_of(&steps), &mut page, &mut length);
+    assert_eq!(answer, 0);
     io::stdout().write_all(&page[..length])
 }
 
@@ -139,11 +142,11 @@ fn list() -> io::Result<()> {
     let mut numbers = vector
         .split_ascii_whitespace()
         .map(|word| word.parse::<u32>().expect("a vector has numbers"));
-    assert_eq!(numbers.next(), Some(0), "the heading of three names");
+    let heading = numbers.next().expect("the number of the heading");
     let page_len = numbers.next().expect("the length of the page");
     let list: Vec<u8> = numbers.flat_map(u32::to_le_bytes).collect();
     let (mut page, mut length) = (vec![0; page_len as usize], 0);
-    let answer = log::write(&list, &mut page, &mut length);
+    let answer = log::write(heading, &list, &mut page, &mut length);
     if answer != 0 {
         let (number, line) = (answer & 0xFFFF_FFFF, answer >> 32);
         println!("{number} {line}");

@@ -5,10 +5,11 @@ use crate::{Deduction, Item, Step};
 /// One unit of cost in shares: the least common multiple of 1 to 16, so that credits divide by the blocks with nothing lost.
 const UNIT: u64 = 720_720;
 
-pub struct Cache<'a> {
+pub struct Cache {
     k: u32,
     rule: Deduction,
-    catalog: &'a [Item],
+    /// The catalogue of the opening, and behind it the items that have arrived.
+    catalog: Vec<Item>,
     /// The held items, from the lowest number on.
     held: Vec<Held>,
     /// Their blocks.
@@ -44,12 +45,12 @@ pub struct ItemCounts {
     pub writebacks: u32,
 }
 
-impl<'a> Cache<'a> {
-    pub fn open(k: u32, rule: Deduction, catalog: &'a [Item]) -> Self {
+impl Cache {
+    pub fn open(k: u32, rule: Deduction, catalog: &[Item]) -> Self {
         Cache {
             k,
             rule,
-            catalog,
+            catalog: catalog.to_vec(),
             held: Vec::with_capacity(catalog.len()),
             used: 0,
             counts: Counts {
@@ -65,7 +66,7 @@ impl<'a> Cache<'a> {
         }
     }
 
-    /// Takes a step. Its item is in the catalog and has at most `k` blocks.
+    /// Takes a step that the table of refusals lets through: the item of a read or write has at most `k` blocks, and so on.
     pub fn step(&mut self, step: Step) {
         match step {
             Step::Read { item } => {
@@ -79,6 +80,15 @@ impl<'a> Cache<'a> {
                 self.counts.items[item].minutes += minutes;
             }
             Step::Flush => self.flush(),
+            Step::Arrive { listed, .. } => {
+                self.catalog.push(listed);
+                self.counts.items.push(ItemCounts::default());
+            }
+            Step::Retire { item } => {
+                if let Ok(at) = self.find(item) {
+                    self.drop_held(at);
+                }
+            }
         }
     }
 
@@ -138,16 +148,21 @@ impl<'a> Cache<'a> {
         let (at, least) = ranks
             .min_by_key(|&(_, rank)| rank)
             .expect("the blocks in use are those of a held item");
-        let victim = self.held.remove(at);
+        self.drop_held(at);
         for held in &mut self.held {
             held.charge(least, self.rule);
         }
-        let Item { blocks, write, .. } = self.catalog[victim.item];
+    }
+
+    /// Drops a held item: a dirty one pays, and the others are not charged.
+    fn drop_held(&mut self, at: usize) {
+        let gone = self.held.remove(at);
+        let Item { blocks, write, .. } = self.catalog[gone.item];
         self.used -= blocks;
         self.counts.evictions += 1;
-        if victim.dirty {
+        if gone.dirty {
             self.counts.dirty_evictions += 1;
-            self.counts.write_back(victim.item, write);
+            self.counts.write_back(gone.item, write);
         }
     }
 

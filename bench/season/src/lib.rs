@@ -55,6 +55,15 @@ pub enum Step {
     },
     /// Paper 01: a landing.
     Flush,
+    /// Paper 02: A, adds the next sail number.
+    Arrive {
+        item: usize,
+        listed: Item,
+    },
+    /// Paper 02: Q, retires a sail.
+    Retire {
+        item: usize,
+    },
 }
 
 /// What a rival plan does before a step is served.
@@ -84,6 +93,8 @@ pub enum Reason {
     RequestNotHeld { item: usize }, // missing
     InputTooLong,                   // long roll
     UnknownRule,                    // odd rule
+    NotNextNumber { item: usize },  // misnumbered
+    RetiredItem { item: usize },    // gone
 }
 
 #[derive(Clone, Copy)]
@@ -115,6 +126,8 @@ impl Reason {
             Reason::RequestNotHeld { .. } => 14,
             Reason::InputTooLong => 16,
             Reason::UnknownRule => 18,
+            Reason::NotNextNumber { .. } => 19,
+            Reason::RetiredItem { .. } => 20,
         }
     }
 
@@ -125,7 +138,9 @@ impl Reason {
             | Reason::ItemTooLarge { item }
             | Reason::NotHeld { item }
             | Reason::AlreadyHeld { item }
-            | Reason::RequestNotHeld { item } => item,
+            | Reason::RequestNotHeld { item }
+            | Reason::NotNextNumber { item }
+            | Reason::RetiredItem { item } => item,
             _ => 0,
         }
     }
@@ -139,7 +154,7 @@ pub fn output(text: &[u8]) -> String {
 fn report_on(text: &[u8]) -> Result<String, Refusal> {
     let season = text::parse(text)?;
     let rival = plan::price(&season)?;
-    let mut cache = Cache::open(season.k, season.rule, &season.catalog);
+    let mut cache = Cache::open(season.k, season.rule, season.catalog());
     for &step in &season.steps {
         cache.step(step);
     }

@@ -13,7 +13,7 @@ enum Holding {
 
 /// What the plan pays, the closing flush included; or its first fault.
 pub fn price(season: &Season) -> Result<u64, Refusal> {
-    let catalog = &season.catalog;
+    let catalog = &season.items;
     let mut holdings = vec![Holding::Nothing; catalog.len()];
     let mut used = 0;
     let mut cost = 0;
@@ -55,6 +55,16 @@ pub fn price(season: &Season) -> Result<u64, Refusal> {
             Step::Read { .. } => {}
             Step::Write { item, .. } => holdings[item] = Holding::Dirty,
             Step::Flush => cost += flush(season, &mut holdings),
+            Step::Arrive { .. } => {}
+            Step::Retire { item } => {
+                if holdings[item] != Holding::Nothing {
+                    used -= catalog[item].blocks;
+                }
+                if holdings[item] == Holding::Dirty {
+                    cost += catalog[item].write;
+                }
+                holdings[item] = Holding::Nothing;
+            }
         }
     }
     Ok(cost + flush(season, &mut holdings))
@@ -63,7 +73,7 @@ pub fn price(season: &Season) -> Result<u64, Refusal> {
 /// Every dirty copy becomes clean; what that costs.
 fn flush(season: &Season, holdings: &mut [Holding]) -> u64 {
     let mut cost = 0;
-    for (holding, item) in holdings.iter_mut().zip(&season.catalog) {
+    for (holding, item) in holdings.iter_mut().zip(&season.items) {
         if *holding == Holding::Dirty {
             *holding = Holding::Clean;
             cost += item.write;

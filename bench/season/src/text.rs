@@ -9,13 +9,30 @@ pub struct Season {
     pub k: u32,
     pub h: u32,
     pub rule: Deduction,
-    pub catalog: Vec<Item>,
+    /// The items of the second table, and behind them those that arrive.
+    pub items: Vec<Item>,
+    /// How many the second table has.
+    pub listed: usize,
     pub steps: Vec<Step>,
     /// Each act with the step before which it stands, in the order of the steps.
     pub acts: Vec<(usize, Act)>,
     /// The lines on which the first step and the first act stand, for the plan's refusals.
     pub first_step_line: usize,
     pub first_act_line: usize,
+}
+
+impl Season {
+    /// The items of the second table.
+    pub fn catalog(&self) -> &[Item] {
+        &self.items[..self.listed]
+    }
+}
+
+/// An item, the first place of an act that may name it, and the place of the step at which it leaves, if it does.
+struct Known {
+    item: Item,
+    since: usize,
+    until: Option<usize>,
 }
 
 pub fn parse(text: &[u8]) -> Result<Season, Refusal> {
@@ -39,17 +56,37 @@ pub fn parse(text: &[u8]) -> Result<Season, Refusal> {
     }
 
     lines.heading(b"sail blocks load write")?;
-    let mut catalog = Vec::new();
+    let mut items = Vec::new();
     while let Some(line) = lines.value()? {
-        let item = item(line, catalog.len()).map_err(|reason| lines.refusal(reason))?;
-        catalog.push(item);
+        let item = item(line, items.len()).map_err(|reason| lines.refusal(reason))?;
+        items.push(Known {
+            item,
+            since: 0,
+            until: None,
+        });
     }
+    let listed = items.len();
 
-    lines.heading(b"step sail minutes")?;
+    let names = lines.due()?;
+    let six = names == b"step sail minutes blocks load write";
+    if !six && names != b"step sail minutes" {
+        return Err(lines.refusal(Reason::Heading));
+    }
     let first_step_line = lines.number + 1;
     let mut steps = Vec::new();
     while let Some(line) = lines.value()? {
-        let step = step(line, k, &catalog).map_err(|reason| lines.refusal(reason))?;
+        let step = step(line, six)
+            .and_then(|step| allowed(step, k, &items))
+            .map_err(|reason| lines.refusal(reason))?;
+        match step {
+            Step::Arrive { listed, .. } => items.push(Known {
+                item: listed,
+                since: steps.len() + 1,
+                until: None,
+            }),
+            Step::Retire { item } => items[item].until = Some(steps.len()),
+            _ => {}
+        }
         steps.push(step);
     }
 
@@ -58,8 +95,8 @@ pub fn parse(text: &[u8]) -> Result<Season, Refusal> {
     let mut acts = Vec::new();
     let mut earliest = 0;
     while let Some(line) = lines.next_line()? {
-        let (at, act) = act(line, earliest, steps.len(), catalog.len())
-            .map_err(|reason| lines.refusal(reason))?;
+        let (at, act) =
+            act(line, earliest, steps.len(), &items).map_err(|reason| lines.refusal(reason))?;
         acts.push((at, act));
         earliest = at;
     }
@@ -68,7 +105,8 @@ pub fn parse(text: &[u8]) -> Result<Season, Refusal> {
         k,
         h,
         rule,
-        catalog,
+        items: items.into_iter().map(|known| known.item).collect(),
+        listed,
         steps,
         acts,
         first_step_line,
@@ -192,15 +230,18 @@ fn rule_of_word(word: &[u8]) -> Result<Deduction, Reason> {
     }
 }
 
-/// A line of `sail blocks load write`, which has to be that of item `due`.
-fn item(line: &[u8], due: usize) -> Result<Item, Reason> {
-    let [i, blocks, load, write] = fields(line)?;
-    let (i, blocks, load, write) = (number(i)?, number(blocks)?, number(load)?, number(write)?);
+/// An item's number, 0 to 255.
+fn item_number(i: u32) -> Result<usize, Reason> {
+    require(i <= 255, Reason::OutOfRange)?;
+    Ok(i as usize)
+}
+
+/// An item by its blocks and costs.
+fn item_of([blocks, load, write]: [u32; 3]) -> Result<Item, Reason> {
     require(
-        i <= 255 && (1..=16).contains(&blocks) && load <= 65_535 && write <= 65_535,
+        (1..=16).contains(&blocks) && load <= 65_535 && write <= 65_535,
         Reason::OutOfRange,
     )?;
-    require(i as usize == due, Reason::OutOfSequence)?;
     Ok(Item {
         blocks,
         load: load.into(),
@@ -208,42 +249,102 @@ fn item(line: &[u8], due: usize) -> Result<Item, Reason> {
     })
 }
 
-/// A line of `step sail minutes`.
-fn step(line: &[u8], k: u32, catalog: &[Item]) -> Result<Step, Reason> {
-    let [kind, item, minutes] = fields(line)?;
-    let (i, step) = match kind {
+/// A line of `sail blocks load write`, which has to be that of item `due`.
+fn item(line: &[u8], due: usize) -> Result<Item, Reason> {
+    let [i, blocks, load, write] = fields(line)?;
+    let (i, values) = (number(i)?, [number(blocks)?, number(load)?, number(write)?]);
+    let (i, item) = (item_number(i)?, item_of(values)?);
+    require(i == due, Reason::OutOfSequence)?;
+    Ok(item)
+}
+
+/// A line of the steps, under the three names or the six: its shape and its ranges.
+fn step(line: &[u8], six: bool) -> Result<Step, Reason> {
+    let [kind, item, minutes, blocks, load, write] = if six {
+        fields(line)?
+    } else {
+        let [kind, item, minutes] = fields(line)?;
+        [kind, item, minutes, b"-", b"-", b"-"]
+    };
+    let values = [blocks, load, write];
+    match kind {
         b"R" => {
             let i = number(item)?;
             dash(minutes)?;
-            (i, Step::Read { item: i as usize })
+            values.into_iter().try_for_each(dash)?;
+            Ok(Step::Read {
+                item: item_number(i)?,
+            })
         }
         b"W" => {
             let (i, minutes) = (number(item)?, number(minutes)?);
+            values.into_iter().try_for_each(dash)?;
             require(minutes <= 1440, Reason::OutOfRange)?;
-            let item = i as usize;
-            (i, Step::Write { item, minutes })
+            let item = item_number(i)?;
+            Ok(Step::Write { item, minutes })
         }
         b"L" => {
             dash(item)?;
             dash(minutes)?;
-            return Ok(Step::Flush);
+            values.into_iter().try_for_each(dash)?;
+            Ok(Step::Flush)
+        }
+        b"A" if six => {
+            let i = number(item)?;
+            dash(minutes)?;
+            let listed = item_of([number(blocks)?, number(load)?, number(write)?]);
+            let item = item_number(i)?;
+            Ok(Step::Arrive {
+                item,
+                listed: listed?,
+            })
+        }
+        b"Q" if six => {
+            let i = number(item)?;
+            dash(minutes)?;
+            values.into_iter().try_for_each(dash)?;
+            Ok(Step::Retire {
+                item: item_number(i)?,
+            })
         }
         [b'A'..=b'Z'] => {
             number_or_dash(item)?;
             number_or_dash(minutes)?;
-            return Err(Reason::OutOfRange);
+            values.into_iter().try_for_each(number_or_dash)?;
+            Err(Reason::OutOfRange)
         }
-        _ => return Err(Reason::Malformed),
+        _ => Err(Reason::Malformed),
+    }
+}
+
+/// The step, if the catalogue as the steps before have left it lets it through.
+fn allowed(step: Step, k: u32, items: &[Known]) -> Result<Step, Reason> {
+    let present = |item: usize| {
+        let known = items.get(item).ok_or(Reason::UnknownItem { item })?;
+        require(known.until.is_none(), Reason::RetiredItem { item })?;
+        Ok(known.item)
     };
-    require(i <= 255, Reason::OutOfRange)?;
-    let item = i as usize;
-    let Item { blocks, .. } = catalog.get(item).ok_or(Reason::UnknownItem { item })?;
-    require(*blocks <= k, Reason::ItemTooLarge { item })?;
+    match step {
+        Step::Read { item } | Step::Write { item, .. } => {
+            let Item { blocks, .. } = present(item)?;
+            require(blocks <= k, Reason::ItemTooLarge { item })?;
+        }
+        Step::Flush => {}
+        Step::Arrive { item, .. } => require(item == items.len(), Reason::NotNextNumber { item })?,
+        Step::Retire { item } => {
+            present(item)?;
+        }
+    }
     Ok(step)
 }
 
 /// A line of `at act sail`: the step before which it stands, and the act.
-fn act(line: &[u8], earliest: usize, steps: usize, n: usize) -> Result<(usize, Act), Reason> {
+fn act(
+    line: &[u8],
+    earliest: usize,
+    steps: usize,
+    items: &[Known],
+) -> Result<(usize, Act), Reason> {
     let [at, kind, item] = fields(line)?;
     let at = number(at)?;
     let (i, act) = match kind {
@@ -265,6 +366,9 @@ fn act(line: &[u8], earliest: usize, steps: usize, n: usize) -> Result<(usize, A
     let at = at as usize;
     require((earliest..steps).contains(&at), Reason::ActOutOfOrder)?;
     let item = i as usize;
-    require(item < n, Reason::UnknownItem { item })?;
+    let known = items.get(item).filter(|known| known.since <= at);
+    let known = known.ok_or(Reason::UnknownItem { item })?;
+    let left = known.until.is_some_and(|until| until < at);
+    require(!left, Reason::RetiredItem { item })?;
     Ok((at, act))
 }

@@ -45,7 +45,8 @@ pub fn byte(r: &mut Random, s: &[u8]) -> Put {
     let any = r.below(s.len() as u64) as usize;
     let head = r.below(at::LOAD_CREDIT as u64) as usize;
     let rule = at::RULE + r.below(4) as usize;
-    let place = r.pick(&[any, any, any, head, head, rule]);
+    let behind = at::LEFT + r.below((s.len() - at::LEFT) as u64) as usize;
+    let place = r.pick(&[any, any, any, head, head, rule, behind]);
     let old = u64::from(s[place]);
     let bit = 1 << r.below(8);
     let any = r.next();
@@ -88,22 +89,23 @@ fn some_entry(r: &mut Random, state: &State) -> usize {
 fn limits(state: &State, field: usize, entry: usize) -> Vec<u64> {
     let it = &state.places[entry];
     let rest = |total: u64, own: u64| total.wrapping_sub(own);
+    let others = state.arrivals + state.retirements;
     match FIELDS[field].at {
-        at::FORMAT => vec![3],
+        at::FORMAT => vec![4],
         at::K => vec![1, 4096, state.held_blocks()],
         at::N => vec![256, state.n],
         at::CLOSED => vec![1, 256],
         at::STEPS => vec![
             1_000_000,
-            state.hits + state.loads + state.flushes,
+            state.hits + state.loads + state.flushes + state.arrivals + state.retirements,
             state.writebacks + state.dirty(),
         ],
-        at::HITS => vec![rest(state.steps, state.loads + state.flushes)],
+        at::HITS => vec![rest(state.steps, state.loads + state.flushes + others)],
         at::LOADS => vec![state.evictions + state.held()],
         at::EVICTIONS => vec![rest(state.loads, state.held()), state.dirty_evictions],
         at::DIRTY_EVICTIONS => vec![state.evictions, state.writebacks],
         at::WRITEBACKS => vec![rest(state.steps, state.dirty()), state.dirty_evictions],
-        at::FLUSHES => vec![rest(state.steps, state.loads + state.hits)],
+        at::FLUSHES => vec![rest(state.steps, state.loads + state.hits + others)],
         at::LOAD_COST => vec![65_535 * state.loads],
         at::WRITE_COST => vec![65_535 * state.writebacks],
         at::DIRTY => vec![1 << (entry % 64), u64::MAX],
@@ -120,6 +122,12 @@ fn limits(state: &State, field: usize, entry: usize) -> Vec<u64> {
             rest(state.k, rest(state.held_blocks(), it.held * it.blocks)),
         ],
         at::RULE => vec![1, 1 << 8, 1 << 31],
+        at::LEFT => vec![1 << (entry % 64), u64::MAX],
+        at::ARRIVALS => vec![rest(
+            state.steps,
+            state.hits + state.loads + state.flushes + state.retirements,
+        )],
+        at::RETIREMENTS => vec![state.left()],
         _ => vec![1, 255],
     }
 }
@@ -180,6 +188,15 @@ fn toggle_dirty(s: &[u8], i: usize) -> Vec<Put> {
     ]
 }
 
+/// Item `i` has left, or has not, and as many hits less or more. One that is held stays so, and breaks a sentence.
+fn toggle_left(s: &[u8], state: &State, i: usize) -> Vec<Put> {
+    let byte = u64::from(s[at::LEFT + i / 8]) ^ 1 << (i % 8);
+    let by = if state.places[i].left { -1 } else { 1 };
+    let mut puts = two(s, [at::RETIREMENTS, at::HITS], [by, -by]);
+    puts.push(set(at::LEFT + i / 8, 1, byte));
+    puts
+}
+
 /// The catalog one item shorter, its place emptied; or one item longer.
 fn resize(s: &[u8], state: &State, shorter: bool) -> Vec<Put> {
     let n = state.n.min(256) as usize;
@@ -196,6 +213,9 @@ fn resize(s: &[u8], state: &State, shorter: bool) -> Vec<Put> {
     let mut puts = vec![set(at::N, 2, last as u64)];
     for f in FIELDS.iter().filter(|f| f.entries == 256) {
         puts.push(set(f.at + f.width * last, f.width, 0));
+    }
+    if state.places[last].left {
+        puts.extend(toggle_left(s, state, last));
     }
     puts
 }
@@ -217,7 +237,9 @@ fn two(s: &[u8], [a, b]: [usize; 2], [x, y]: [i64; 2]) -> Vec<Put> {
 fn figures(r: &mut Random, s: &[u8], [i, j]: [usize; 2]) -> Vec<Put> {
     let by = r.pick(&[1, 1, -1, 1 << 31, 1 << 16]);
     let [loads, writebacks] = [at::ITEM_LOADS, at::ITEM_WRITEBACKS].map(|at| at + 4 * i);
-    match r.below(8) {
+    match r.below(10) {
+        8 => two(s, [at::STEPS, at::ARRIVALS], [by, by]),
+        9 => two(s, [at::HITS, at::ARRIVALS], [by, -by]),
         0 => two(s, [at::STEPS, at::HITS], [by, by]),
         1 => two(s, [at::STEPS, at::FLUSHES], [by, by]),
         2 => two(s, [at::HITS, at::FLUSHES], [by, -by]),
@@ -262,7 +284,8 @@ fn at_limits(r: &mut Random, s: &[u8], state: &State, i: usize) -> Vec<Put> {
 fn item(r: &mut Random, s: &[u8], state: &State, i: usize) -> Vec<Put> {
     let it = &state.places[i];
     let cost = r.below(65_536);
-    match r.below(8) {
+    match r.below(9) {
+        8 => toggle_left(s, state, i),
         0 => toggle_held(s, state, i),
         1 => toggle_dirty(s, i),
         2 => resize(s, state, r.below(2) == 0),

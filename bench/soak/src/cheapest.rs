@@ -23,9 +23,24 @@ impl Problem<'_> {
         holding / 3usize.pow(i as u32) % 3
     }
 
-    /// What one item's acts cost between two digits; none makes it dirty. A dirty item becomes clean by D and F.
-    fn act_cost(&self, i: usize, from: usize, to: usize) -> u64 {
+    /// Whether an act before step `t` may name item `i`: it has arrived at an earlier step, and not left at one.
+    fn known(&self, i: usize, t: usize) -> bool {
+        let before = &self.steps[..t];
+        let later = self.steps[t..].iter();
+        let mut comes =
+            later.filter(|step| matches!(step, Step::Arrive { item, .. } if *item == i));
+        let mut leaves = before
+            .iter()
+            .filter(|step| matches!(step, Step::Retire { item } if *item == i));
+        comes.next().is_none() && leaves.next().is_none()
+    }
+
+    /// What one item's acts before step `t` cost between two digits; none makes it dirty. A dirty item becomes clean by D and F.
+    fn act_cost(&self, t: usize, i: usize, from: usize, to: usize) -> u64 {
         let Item { load, write, .. } = self.items[i];
+        if from != to && !self.known(i, t) {
+            return NONE;
+        }
         match (from, to) {
             (0, 1) => load,
             (2, 0) => write,
@@ -35,14 +50,14 @@ impl Problem<'_> {
         }
     }
 
-    /// What the acts cost between two holdings.
-    fn acts_cost(&self, from: usize, to: usize) -> u64 {
-        let cost = |i| self.act_cost(i, self.digit(from, i), self.digit(to, i));
+    /// What the acts before step `t` cost between two holdings.
+    fn acts_cost(&self, t: usize, from: usize, to: usize) -> u64 {
+        let cost = |i| self.act_cost(t, i, self.digit(from, i), self.digit(to, i));
         (0..self.items.len()).map(cost).fold(0, u64::saturating_add)
     }
 
-    /// The least costs behind any acts, item by item.
-    fn after_acts(&self, mut costs: Vec<u64>) -> Vec<u64> {
+    /// The least costs behind any acts before step `t`, item by item.
+    fn after_acts(&self, t: usize, mut costs: Vec<u64>) -> Vec<u64> {
         for i in 0..self.items.len() {
             let power = 3usize.pow(i as u32);
             let mut next = vec![NONE; costs.len()];
@@ -50,7 +65,7 @@ impl Problem<'_> {
                 let from = self.digit(holding, i);
                 for to in 0..3 {
                     let there = holding - from * power + to * power;
-                    let whole = cost.saturating_add(self.act_cost(i, from, to));
+                    let whole = cost.saturating_add(self.act_cost(t, i, from, to));
                     next[there] = next[there].min(whole);
                 }
             }
@@ -74,6 +89,16 @@ impl Problem<'_> {
                 (holding + (2 - self.digit(holding, item)) * power, 0)
             }
             Step::Flush => self.flushed(holding),
+            Step::Arrive { .. } => (holding, 0),
+            Step::Retire { item } => {
+                let digit = self.digit(holding, item);
+                let paid = if digit == 2 {
+                    self.items[item].write
+                } else {
+                    0
+                };
+                (holding - digit * 3usize.pow(item as u32), paid)
+            }
         })
     }
 
@@ -92,7 +117,11 @@ impl Problem<'_> {
         let mut layers = vec![start];
         for (t, &step) in self.steps.iter().enumerate() {
             let mut next = vec![NONE; self.holdings()];
-            for (holding, cost) in self.after_acts(layers[t].clone()).into_iter().enumerate() {
+            for (holding, cost) in self
+                .after_acts(t, layers[t].clone())
+                .into_iter()
+                .enumerate()
+            {
                 if let Some((there, paid)) = self.served(holding, step) {
                     next[there] = next[there].min(cost.saturating_add(paid));
                 }
@@ -142,7 +171,7 @@ impl Problem<'_> {
                 continue;
             };
             for (from, before) in costs.iter().enumerate() {
-                let acts = before.saturating_add(self.acts_cost(from, to));
+                let acts = before.saturating_add(self.acts_cost(t, from, to));
                 if acts.saturating_add(paid) == cost {
                     return Some((from, to));
                 }

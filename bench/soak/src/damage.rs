@@ -4,7 +4,7 @@ use bench::random::Random;
 use plain_season::MAX_BYTES;
 
 /// Fields that stand at the edge of something, or are no numbers.
-const FIELDS: [&str; 46] = [
+const FIELDS: [&str; 48] = [
     "0",
     "1",
     "2",
@@ -48,6 +48,8 @@ const FIELDS: [&str; 46] = [
     "R",
     "W",
     "L",
+    "A",
+    "Q",
     "D",
     "F",
     "²",
@@ -85,10 +87,10 @@ type Tables = [&'static [&'static [&'static str]]];
 pub const SEASON: &Tables = &[
     &[SIZE, SIZE, RULE],
     &[SAIL, BLOCKS, COST, COST],
-    &[STEP, SAIL, MINUTES],
+    &[STEP, SAIL, MINUTES, BLOCKS, COST, COST],
     &[AT, ACT, SAIL],
 ];
-pub const LOG: &Tables = &[&[STEP, SAIL, MINUTES]];
+pub const LOG: &Tables = &[&[STEP, SAIL, MINUTES, BLOCKS, COST, COST]];
 
 const BYTES: &[u8] = b" \n\n-0123456789RWLDFX\t\r\0\x0B\xA0\xFF:/@[";
 
@@ -288,6 +290,21 @@ fn table(r: &mut Random, text: &mut Vec<u8>) {
     *text = tables.join(&b'\n');
 }
 
+/// The other of the two headings over the steps, whose lines stay as they are.
+fn other_heading(text: &mut Vec<u8>) {
+    const THREE: &[u8] = b"step sail minutes\n";
+    const SIX: &[u8] = b"step sail minutes blocks load write\n";
+    let mut lines = lines(text);
+    for line in &mut lines {
+        match line.as_slice() {
+            THREE => *line = SIX.to_vec(),
+            SIX => *line = THREE.to_vec(),
+            _ => {}
+        }
+    }
+    *text = lines.concat();
+}
+
 /// The heading of the first table and the third field of its line: one of the two headings and one of the rules, whether they go
 /// together or not; an odd word, with any bytes that a field may have; an empty field, a field more or less. At times k and h are out
 /// of range too, or h above k, so that it is seen which refusal comes first.
@@ -328,7 +345,8 @@ fn word(r: &mut Random) -> Vec<u8> {
 
 /// Damages a text of such tables once.
 pub fn damage(r: &mut Random, text: &mut Vec<u8>, tables: &Tables) {
-    match r.below(32) {
+    match r.below(33) {
+        32 => other_heading(text),
         0..=4 => byte(r, text),
         5..=8 => line(r, text),
         9..=20 => limits(r, text, tables),

@@ -1,11 +1,12 @@
 //! Hostile states: valid ones, reached by a season or by none, with bytes and fields changed. Whether each is valid is asked
 //! of the library, of the plain Rust, and of paper 01's sentences one by one.
 
-use bench::plain::{self, INVALID_STATE, STATE_BYTES, TAKEN};
+use bench::plain::{self, INVALID_STATE, STATE_BYTES, TAKEN, at};
 use bench::random::{Random, catalog, some_k, some_n, some_rule};
 use bench::states;
 
 use crate::changes::{Put, byte, field, together};
+use crate::layout::get;
 use crate::pair::{Call, Pair};
 use crate::rule::{SENTENCES, State, broken, names};
 use crate::run::Run;
@@ -52,8 +53,8 @@ fn reached(r: &mut Random) -> Vec<u8> {
     let mut s = vec![0; STATE_BYTES];
     assert_eq!(plain::open(&mut s, k, some_rule(r), &catalog), 0);
     for _ in 0..r.below(150) {
-        let [kind, item, minutes] = arguments(r, n);
-        plain::step(&mut s, kind, item, minutes);
+        let n = get(&s, at::N, 2) as usize;
+        plain::step(&mut s, arguments(r, n));
     }
     if r.one_in(8) {
         plain::close(&mut s);

@@ -18,7 +18,7 @@ const fn field(name: &'static str, at: usize, width: usize, entries: usize) -> F
     }
 }
 
-pub const FIELDS: [Field; 24] = [
+pub const FIELDS: [Field; 27] = [
     field("the number of the layout", at::FORMAT, 4, 1),
     field("k", at::K, 4, 1),
     field("n", at::N, 2, 1),
@@ -43,6 +43,9 @@ pub const FIELDS: [Field; 24] = [
     field("blocks", at::BLOCKS, 1, 256),
     field("held", at::HELD, 1, 256),
     field("rule", at::RULE, 4, 1),
+    field("left", at::LEFT, 8, 4),
+    field("arrivals", at::ARRIVALS, 4, 1),
+    field("retirements", at::RETIREMENTS, 4, 1),
 ];
 
 /// The fields lie end to end, so that no byte is without one.

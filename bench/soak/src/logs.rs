@@ -2,7 +2,7 @@
 //! the page and of the list are compared. And logs alone as text, whole and damaged, through the program `check_log`.
 
 use bench::calls;
-use bench::lists::{LOG_BYTES, bytes_of, good_step, some_list, steps_of_bytes};
+use bench::lists::{LOG_BYTES, bytes_of, good_step, some_heading, some_list, steps_of_bytes};
 use bench::random::Random;
 use plain_season::log;
 
@@ -18,8 +18,9 @@ pub const TO_A_TEXT: u64 = 10;
 pub fn case(run: &mut Run, program: &Program) {
     let r = &mut run.random();
     for _ in 0..TO_A_TEXT {
-        let list = some_list(r);
-        on_pages(run, r, &list);
+        let heading = some_heading(r);
+        let list = some_list(r, heading);
+        on_pages(run, r, heading, &list);
     }
     let mut text = some_text(r);
     if !r.one_in(4) {
@@ -30,17 +31,20 @@ pub fn case(run: &mut Run, program: &Program) {
     program.compare_log(run, &text);
 }
 
-/// The text of some steps in range, at times of just the most bytes or about so.
+/// The text of some steps in range under one of the headings, at times of just the most bytes or about so.
 fn some_text(r: &mut Random) -> Vec<u8> {
+    let heading = r.below(2) as u32;
     let most = r.pick(&[0, 1, 4, 12, 40, 200]);
-    let mut steps: Vec<_> = (0..r.below(most + 1)).map(|_| good_step(r)).collect();
+    let count = r.below(most + 1);
+    let mut steps: Vec<_> = (0..count).map(|_| good_step(r, heading)).collect();
     let mut page = vec![0; LOG_BYTES];
     let mut length = 0;
     if r.one_in(60) {
         let bytes = r.pick(&[LOG_BYTES - 1, LOG_BYTES, LOG_BYTES]);
-        steps = steps_of_bytes(r, bytes);
+        steps = steps_of_bytes(r, heading, bytes);
     }
-    assert_eq!(log::write(&bytes_of(&steps), &mut page, &mut length), 0);
+    let answer = log::write(heading, &bytes_of(&steps), &mut page, &mut length);
+    assert_eq!(answer, 0);
     page.truncate(length);
     if length == LOG_BYTES && r.one_in(4) {
         page.push(b'\n');
@@ -50,8 +54,8 @@ fn some_text(r: &mut Random) -> Vec<u8> {
 
 /// A list on pages of just the right size, of a byte less, of one more, on the longest, a small one and none. A list that is refused has
 /// no right size, and is asked for on any.
-fn on_pages(run: &mut Run, r: &mut Random, list: &[u8]) {
-    let fits = compare(run, r, list, LOG_BYTES);
+fn on_pages(run: &mut Run, r: &mut Random, heading: u32, list: &[u8]) {
+    let fits = compare(run, r, heading, list, LOG_BYTES);
     let short = r.below(fits as u64 + 1) as usize;
     for page_len in [
         fits,
@@ -61,20 +65,20 @@ fn on_pages(run: &mut Run, r: &mut Random, list: &[u8]) {
         short,
         0,
     ] {
-        compare(run, r, list, page_len);
+        compare(run, r, heading, list, page_len);
     }
 }
 
-/// The log of a list on a page of so many bytes. Answers the text's length, or 0.
-fn compare(run: &mut Run, r: &mut Random, list: &[u8], page_len: usize) -> usize {
+/// The log of a list under a heading on a page of so many bytes. Answers the text's length, or 0.
+fn compare(run: &mut Run, r: &mut Random, heading: u32, list: &[u8], page_len: usize) -> usize {
     let blank = vec![r.next() as u8; page_len];
     let (mut page, mut length) = (blank.clone(), UNTOLD);
-    let expected = log::write(list, &mut page, &mut length);
+    let expected = log::write(heading, list, &mut page, &mut length);
 
     let steps = Lent::of(list, r.below(16) as usize);
     let mut lent = Lent::of(&blank, r.below(16) as usize);
     let mut told = UNTOLD;
-    let answer = calls::log(steps.bytes(), lent.bytes_mut(), &mut told);
+    let answer = calls::log(heading, steps.bytes(), lent.bytes_mut(), &mut told);
     run.calls += 1;
 
     let kept_else = lent.guards_kept() && steps.guards_kept() && steps.bytes() == list;
@@ -82,7 +86,7 @@ fn compare(run: &mut Run, r: &mut Random, list: &[u8], page_len: usize) -> usize
     let page_kept = page[written..] == blank[written..] && (expected == 0 || length == UNTOLD);
     if answer != expected || told != length || lent.bytes() != page || !kept_else || !page_kept {
         let what = format!(
-            "a list of {} bytes on a page of {page_len}: the library answers {}, line {}, length {told}; \
+            "a list of {} bytes, heading {heading}, on a page of {page_len}: the library answers {}, line {}, length {told}; \
              plain Rust {}, line {}, length {length}",
             list.len(),
             answer as u32,

@@ -2,7 +2,7 @@
 //! answers and all bytes are compared.
 
 use bench::calls::{self, Calls, LIBRARY};
-use bench::plain;
+use bench::plain::{self, Numbers};
 use bench::random::Random;
 
 use crate::layout::field_of;
@@ -22,11 +22,7 @@ pub enum Call<'a> {
         rule: u32,
         catalog: &'a [u8],
     },
-    Step {
-        kind: u32,
-        item: u32,
-        minutes: u32,
-    },
+    Step(Numbers),
     Close,
 }
 
@@ -34,11 +30,7 @@ impl Call<'_> {
     fn make(&self, calls: Calls, state: &mut [u8]) -> u32 {
         match *self {
             Call::Open { k, rule, catalog } => (calls.open)(state, k, rule, catalog),
-            Call::Step {
-                kind,
-                item,
-                minutes,
-            } => (calls.step)(state, kind, item, minutes),
+            Call::Step(numbers) => (calls.step)(state, numbers),
             Call::Close => (calls.close)(state),
         }
     }
@@ -46,7 +38,7 @@ impl Call<'_> {
     fn asked(&self) -> Asked {
         match self {
             Call::Open { .. } => Asked::Open,
-            Call::Step { .. } => Asked::Step,
+            Call::Step(_) => Asked::Step,
             Call::Close => Asked::Close,
         }
     }
@@ -136,13 +128,8 @@ impl Pair {
         plain
     }
 
-    pub fn step(&mut self, run: &mut Run, [kind, item, minutes]: [u32; 3]) -> u32 {
-        let call = Call::Step {
-            kind,
-            item,
-            minutes,
-        };
-        self.make(run, call)
+    pub fn step(&mut self, run: &mut Run, numbers: Numbers) -> u32 {
+        self.make(run, Call::Step(numbers))
     }
 
     /// The bytes that differ, and where the state before the call is.

@@ -10,7 +10,7 @@ use crate::layout::get;
 use crate::pair::{Call, Pair};
 use crate::program::{Program, figures, number};
 use crate::run::Run;
-use crate::texts::{Season, arguments, some_plan, some_steps};
+use crate::texts::{Present, Season, arguments, requested, some_plan, some_steps};
 
 const MOST_ITEMS: u64 = 4;
 const MOST_STEPS: usize = 8;
@@ -83,16 +83,18 @@ fn small_season(r: &mut Random) -> Season {
         load: r.pick(costs),
         write: r.pick(costs),
     };
-    let items: Vec<Item> = (0..n).map(|_| item(r)).collect();
+    let mut items: Vec<Item> = (0..n).map(|_| item(r)).collect();
+    let catalog = items.iter().flat_map(bytes).collect();
     let count = r.pick(&[3, MOST_STEPS, MOST_STEPS]);
     let count = r.below(count as u64 + 1);
     Season {
         k,
         h: 1,
         rule: None,
-        catalog: items.iter().flat_map(bytes).collect(),
-        steps: some_steps(r, &items, k, count),
+        catalog,
+        steps: some_steps(r, &mut items, k, count, (MOST_ITEMS as usize, item)),
         items,
+        six: false,
         acts: Vec::new(),
     }
 }
@@ -118,6 +120,7 @@ fn parting_season(r: &mut Random) -> Season {
         catalog: items.iter().flat_map(bytes).collect(),
         steps: [write].into_iter().chain(reads).collect(),
         items,
+        six: false,
         acts: Vec::new(),
     }
 }
@@ -212,7 +215,8 @@ fn price(run: &mut Run, r: &mut Random, season: &Season, program: &Program) {
         run.differ(&what, &[text, output]);
     }
     for _ in 0..2 {
-        season.acts = some_plan(r, &season.items, season.h, &season.steps);
+        let listed = season.listed();
+        season.acts = some_plan(r, &season.items, listed, season.h, &season.steps);
         let output = plain_season::output(season.text().as_bytes());
         if number(&output) != 0 || figures(&output)[8] < cheapest {
             let what = format!("a plan that is legal and costs at least {cheapest}");
@@ -225,7 +229,7 @@ fn price(run: &mut Run, r: &mut Random, season: &Season, program: &Program) {
 fn neighbour(r: &mut Random, season: &Season) -> Season {
     let mut other = Season {
         acts: Vec::new(),
-        catalog: Vec::new(),
+        catalog: season.catalog.clone(),
         items: season.items.clone(),
         steps: season.steps.clone(),
         ..*season
@@ -234,20 +238,55 @@ fn neighbour(r: &mut Random, season: &Season) -> Season {
     let costs = [0, 1, 2, other.items[i].load, other.items[i].write];
     let count = other.steps.len();
     let place = r.below(count.max(1) as u64) as usize;
+    let step = match r.below(8) {
+        0 => Step::Flush,
+        1 => Step::Retire { item: i },
+        2..=4 => Step::Write {
+            item: i,
+            minutes: 60,
+        },
+        _ => Step::Read { item: i },
+    };
     match r.below(6) {
         0 => other.items[i].load = r.pick(&costs),
         1 => other.items[i].write = r.pick(&costs),
         2 if count > 1 => other.steps.swap(place, count - 1 - place),
         3 if count > 1 => drop(other.steps.remove(place)),
-        4 if count > 0 => other.steps[place] = some_steps(r, &other.items, other.k, 1)[0],
-        _ if count < MOST_STEPS => {
-            let more = some_steps(r, &other.items, other.k, 1);
-            other.steps.splice(place..place, more);
-        }
+        4 if count > 0 => other.steps[place] = step,
+        _ if count < MOST_STEPS => other.steps.insert(place, step),
         _ => {}
     }
-    other.catalog = other.items.iter().flat_map(bytes).collect();
+    repair(&mut other);
     other
+}
+
+/// Leaves out the steps whose item is not there or too large, and the arrivals out of turn; gives each arrival its item's values.
+fn repair(season: &mut Season) {
+    let listed = season.listed();
+    let mut present = Present::of_first(listed);
+    let mut count = listed;
+    let mut kept = Vec::new();
+    for &step in &season.steps {
+        let (sound, step) = match step {
+            Step::Arrive { item, .. } => {
+                let listed = season.items[item];
+                (item == count, Step::Arrive { item, listed })
+            }
+            Step::Retire { item } => (present.has(item), step),
+            _ => {
+                let fits = |i: usize| present.has(i) && season.items[i].blocks <= season.k;
+                (requested(step).is_none_or(fits), step)
+            }
+        };
+        if sound {
+            count += usize::from(matches!(step, Step::Arrive { .. }));
+            present.after(step);
+            kept.push(step);
+        }
+    }
+    season.steps = kept;
+    season.items.truncate(count);
+    season.catalog = season.items[..listed].iter().flat_map(bytes).collect();
 }
 
 /// The bound of a season for both rules and every h. Answers the two sides for the rule and the h that are aimed at.

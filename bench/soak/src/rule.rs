@@ -19,6 +19,7 @@ pub struct Item {
     pub minutes: u64,
     pub loads: u64,
     pub writebacks: u64,
+    pub left: bool,
 }
 
 /// The numbers of a state.
@@ -37,8 +38,15 @@ pub struct State {
     pub load_cost: u64,
     pub write_cost: u64,
     pub rule: u64,
+    pub arrivals: u64,
+    pub retirements: u64,
     /// All 256 places.
     pub places: Vec<Item>,
+}
+
+/// The mark of an item, among 256 from a place on.
+fn mark(s: &[u8], at: usize, i: usize) -> bool {
+    get(s, at + 8 * (i / 64), 8) >> (i % 64) & 1 == 1
 }
 
 fn place(s: &[u8], i: usize) -> Item {
@@ -47,12 +55,13 @@ fn place(s: &[u8], i: usize) -> Item {
         load: get(s, at::LOAD + 2 * i, 2),
         write: get(s, at::WRITE + 2 * i, 2),
         held: get(s, at::HELD + i, 1),
-        dirty: get(s, at::DIRTY + 8 * (i / 64), 8) >> (i % 64) & 1 == 1,
+        dirty: mark(s, at::DIRTY, i),
         load_credit: get(s, at::LOAD_CREDIT + 8 * i, 8),
         write_credit: get(s, at::WRITE_CREDIT + 8 * i, 8),
         minutes: get(s, at::MINUTES + 4 * i, 4),
         loads: get(s, at::ITEM_LOADS + 4 * i, 4),
         writebacks: get(s, at::ITEM_WRITEBACKS + 4 * i, 4),
+        left: mark(s, at::LEFT, i),
     }
 }
 
@@ -73,6 +82,8 @@ impl State {
             load_cost: get(s, at::LOAD_COST, 8),
             write_cost: get(s, at::WRITE_COST, 8),
             rule: get(s, at::RULE, 4),
+            arrivals: get(s, at::ARRIVALS, 4),
+            retirements: get(s, at::RETIREMENTS, 4),
             places: (0..256).map(|i| place(s, i)).collect(),
         }
     }
@@ -92,9 +103,14 @@ impl State {
         self.places.iter().filter(|it| it.held == 1).count() as u64
     }
 
-    /// How many marks are set.
+    /// How many dirty marks are set.
     pub fn dirty(&self) -> u64 {
         self.places.iter().filter(|it| it.dirty).count() as u64
+    }
+
+    /// How many items have left.
+    pub fn left(&self) -> u64 {
+        self.places.iter().filter(|it| it.left).count() as u64
     }
 
     pub fn held_blocks(&self) -> u64 {
@@ -119,10 +135,12 @@ impl State {
 type Sentence = (&'static str, fn(&State) -> bool);
 
 /// Sentences that speak of places and items.
-const OF_PLACES: [Sentence; 15] = [
+const OF_PLACES: [Sentence; 17] = [
     ("held is 0 or 1", |s| s.places.iter().all(|it| it.held <= 1)),
     ("past n: not held", |s| s.every_past(|it| it.held != 1)),
     ("past n: clean", |s| s.every_past(|it| !it.dirty)),
+    ("past n: not left", |s| s.every_past(|it| !it.left)),
+    ("left: not held", |s| s.every(|it| !it.left || it.held == 0)),
     ("past n: no load credit", |s| {
         s.every_past(|it| it.load_credit == 0)
     }),
@@ -162,15 +180,19 @@ const OF_PLACES: [Sentence; 15] = [
 ];
 
 /// Sentences that speak of the state as a whole.
-const OF_THE_WHOLE: [Sentence; 18] = [
-    ("the number of the layout is 3", |s| s.format == 3),
+const OF_THE_WHOLE: [Sentence; 19] = [
+    ("the number of the layout is 4", |s| s.format == 4),
     ("the rule is 0 or 1", |s| s.rule <= 1),
     ("closed is 0 or 1", |s| s.closed <= 1),
     ("k is 1 to 4,096", |s| (1..=4096).contains(&s.k)),
     ("n is at most 256", |s| s.n <= 256),
     ("held blocks are at most k", |s| s.held_blocks() <= s.k),
-    ("hits + loads + flushes = steps", |s| {
-        s.hits + s.loads + s.flushes == s.steps
+    (
+        "hits + loads + flushes + arrivals + retirements = steps",
+        |s| s.hits + s.loads + s.flushes + s.arrivals + s.retirements == s.steps,
+    ),
+    ("retirements = items that have left", |s| {
+        s.retirements == s.left()
     }),
     ("steps are at most 1,000,000", |s| s.steps <= 1_000_000),
     ("evictions + held = loads", |s| {

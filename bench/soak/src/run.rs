@@ -56,7 +56,7 @@ pub const ASKED: [&str; 8] = [
 /// How often each number was answered, to each kind of question.
 #[derive(Default)]
 pub struct Tally {
-    pub answers: [[u64; 19]; 8],
+    pub answers: [[u64; 21]; 8],
     /// Texts as long as one may be that were taken.
     pub longest_taken: u64,
     /// Logs as long as one may be that were written, and that were taken.

@@ -2,8 +2,9 @@
 //! table of refusals over the arguments, and the step rule of the plain program `season`.
 
 use bench::plain::{
-    CLOSED, FLUSH, INVALID_STATE, ITEM_TOO_LARGE, LOG_FULL, MAX_STEPS, OUT_OF_RANGE, READ,
-    SHORT_PAGE, STATE_BYTES, TAKEN, UNKNOWN_ITEM, UNKNOWN_RULE, WRITE,
+    ARRIVE, CLOSED, FLUSH, INVALID_STATE, ITEM_TOO_LARGE, LOG_FULL, MAX_STEPS, NOT_NEXT_NUMBER,
+    Numbers, OUT_OF_RANGE, READ, RETIRE, RETIRED_ITEM, SHORT_PAGE, STATE_BYTES, TAKEN,
+    UNKNOWN_ITEM, UNKNOWN_RULE, WRITE, of_three,
 };
 use bench::random::{Random, catalog, odd_rule, some_k, some_n, some_rule};
 use plain_season::cache::Cache;
@@ -16,26 +17,32 @@ use crate::run::Run;
 pub const LONGEST_REPORT: usize = 7_931;
 
 /// The season that follows from an accepted opening and the calls alone.
-pub struct Model<'a> {
+pub struct Model {
     k: u32,
-    catalog: &'a [Item],
+    /// The items of the opening and those that have arrived, each with whether it has left.
+    items: Vec<(Item, bool)>,
     steps: u32,
     closed: bool,
-    cache: Cache<'a>,
+    cache: Cache,
 }
 
-impl<'a> Model<'a> {
-    pub fn open(k: u32, rule: Deduction, catalog: &'a [Item]) -> Model<'a> {
+impl Model {
+    pub fn open(k: u32, rule: Deduction, catalog: &[Item]) -> Model {
         Model {
             k,
-            catalog,
+            items: catalog.iter().map(|&item| (item, false)).collect(),
             steps: 0,
             closed: false,
             cache: Cache::open(k, rule, catalog),
         }
     }
 
-    fn refusal(&self, [kind, item, minutes]: [u32; 3]) -> u32 {
+    /// How many items the catalogue has now.
+    pub fn count(&self) -> usize {
+        self.items.len()
+    }
+
+    fn refusal(&self, [kind, item, minutes, blocks, load, write]: Numbers) -> u32 {
         if self.closed {
             return CLOSED;
         }
@@ -45,28 +52,48 @@ impl<'a> Model<'a> {
         if kind == FLUSH {
             return TAKEN;
         }
-        let read_or_write = kind == READ || kind == WRITE && minutes <= 1440;
-        if !read_or_write || item > 255 {
+        let good = match kind {
+            READ | RETIRE => true,
+            WRITE => minutes <= 1440,
+            ARRIVE => (1..=16).contains(&blocks) && load <= 65_535 && write <= 65_535,
+            _ => false,
+        };
+        if !good || item > 255 {
             return OUT_OF_RANGE;
         }
-        match self.catalog.get(item as usize) {
+        match self.items.get(item as usize) {
+            _ if kind == ARRIVE && item as usize == self.items.len() => TAKEN,
+            _ if kind == ARRIVE => NOT_NEXT_NUMBER,
             None => UNKNOWN_ITEM,
-            Some(item) if item.blocks > self.k => ITEM_TOO_LARGE,
+            Some((_, true)) => RETIRED_ITEM,
+            Some((item, false)) if kind != RETIRE && item.blocks > self.k => ITEM_TOO_LARGE,
             Some(_) => TAKEN,
         }
     }
 
-    pub fn step(&mut self, arguments: [u32; 3]) -> u32 {
+    pub fn step(&mut self, arguments: Numbers) -> u32 {
         let answer = self.refusal(arguments);
         if answer == TAKEN {
-            let [kind, item, minutes] = arguments;
+            let [kind, item, minutes, blocks, load, write] = arguments;
             let item = item as usize;
+            let listed = Item {
+                blocks,
+                load: load.into(),
+                write: write.into(),
+            };
             self.steps += 1;
             self.cache.step(match kind {
                 READ => Step::Read { item },
                 WRITE => Step::Write { item, minutes },
+                ARRIVE => Step::Arrive { item, listed },
+                RETIRE => Step::Retire { item },
                 _ => Step::Flush,
             });
+            match kind {
+                ARRIVE => self.items.push((listed, false)),
+                RETIRE => self.items[item].1 = true,
+                _ => {}
+            }
         }
         answer
     }
@@ -159,7 +186,7 @@ fn wrong_length(run: &mut Run, r: &mut Random, opening: Call) {
     let bytes = any_bytes(r, len);
     let mut pair = Pair::of(r, &bytes);
     agree(pair.make(run, opening), INVALID_STATE, run);
-    agree(pair.step(run, [READ, 0, 0]), INVALID_STATE, run);
+    agree(pair.step(run, of_three([READ, 0, 0])), INVALID_STATE, run);
     agree(pair.step(run, arguments(r, 1)), INVALID_STATE, run);
     agree(pair.make(run, Call::Close), INVALID_STATE, run);
     agree(pair.report(run, LONGEST_REPORT).0, INVALID_STATE, run);
@@ -175,6 +202,8 @@ fn wild(r: &mut Random) -> u32 {
         FLUSH,
         READ,
         WRITE,
+        ARRIVE,
+        RETIRE,
         READ + 32,
         WRITE + 256,
         255,
@@ -189,10 +218,11 @@ fn wild(r: &mut Random) -> u32 {
     ])
 }
 
-/// The arguments of a step: good ones, ones that are to be refused, and wild ones. Some items are asked for more often.
-pub fn arguments(r: &mut Random, n: usize) -> [u32; 3] {
+/// The arguments of a step on a catalogue of `n` items: good ones, ones that are to be refused, and wild ones. Some items are asked for
+/// more often; some arrive and some leave, mostly the later ones.
+pub fn arguments(r: &mut Random, n: usize) -> Numbers {
     if r.one_in(25) {
-        return [wild(r), wild(r), wild(r)];
+        return [0; 6].map(|_| wild(r));
     }
     let few = n.min(5) as u64;
     let item = match n {
@@ -201,13 +231,21 @@ pub fn arguments(r: &mut Random, n: usize) -> [u32; 3] {
         _ => r.below(n as u64) as u32,
     };
     let minutes = r.below(1441) as u32;
-    let mut arguments = match r.below(12) {
-        0 => [FLUSH, wild(r), wild(r)],
-        1..=6 => [WRITE, item, minutes],
-        _ => [READ, item, wild(r)],
+    let late = n.saturating_sub(1 + r.below(4) as usize) as u32;
+    let cost = |r: &mut Random| r.pick(&[0, 1, 2, 9, 65_535]);
+    let mut arguments = match r.below(26) {
+        0 | 1 => [FLUSH, wild(r), wild(r), wild(r), wild(r), wild(r)],
+        2 => {
+            let next = (n as u32).saturating_add(r.pick(&[0, 0, 0, 0, 0, 1]));
+            let blocks = r.between(1, 16) as u32;
+            [ARRIVE, next, wild(r), blocks, cost(r), cost(r)]
+        }
+        3 => [RETIRE, r.pick(&[late, late, item]), wild(r), 0, 0, wild(r)],
+        4..=14 => [WRITE, item, minutes, wild(r), wild(r), wild(r)],
+        _ => [READ, item, wild(r), wild(r), wild(r), wild(r)],
     };
     if r.one_in(12) {
-        let which = r.below(3) as usize;
+        let which = r.below(6) as usize;
         arguments[which] = wild(r);
     }
     if r.one_in(40) {
@@ -246,7 +284,7 @@ fn season(run: &mut Run, r: &mut Random, pair: &mut Pair, full: bool) {
             agree(pair.make(run, Call::Close), model.close(), run);
             left = left.min(8);
         }
-        let arguments = arguments(r, n);
+        let arguments = arguments(r, model.count());
         agree(pair.step(run, arguments), model.step(arguments), run);
         if !full && r.one_in(200) {
             reports(run, r, pair, &model);
@@ -255,7 +293,7 @@ fn season(run: &mut Run, r: &mut Random, pair: &mut Pair, full: bool) {
     }
     reports(run, r, pair, &model);
     for _ in 0..2 {
-        let arguments = arguments(r, n);
+        let arguments = arguments(r, model.count());
         agree(pair.step(run, arguments), model.step(arguments), run);
         agree(pair.make(run, Call::Close), model.close(), run);
     }

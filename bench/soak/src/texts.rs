@@ -1,6 +1,6 @@
 //! Seasons written as text, with a rival plan; then damaged. The program and the plain Rust answer each.
 
-use bench::plain::STATE_BYTES;
+use bench::plain::{ARRIVE, FLUSH, Numbers, READ, RETIRE, STATE_BYTES, WRITE, of_three};
 use bench::random::{Random, catalog, some_k, some_n};
 use plain_season::{Act, Deduction, Item, MAX_BYTES, Step, text};
 
@@ -18,16 +18,28 @@ pub struct Season {
     pub h: u32,
     /// None is write-first too, and the text has the heading without a rule.
     pub rule: Option<Deduction>,
+    /// The items of the opening.
     pub catalog: Vec<u8>,
+    /// These, and behind them those that arrive.
     pub items: Vec<Item>,
+    /// Whether the steps have the six names even if no item arrives or leaves.
+    pub six: bool,
     pub steps: Vec<Step>,
     pub acts: Vec<(usize, Act)>,
 }
 
 impl Season {
     pub fn text(&self) -> String {
-        let sizes = [self.k, self.h];
-        text(sizes, self.rule, &self.items, &self.steps, &self.acts)
+        let (sizes, listed) = ([self.k, self.h], &self.items[..self.listed()]);
+        let Season {
+            rule, steps, acts, ..
+        } = self;
+        text(sizes, *rule, listed, steps, acts, self.six)
+    }
+
+    /// How many items the opening has.
+    pub fn listed(&self) -> usize {
+        self.catalog.len() / 5
     }
 
     /// The opening as a call.
@@ -44,42 +56,104 @@ impl Season {
 pub fn requested(step: Step) -> Option<usize> {
     match step {
         Step::Read { item } | Step::Write { item, .. } => Some(item),
-        Step::Flush => None,
+        Step::Flush | Step::Arrive { .. } | Step::Retire { .. } => None,
     }
 }
 
 /// The arguments of the call for a step.
-pub fn arguments(step: Step) -> [u32; 3] {
+pub fn arguments(step: Step) -> Numbers {
     match step {
-        Step::Read { item } => [b'R'.into(), item as u32, 0],
-        Step::Write { item, minutes } => [b'W'.into(), item as u32, minutes],
-        Step::Flush => [b'L'.into(), 0, 0],
+        Step::Read { item } => of_three([READ, item as u32, 0]),
+        Step::Write { item, minutes } => of_three([WRITE, item as u32, minutes]),
+        Step::Flush => of_three([FLUSH, 0, 0]),
+        Step::Arrive { item, listed } => {
+            let Item {
+                blocks,
+                load,
+                write,
+            } = listed;
+            [ARRIVE, item as u32, 0, blocks, load as u32, write as u32]
+        }
+        Step::Retire { item } => of_three([RETIRE, item as u32, 0]),
     }
 }
 
-/// Steps over the items of at most so many blocks.
-pub fn some_steps(r: &mut Random, items: &[Item], most: u32, count: u64) -> Vec<Step> {
-    let fitting: Vec<usize> = (0..items.len())
-        .filter(|&i| items[i].blocks <= most)
-        .collect();
-    let step = |r: &mut Random| match r.below(8) {
-        _ if fitting.is_empty() => Step::Flush,
-        0 => Step::Flush,
-        1..=4 => Step::Write {
-            item: r.pick(&fitting),
-            minutes: r.pick(&[0, 5, 6, 90, 600, 1440]),
-        },
-        _ => Step::Read {
-            item: r.pick(&fitting),
-        },
-    };
-    (0..count).map(|_| step(r)).collect()
+/// The items that are there: of the first so many, those that have not left.
+#[derive(Clone)]
+pub struct Present(Vec<usize>);
+
+impl Present {
+    pub fn of_first(n: usize) -> Present {
+        Present((0..n).collect())
+    }
+
+    pub fn has(&self, item: usize) -> bool {
+        self.0.contains(&item)
+    }
+
+    pub fn after(&mut self, step: Step) {
+        match step {
+            Step::Arrive { item, .. } => self.0.push(item),
+            Step::Retire { item } => self.0.retain(|&other| other != item),
+            _ => {}
+        }
+    }
+}
+
+/// Steps over the items of at most so many blocks. At times new ones arrive, up to so many in all, and some leave.
+pub fn some_steps(
+    r: &mut Random,
+    items: &mut Vec<Item>,
+    most: u32,
+    count: u64,
+    (most_items, new_item): (usize, impl Fn(&mut Random) -> Item),
+) -> Vec<Step> {
+    let mut present = Present::of_first(items.len());
+    let changes = r.pick(&[0, 0, 1, 4]);
+    let mut steps = Vec::new();
+    for _ in 0..count {
+        let there = &present.0;
+        let fitting: Vec<usize> = there
+            .iter()
+            .copied()
+            .filter(|&i| items[i].blocks <= most)
+            .collect();
+        let step = match r.below(16) {
+            n if n < changes && items.len() < most_items && (there.is_empty() || r.one_in(2)) => {
+                let (item, listed) = (items.len(), new_item(r));
+                items.push(listed);
+                Step::Arrive { item, listed }
+            }
+            n if n < changes && !there.is_empty() => Step::Retire {
+                item: r.pick(there),
+            },
+            _ if fitting.is_empty() => Step::Flush,
+            4 | 5 => Step::Flush,
+            6..=11 => Step::Write {
+                item: r.pick(&fitting),
+                minutes: r.pick(&[0, 5, 6, 90, 600, 1440]),
+            },
+            _ => Step::Read {
+                item: r.pick(&fitting),
+            },
+        };
+        present.after(step);
+        steps.push(step);
+    }
+    steps
 }
 
 /// A plan that is legal if every requested item has at most `h` blocks: before each step it drops and fetches on a whim, has
 /// the requested item, and then makes room by dropping any others.
-pub fn some_plan(r: &mut Random, items: &[Item], h: u32, steps: &[Step]) -> Vec<(usize, Act)> {
+pub fn some_plan(
+    r: &mut Random,
+    items: &[Item],
+    listed: usize,
+    h: u32,
+    steps: &[Step],
+) -> Vec<(usize, Act)> {
     let whims = r.pick(&[2, 4, 20, 1000]);
+    let mut present = Present::of_first(listed);
     let mut held: Vec<usize> = Vec::new();
     let mut acts = Vec::new();
     for (at, &step) in steps.iter().enumerate() {
@@ -97,8 +171,8 @@ pub fn some_plan(r: &mut Random, items: &[Item], h: u32, steps: &[Step]) -> Vec<
             };
             acts.push((at, act));
         };
-        while !items.is_empty() && r.one_in(whims) {
-            turn(&mut held, r.below(items.len() as u64) as usize);
+        while !present.0.is_empty() && r.one_in(whims) {
+            turn(&mut held, r.pick(&present.0));
         }
         let wanted = requested(step);
         if let Some(item) = wanted.filter(|item| !held.contains(item)) {
@@ -115,6 +189,8 @@ pub fn some_plan(r: &mut Random, items: &[Item], h: u32, steps: &[Step]) -> Vec<
             }
             turn(&mut held, r.pick(&others));
         }
+        present.after(step);
+        held.retain(|&item| present.has(item));
     }
     acts
 }
@@ -127,7 +203,7 @@ fn some_season(r: &mut Random) -> Season {
         r.below(6) as usize
     };
     let catalog = catalog(r, n);
-    let items = items(&catalog);
+    let mut items = items(&catalog);
     let mut k = some_k(r, &catalog);
     if r.one_in(5) {
         k = r.between(1, 16) as u32;
@@ -146,8 +222,13 @@ fn some_season(r: &mut Random) -> Season {
     } else {
         r.below(count + 1)
     };
-    let steps = some_steps(r, &items, most, count);
-    let acts = some_plan(r, &items, h, &steps);
+    let new_item = |r: &mut Random| Item {
+        blocks: r.pick(&[1, 2, 3, 16]),
+        load: r.pick(&[0, 1, 7, 65_535]),
+        write: r.pick(&[0, 1, 9, 65_535]),
+    };
+    let steps = some_steps(r, &mut items, most, count, (256, new_item));
+    let acts = some_plan(r, &items, n, h, &steps);
     let [write_first, load_first] = Deduction::ALL.map(Some);
     Season {
         k,
@@ -155,6 +236,7 @@ fn some_season(r: &mut Random) -> Season {
         rule: r.pick(&[None, write_first, load_first, load_first]),
         catalog,
         items,
+        six: r.one_in(3),
         steps,
         acts,
     }
@@ -183,12 +265,22 @@ fn spoil_plan(r: &mut Random, season: &mut Season) {
 /// Lengthens the text of a season to so many bytes, by writes behind its last step that need no act, with more digits for
 /// the minutes of some.
 fn lengthen(season: &mut Season, bytes: usize) {
-    let last = season.steps.iter().rev().find_map(|&step| requested(step));
-    let Some(item) = last else {
+    let mut present = Present::of_first(season.listed());
+    season.steps.iter().for_each(|&step| present.after(step));
+    let mut wanted = season
+        .steps
+        .iter()
+        .rev()
+        .filter_map(|&step| requested(step));
+    let Some(item) = wanted.find(|&item| present.has(item)) else {
         return;
     };
-    let line = format!("W {item} 6\n").len();
-    let mut lacks = bytes.saturating_sub(season.text().len());
+    let whole = season.text().len();
+    let minutes = 6;
+    season.steps.push(Step::Write { item, minutes });
+    let line = season.text().len() - whole;
+    season.steps.pop();
+    let mut lacks = bytes.saturating_sub(whole);
     let count = lacks / line;
     lacks -= count * line;
     for _ in 0..count {

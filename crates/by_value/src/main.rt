@@ -1,5 +1,5 @@
-// The cache by value at work: paper 01's unmarked rows and its whole example, then paper 02's two rules of deduction, through the
-// methods, each with what it answers.
+// The cache by value at work: paper 01's unmarked rows and its whole example, then paper 02's two rules of deduction and its arrivals and
+// retirements, through the methods, each with what it answers.
 ghost use Prim.Native.Nat.{_<_};
 use cache_value::Answer;
 use cache_value::Answered;
@@ -169,6 +169,45 @@ fn odd_rule(rule: u32) {
     io::write_all(1, b"\n");
 }
 
+// Takes a step, and prints what it answers behind the words.
+fn take(c: Cache, s: Step, words: &[u8]) -> Cache {
+    let taken = c.step(s);
+    let answer = taken.answer;
+    print_count(words, number(answer));
+    io::write_all(1, b"\n");
+    taken.cache
+}
+
+// A season in which an item arrives, is written and leaves. It stays in the report, and its number is not used again.
+fn arrivals() {
+    let new = Step::Arrive {
+        item: 1,
+        blocks: 1,
+        load: 3,
+        write: 9,
+    };
+    let a = take(one_item(2, 1), Step::Read { item: 0 }, b"R 0: ");
+    let b = take(a, new, b"A 1: ");
+    let c = take(
+        b,
+        Step::Write {
+            item: 1,
+            minutes: 12,
+        },
+        b"W 1: ",
+    );
+    let d = take(c, Step::Retire { item: 1 }, b"Q 1: ");
+    let e = take(d, Step::Read { item: 1 }, b"R 1: ");
+    let f = take(e, new, b"A 1: ");
+    let end = take(f, Step::Read { item: 0 }, b"R 0: ").close().cache;
+    print_item(end, 0);
+    print_item(end, 1);
+    print_totals(end);
+    print_count(b"arrivals ", end.arrivals);
+    print_count(b", retirements ", end.retirements);
+    io::write_all(1, b"\n");
+}
+
 fn main() {
     read_row(16);
     read_row(15);
@@ -182,4 +221,5 @@ fn main() {
     parting(0);
     parting(1);
     odd_rule(2);
+    arrivals();
 }

@@ -6,9 +6,11 @@ use mathlib.Core.List.{List}
 use Prim.Native.Nat.{ℕ}
 use native.Mathlib.Omega.{arith}
 use borrow.Author.Tests.{ne-eqb}
+use Rattle.types.specs.declared.Numbers.{Numbers}
+use Rattle.types.specs.Types.{stepOf}
 use Rattle.landlord.specs.Rule.{flush}
 use Rattle.landlord.specs.Figures.{Standing, moved, took, closes}
-use Rattle.landlord.specs.Calls.{Call, stepCall, close, stepOf, refusalAt, refusalNow, accepted, after}
+use Rattle.landlord.specs.Calls.{Call, stepCall, close, refusalAt, refusalNow, accepted, after}
 use Rattle.landlord.specs.Valid.{StandingOk}
 use Rattle.landlord.proofs.Slots.{deduction-ok}
 use Rattle.landlord.proofs.Valid.{ok-after}
@@ -67,12 +69,12 @@ taken-answers b left call ok e h =
     goes = rw (sym e)
 
 pub step-answers :
-    (b left : List ℕ) (kind i m : ℕ) →
+    (b left : List ℕ) (n : Numbers) →
     ValidBytes b →
-    0 ≡ refusalNow (view (cacheOf b)) (stepCall kind i m) →
-    BecomesAt (took (view (cacheOf b)) (stepOf kind i m)) left →
-    Answers lent b (stepCall kind i m) 0 left
-step-answers b left kind i m ok e h = taken-answers b left (stepCall kind i m) ok e h
+    0 ≡ refusalNow (view (cacheOf b)) (stepCall n) →
+    BecomesAt (took (view (cacheOf b)) (stepOf n)) left →
+    Answers lent b (stepCall n) 0 left
+step-answers b left n ok e h = taken-answers b left (stepCall n) ok e h
 
 -- the closing: closed already, or open
 pub closed-answers : (b : List ℕ) → ValidBytes b → cacheOf b .closed ≡ true → Answers lent b close 9 b

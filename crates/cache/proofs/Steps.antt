@@ -1,20 +1,25 @@
--- Laws of a step that the table does not refuse: what has been asked of it, and that room made and then the item served is one
--- step of the rule. Assumes nothing.
+-- Laws of a step that the table does not refuse: what has been asked of it, and that what is done in place is one step of the rule.
+-- Assumes nothing.
 use mathlib.Core.Path.{_≡_, refl, sym, ap, subst, _∙_}
 use mathlib.Core.Logic.{_≢_}
-use mathlib.Core.Bool.{Bool, true, false, cond, false≢true}
+use mathlib.Core.Bool.{Bool, true, false, cond, _&&_, false≢true}
 use mathlib.Core.List.{List}
 use Prim.Native.Nat.{ℕ, _≤_, _<_}
 use native.Mathlib.Omega.{arith}
 use lib.Dec.{leb, ltb, eqb}
 use lib.ListN.{getD}
-use borrow.Author.Tests.{eq-eqb, ne-eqb, ltb-true, leb-true, leb-false}
-use Rattle.types.specs.declared.Step.the-variants.{Flush}
-use Rattle.landlord.specs.Catalog.{itemAt}
+use borrow.Author.Tests.{eqb-true, ltb-true, leb-true, leb-false}
+use Rattle.types.specs.declared.Step.the-variants.{Read, Write, Flush, Arrive, Retire}
+use Rattle.types.specs.declared.Numbers.{Numbers}
+use Rattle.types.specs.Types.{stepOf}
+use Rattle.types.proofs.Steps.{step-read, step-write, step-arrive, step-retire}
+use Rattle.landlord.specs.Catalog.{itemAt, listed, itemInRange}
 use Rattle.landlord.specs.Slot.{splitOf}
 use Rattle.landlord.specs.Rule.{State, Moved, size, blocksAt, makeRoom, serveRead, serveWrite, step, joined}
 use Rattle.landlord.specs.Figures.{Standing, moved, took}
-use Rattle.landlord.specs.Calls.{stepOf, inRange, refusalAt}
+use Rattle.landlord.specs.Calls.{isItemNumber, inRange, refusalAt}
+use Rattle.landlord.specs.Inner.{ItemFacts}
+use Rattle.landlord.proofs.Ranges.{item-facts}
 use Rattle.landlord.proofs.Slots.{deduction-ok}
 use Rattle.landlord.proofs.Keeps.{make-room}
 use Rattle.landlord.proofs.Valid.{CanServe, room-ready, moved-joined}
@@ -26,8 +31,9 @@ use Rattle.layout.specs.Inner.{BecomesAt}
 use Rattle.layout.proofs.Places.{becomes-valid}
 use Rattle.cache_room.specs.Inner.{WantedAt}
 use Rattle.cache_serve.specs.InnerReady.{SteppableAt, ServableAt}
+use Rattle.cache_arrivals.specs.InnerReady.{ArrivableAt}
 use Rattle.cache.specs.Inner.{TablePasses}
-use Rattle.cache.proofs.Table.{Ranged, answer, asked}
+use Rattle.cache.proofs.Table.{Names, reads, writes, retires, names, Ranged, answer, itemAnswer, table-item, arrival-asked, asked, request-asked}
 
 -- the tests that an answer of 0 has passed
 passes :
@@ -39,122 +45,193 @@ passes false true c n e = absurd (omega arith)
 passes false false true n e = (refl, refl, refl)
 passes false false false n e = absurd (omega arith)
 
-item-passes : (a b : Bool) → _≡_ {A = ℕ} (cond a (cond b 0 7) 6) 0 → (a ≡ true) × (b ≡ true)
-item-passes true true e = (refl, refl)
-item-passes true false e = absurd (omega arith)
-item-passes false b e = absurd (omega arith)
+next-passes : (a : Bool) → _≡_ {A = ℕ} (cond a 0 19) 0 → a ≡ true
+next-passes true e = refl
+next-passes false e = absurd (omega arith)
+
+item-passes : (a b : Bool) (n : ℕ) → _≡_ {A = ℕ} (cond a (cond b 20 n) 6) 0 → (a ≡ true) × (b ≡ false) × (n ≡ 0)
+item-passes true true n e = absurd (omega arith)
+item-passes true false n e = (refl, refl, e)
+item-passes false b n e = absurd (omega arith)
+
+room-passes : (a : Bool) → _≡_ {A = ℕ} (cond a 0 7) 0 → a ≡ true
+room-passes true e = refl
+room-passes false e = absurd (omega arith)
+
+both : (a b : Bool) → a && b ≡ true → (a ≡ true) × (b ≡ true)
+both true true e = (refl, refl)
+both true false e = absurd (false≢true e)
+both false b e = absurd (false≢true e)
 
 -- a step that the table does not refuse
-module _ (c : Cache) (kind i m : ℕ) (free : answer c kind i m ≡ 0) where
-  free-ranged : Ranged c kind i m
+module _ (c : Cache) (n : Numbers) (free : answer c n ≡ 0) where
+  free-ranged : Ranged c n
   unfolding refusalAt
   free-ranged =
-      let f = passes (c .closed) (leb 1000000 (c .steps)) (inRange kind i m) _ free in
+      let f = passes (c .closed) (leb 1000000 (c .steps)) (inRange n) _ free in
       record { isOpen = f .0; few = leb-false 1000000 (c .steps) (f .1); ranged = f .2 }
 
-  -- its item is in the catalog and has room
-  free-item : kind ≢ 76 → (i < c .n) × (getD (c .blocks) i 0 ≤ c .k)
-  free-item n =
-      let f = item-passes (ltb i (c .n)) (leb (itemAt (catalogOf c) i .blocks) (c .k)) (sym (asked c kind i m free-ranged n) ∙ free) in
-      let l : i < c .n = ltb-true i (c .n) (f .0) in
-      let b : itemAt (catalogOf c) i .blocks ≤ c .k = leb-true _ (c .k) (f .1) in
-      (l, subst (λ (z : ℕ). z ≤ c .k) (blocks-is c i l) b)
+  item-free : itemAnswer c n ≡ 0
+  item-free = table-item c n free-ranged ∙ free
 
-  -- the minutes of a write are in range
-  free-minutes : kind ≢ 76 → kind ≢ 82 → m ≤ 1440
-  free-minutes n r = go (eqb kind 87) (leb i 255) (leb m 1440) refl (sym shut ∙ free-ranged .ranged)
-    where
-      shut : inRange kind i m ≡ cond (eqb kind 87) (cond (leb i 255) (leb m 1440) false) false
-      shut = rw (ne-eqb kind 82 r, ne-eqb kind 76 n)
+  -- an arrival has the next number, and its values are in range
+  module _ (e : n .kind ≡ 65) where
+    free-next : n .item ≡ c .n
+    free-next = eqb-true (n .item) (c .n) (next-passes (eqb (n .item) (c .n)) (sym (arrival-asked c n e) ∙ item-free))
 
-      go : (a b d : Bool) → leb m 1440 ≡ d → cond a (cond b d false) false ≡ true → m ≤ 1440
-      go true true true e f = leb-true m 1440 e
-      go true true false e f = absurd (false≢true f)
-      go true false d e f = absurd (false≢true f)
-      go false b d e f = absurd (false≢true f)
+    arrival-ranged : (isItemNumber (n .item) ≡ true) × (itemInRange (listed (n .blocks) (n .load) (n .write)) ≡ true)
+    arrival-ranged = both (isItemNumber (n .item)) _ (rw e at (free-ranged .ranged))
 
-  free-flush : kind ≡ 76 → took (view c) Flush ≡ took (view c) (stepOf kind i m)
+    free-place : c .n < 256
+    free-place = omega (arith, free-next, leb-true (n .item) 255 (arrival-ranged .0))
+
+    free-values : ItemFacts (listed (n .blocks) (n .load) (n .write))
+    free-values = item-facts _ (arrival-ranged .1)
+
+    free-arrive : took (view c) (Arrive (c .n) (n .blocks) (n .load) (n .write)) ≡ took (view c) (stepOf n)
+    free-arrive = ap (took (view c)) (ap (λ (i : ℕ). Arrive i (n .blocks) (n .load) (n .write)) (sym free-next) ∙ sym (step-arrive n e))
+
+  free-flush : n .kind ≡ 76 → took (view c) Flush ≡ took (view c) (stepOf n)
   free-flush e = unfold stepOf in rw e
 
-  -- the room that was made: the item can be served there
-  module _ (n : kind ≢ 76) (ok : Valid c) where
-    below : i < size (stateOf c)
-    below = omega (arith, size-is c, free-item n .0)
+  free-retire : n .kind ≡ 81 → took (view c) (Retire (n .item)) ≡ took (view c) (stepOf n)
+  free-retire e = ap (took (view c)) (sym (step-retire n e))
 
-    small : blocksAt (stateOf c) i ≤ c .k
-    small = subst (λ (z : ℕ). z ≤ c .k) (sym (blocks-is c i (free-item n .0))) (free-item n .1)
+  -- the item of any other step is in the catalog
+  free-known : n .kind ≢ 76 → n .kind ≢ 65 → n .item < c .n
+  free-known f a =
+      let asks = asked c n (names n (free-ranged .ranged) f a) in
+      ltb-true (n .item) (c .n) (item-passes (ltb (n .item) (c .n)) (itemAt (catalogOf c) (n .item) .left) (asks .0) (sym (asks .1) ∙ item-free) .0)
 
-    free-ready : CanServe (moved (view c) (makeRoom (splitOf (c .rule)) (c .k) i (stateOf c)) (c .closed)) i
-    free-ready =
-        room-ready (splitOf (c .rule)) (view c) i (deduction-ok (c .rule)) (record { standing = ok .rule; few = free-ranged .few; isOpen = free-ranged .isOpen }) below small
+  -- a read or a write: its item has not left, and has room
+  module _ (f : n .kind ≢ 76) (a : n .kind ≢ 65) (q : n .kind ≢ 81) where
+    free-stays : itemAt (catalogOf c) (n .item) .left ≡ false
+    free-stays = item-passes (ltb (n .item) (c .n)) _ _ (sym (request-asked c n (free-ranged .ranged) f a q) ∙ item-free) .1
 
-    module _ (room : Cache) (made : view room ≡ moved (view c) (makeRoom (splitOf (c .rule)) (c .k) i (stateOf c)) (c .closed)) where
-      together : (b : State → Moved) → moved (view room) (b (stateOf room)) (room .closed) ≡ moved (view c) (joined (makeRoom (splitOf (c .rule)) (c .k) i (stateOf c)) (b (makeRoom (splitOf (c .rule)) (c .k) i (stateOf c) .state))) (c .closed)
-      together b =
-          ap (λ (z : Standing). moved z (b (z .state)) (z .closed)) made
-          ∙ sym (moved-joined (view c) (makeRoom (splitOf (c .rule)) (c .k) i (stateOf c)) (b (makeRoom (splitOf (c .rule)) (c .k) i (stateOf c) .state)) (c .closed)
-          (make-room (splitOf (c .rule)) (c .k) i (stateOf c) (deduction-ok (c .rule)) below small .catalog))
+    free-fits : getD (c .blocks) (n .item) 0 ≤ c .k
+    free-fits =
+        let asks = item-passes (ltb (n .item) (c .n)) (itemAt (catalogOf c) (n .item) .left) _ (sym (request-asked c n (free-ranged .ranged) f a q) ∙ item-free) in
+        let b : itemAt (catalogOf c) (n .item) .blocks ≤ c .k = leb-true _ (c .k) (room-passes _ (asks .2)) in
+        subst (λ (z : ℕ). z ≤ c .k) (blocks-is c (n .item) (free-known f a)) b
 
-      free-read : kind ≡ 82 → moved (view room) (serveRead i (stateOf room)) (room .closed) ≡ took (view c) (stepOf kind i m)
-      free-read e = together (serveRead i) ∙ (unfold took stepOf step in rw (eq-eqb kind 82 e))
+    -- the minutes of a write are in range
+    free-write : n .kind ≢ 82 → n .kind ≡ 87
+    free-write r = go (names n (free-ranged .ranged) f a)
+      where
+        go : Names n → n .kind ≡ 87
+        go (reads e) = absurd (r e)
+        go (writes e) = e
+        go (retires e) = absurd (q e)
 
-      free-write : kind ≢ 82 → moved (view room) (serveWrite i m (stateOf room)) (room .closed) ≡ took (view c) (stepOf kind i m)
-      free-write e = together (serveWrite i m) ∙ told
-        where
-          isWrite : eqb kind 87 ≡ true
-          isWrite = go (eqb kind 87) (rw (ne-eqb kind 82 e, ne-eqb kind 76 n) at (free-ranged .ranged))
-            where
-              go : (a : Bool) → cond a (cond (leb i 255) (leb m 1440) false) false ≡ true → a ≡ true
-              go true f = refl
-              go false f = absurd (false≢true f)
+    free-minutes : n .kind ≢ 82 → n .minutes ≤ 1440
+    free-minutes r = leb-true (n .minutes) 1440 (both (isItemNumber (n .item)) _ (rw (free-write r) at (free-ranged .ranged)) .1)
 
-          told : moved (view c) (joined (makeRoom (splitOf (c .rule)) (c .k) i (stateOf c)) (serveWrite i m (makeRoom (splitOf (c .rule)) (c .k) i (stateOf c) .state))) (c .closed) ≡ took (view c) (stepOf kind i m)
-          told = unfold took stepOf step in rw (ne-eqb kind 82 e, isWrite)
+    -- the room that was made: the item can be served there
+    module _ (ok : Valid c) where
+      abbrev made : Moved
+      made = makeRoom (splitOf (c .rule)) (c .k) (n .item) (stateOf c)
+
+      below : n .item < size (stateOf c)
+      below = omega (arith, size-is c, free-known f a)
+
+      small : blocksAt (stateOf c) (n .item) ≤ c .k
+      small = subst (λ (z : ℕ). z ≤ c .k) (sym (blocks-is c (n .item) (free-known f a))) free-fits
+
+      free-ready : CanServe (moved (view c) made (c .closed)) (n .item)
+      free-ready =
+          room-ready (splitOf (c .rule)) (view c) (n .item) (deduction-ok (c .rule)) (record { standing = ok .rule; few = free-ranged .few; isOpen = free-ranged .isOpen }) below small free-stays
+
+      module _ (room : Cache) (at : view room ≡ moved (view c) made (c .closed)) where
+        together : (b : State → Moved) → moved (view room) (b (stateOf room)) (room .closed) ≡ moved (view c) (joined made (b (made .state))) (c .closed)
+        together b =
+            ap (λ (z : Standing). moved z (b (z .state)) (z .closed)) at
+            ∙ sym (moved-joined (view c) made (b (made .state)) (c .closed) (make-room (splitOf (c .rule)) (c .k) (n .item) (stateOf c) (deduction-ok (c .rule)) below small .catalog))
+
+        read-taken : n .kind ≡ 82 → moved (view room) (serveRead (n .item) (stateOf room)) (room .closed) ≡ took (view c) (stepOf n)
+        read-taken e = together (serveRead (n .item)) ∙ one ∙ ap (took (view c)) (sym (step-read n e))
+          where
+            one : moved (view c) (joined made (serveRead (n .item) (made .state))) (c .closed) ≡ took (view c) (Read (n .item))
+            one = unfold took step in refl
+
+        write-taken : n .kind ≢ 82 → moved (view room) (serveWrite (n .item) (n .minutes) (stateOf room)) (room .closed) ≡ took (view c) (stepOf n)
+        write-taken r = together (serveWrite (n .item) (n .minutes)) ∙ one ∙ ap (took (view c)) (sym (step-write n (free-write r)))
+          where
+            one : moved (view c) (joined made (serveWrite (n .item) (n .minutes) (made .state))) (c .closed) ≡ took (view c) (Write (n .item) (n .minutes))
+            one = unfold took step in refl
 
 -- the same of the bytes of a state
-module _ (b : List ℕ) (kind i m : ℕ) (p : TablePasses b kind i m) where
+module _ (b : List ℕ) (n : Numbers) (p : TablePasses b n) where
   so : {u v : Standing} {left : List ℕ} → u ≡ v → BecomesAt u left → BecomesAt v left
   so {left = left} e h = subst (λ (z : Standing). BecomesAt z left) e h
 
+  few : cacheOf b .steps < 1000000
+  few = free-ranged (cacheOf b) n (p .free) .few
+
   pub passed-steps : SteppableAt b
-  passed-steps = record { valid = p .valid; room = free-ranged (cacheOf b) kind i m (p .free) .few }
+  passed-steps = record { valid = p .valid; room = few }
 
   pub passed-flush :
       (left : List ℕ) →
-      kind ≡ 76 →
+      n .kind ≡ 76 →
       BecomesAt (took (view (cacheOf b)) Flush) left →
-      BecomesAt (took (view (cacheOf b)) (stepOf kind i m)) left
-  passed-flush left e h = so (free-flush (cacheOf b) kind i m (p .free) e) h
+      BecomesAt (took (view (cacheOf b)) (stepOf n)) left
+  passed-flush left e h = so (free-flush (cacheOf b) n (p .free) e) h
 
-  pub passed-minutes : kind ≢ 76 → kind ≢ 82 → m ≤ 1440
-  passed-minutes = free-minutes (cacheOf b) kind i m (p .free)
+  pub passed-values : n .kind ≡ 65 → ItemFacts (listed (n .blocks) (n .load) (n .write))
+  passed-values = free-values (cacheOf b) n (p .free)
 
-  pub passed-wanted : kind ≢ 76 → WantedAt b i
-  passed-wanted n =
-      let f = free-item (cacheOf b) kind i m (p .free) n in
-      record { valid = p .valid; known = f .0; fits = f .1 }
+  pub passed-arrives : n .kind ≡ 65 → ArrivableAt b
+  passed-arrives e = record { valid = p .valid; room = few; few = free-place (cacheOf b) n (p .free) e }
 
-  module _ (n : kind ≢ 76) (room : List ℕ) (made : BecomesAt (moved (view (cacheOf b)) (makeRoom (splitOf (cacheOf b .rule)) (cacheOf b .k) i (stateOf (cacheOf b))) (cacheOf b .closed)) room) where
-    pub room-servable : ServableAt room i
-    room-servable =
-        let ready = free-ready (cacheOf b) kind i m (p .free) n (p .valid .cache) in
-        let r : CanServe (view (cacheOf room)) i = subst (λ (z : Standing). CanServe z i) (sym (made .cache .stands)) ready in
-        record {
-          valid = becomes-valid (ready .taking .standing) made;
-          item = omega (arith, size-is (cacheOf room), r .below);
-          room = r .taking .few;
-        }
+  pub passed-arrived :
+      (left : List ℕ) →
+      n .kind ≡ 65 →
+      BecomesAt (took (view (cacheOf b)) (Arrive (cacheOf b .n) (n .blocks) (n .load) (n .write))) left →
+      BecomesAt (took (view (cacheOf b)) (stepOf n)) left
+  passed-arrived left e h = so (free-arrive (cacheOf b) n (p .free) e) h
 
-    pub read-took :
+  module _ (f : n .kind ≢ 76) (a : n .kind ≢ 65) where
+    pub passed-place : n .item < 256
+    passed-place = omega (arith, free-known (cacheOf b) n (p .free) f a, p .valid .cache .fields .few)
+
+    pub passed-leaves : ServableAt b (n .item)
+    passed-leaves = record { valid = p .valid; item = free-known (cacheOf b) n (p .free) f a; room = few }
+
+    pub passed-left :
         (left : List ℕ) →
-        kind ≡ 82 →
-        BecomesAt (moved (view (cacheOf room)) (serveRead i (stateOf (cacheOf room))) (cacheOf room .closed)) left →
-        BecomesAt (took (view (cacheOf b)) (stepOf kind i m)) left
-    read-took left e h = so (free-read (cacheOf b) kind i m (p .free) n (p .valid .cache) (cacheOf room) (made .cache .stands) e) h
+        n .kind ≡ 81 →
+        BecomesAt (took (view (cacheOf b)) (Retire (n .item))) left →
+        BecomesAt (took (view (cacheOf b)) (stepOf n)) left
+    passed-left left e h = so (free-retire (cacheOf b) n (p .free) e) h
 
-    pub write-took :
-        (left : List ℕ) →
-        kind ≢ 82 →
-        BecomesAt (moved (view (cacheOf room)) (serveWrite i m (stateOf (cacheOf room))) (cacheOf room .closed)) left →
-        BecomesAt (took (view (cacheOf b)) (stepOf kind i m)) left
-    write-took left e h = so (free-write (cacheOf b) kind i m (p .free) n (p .valid .cache) (cacheOf room) (made .cache .stands) e) h
+    module _ (q : n .kind ≢ 81) where
+      pub passed-minutes : n .kind ≢ 82 → n .minutes ≤ 1440
+      passed-minutes = free-minutes (cacheOf b) n (p .free) f a q
+
+      pub passed-wanted : WantedAt b (n .item)
+      passed-wanted = record { valid = p .valid; known = free-known (cacheOf b) n (p .free) f a; fits = free-fits (cacheOf b) n (p .free) f a q }
+
+      module _ (room : List ℕ) (at : BecomesAt (moved (view (cacheOf b)) (makeRoom (splitOf (cacheOf b .rule)) (cacheOf b .k) (n .item) (stateOf (cacheOf b))) (cacheOf b .closed)) room) where
+        pub room-servable : ServableAt room (n .item)
+        room-servable =
+            let ready = free-ready (cacheOf b) n (p .free) f a q (p .valid .cache) in
+            let r : CanServe (view (cacheOf room)) (n .item) = subst (λ (z : Standing). CanServe z (n .item)) (sym (at .cache .stands)) ready in
+            record {
+              valid = becomes-valid (ready .taking .standing) at;
+              item = omega (arith, size-is (cacheOf room), r .below);
+              room = r .taking .few;
+            }
+
+        pub read-took :
+            (left : List ℕ) →
+            n .kind ≡ 82 →
+            BecomesAt (moved (view (cacheOf room)) (serveRead (n .item) (stateOf (cacheOf room))) (cacheOf room .closed)) left →
+            BecomesAt (took (view (cacheOf b)) (stepOf n)) left
+        read-took left e h = so (read-taken (cacheOf b) n (p .free) f a q (p .valid .cache) (cacheOf room) (at .cache .stands) e) h
+
+        pub write-took :
+            (left : List ℕ) →
+            n .kind ≢ 82 →
+            BecomesAt (moved (view (cacheOf room)) (serveWrite (n .item) (n .minutes) (stateOf (cacheOf room))) (cacheOf room .closed)) left →
+            BecomesAt (took (view (cacheOf b)) (stepOf n)) left
+        write-took left r h = so (write-taken (cacheOf b) n (p .free) f a q (p .valid .cache) (cacheOf room) (at .cache .stands) r) h

@@ -4,8 +4,8 @@
 use mathlib.Core.{Path._≡_, Logic._≢_, Bool.cond, List.{List, [], _∷_}}
 use Prim.Native.Nat.{ℕ, _<_, _+_, _*_, _/_}
 use lib.{Dec.eqb, ListN.{length, getD, take, drop}, Seq.sets}
-use Rattle.types.specs.declared.Deduction.{Deduction}
-use Rattle.types.specs.Types.{deductionOf}
+use Rattle.types.specs.declared.{Deduction.Deduction, Numbers.Numbers}
+use Rattle.types.specs.Types.{deductionOf, numbersFrom}
 use Rattle.landlord.specs.{Slot.splitOf, Figures.{Standing, season, totalCost}, Calls.{Call, refusalNow, after, close, logOf, refusal, ruleOver, stepCall}, Catalog.Catalog, Claims.WithinBound, Fold.tab}
 use Rattle.catalog_bytes.specs.Catalogs.{catalogIn}
 use Rattle.cache_state.specs.Cache.{view}
@@ -34,7 +34,8 @@ pub record Called {C : Type 0} (kind : Kind C) (c : C) (call : Call) (number : �
   pub fine : kind .Valid c → Answers kind c call number d
   pub invalid : (kind .Valid c → ⊥) → (number ≡ 17) × (d ≡ c)
 
--- ---- the season as one list: each call is handed the state that the last one handed back or left in the lent bytes
+-- ---- the season as one list: each call is handed the state that the last one handed back or left in the lent bytes. `cat` is the
+-- opening's catalog: the rule, the table and a rival plan go by it with the log's arrivals and departures (landlord's `catalogNext`).
 
 -- from c, by these calls with these numbers as answers, to d
 pub data Follows {C : Type 0} (kind : Kind C) : C → List Call → List ℕ → C → Type 0 where
@@ -92,12 +93,15 @@ pub record SeasonLent (k : ℕ) (r : Deduction) (cat : Catalog) (calls : List Ca
 
 -- ---- a list of calls as one slice of numbers, and what running it gives
 
--- The calls that numbers stand for, four to a call: 0 and then a step's kind, item and minutes; or another number, and it is the
--- closing. A remainder is no call.
+-- a step's six numbers, behind a place of a list
+abbrev pub numbersBehind : List ℕ → ℕ → Numbers
+numbersBehind xs at =
+    numbersFrom (getD xs (at + 1) 0) (getD xs (at + 2) 0) (getD xs (at + 3) 0) (getD xs (at + 4) 0) (getD xs (at + 5) 0) (getD xs (at + 6) 0)
+
+-- The calls that numbers stand for, seven to a call: 0 and then a step's kind, item, minutes, blocks, load cost and write cost; or
+-- another number, and it is the closing. A remainder is no call.
 unfoldable pub callsOf : List ℕ → List Call
-callsOf xs =
-    tab (length xs / 4) λ i.
-    cond (eqb (getD xs (4 * i) 0) 0) (stepCall (getD xs (4 * i + 1) 0) (getD xs (4 * i + 2) 0) (getD xs (4 * i + 3) 0)) close
+callsOf xs = tab (length xs / 7) λ i. cond (eqb (getD xs (7 * i) 0) 0) (stepCall (numbersBehind xs (7 * i))) close
 
 -- The season theorem of the arguments alone: a refused opening leaves every byte and every answer as it was; else the three
 -- conclusions hold of the answers noted and of the bytes left.

@@ -1,37 +1,45 @@
 // The calls on a state, in place on its bytes: step and close. Every refusal is decided before the first store, so a refused call leaves
 // every byte as it was.
 ghost use mathlib.Core.Path.{_≡_};
+ghost use mathlib.Core.Bool.{true};
+ghost use Rattle.types.specs.Types.{stepOf};
 ghost use Rattle.landlord.specs.Figures.{took};
-ghost use Rattle.landlord.specs.Calls.{refusalNow, stepOf, stepCall, close};
-ghost use Rattle.cache_state.specs.Cache.{view};
+ghost use Rattle.landlord.specs.Calls.{inRange, itemRefusal, refusalNow, stepCall, close};
+ghost use Rattle.cache_state.specs.Cache.{catalogOf, view};
 ghost use Rattle.layout.specs.Layout.{cacheOf, ValidBytes};
 ghost use Rattle.layout.specs.Inner.{BecomesAt};
 ghost use Rattle.cache.specs.Contract.{lent, Answers, Called};
 ghost use Rattle.cache.specs.Inner.{TablePasses};
+use types::Numbers;
 
 // ---- a step
 
-// The number that the table of refusals gives a step on a valid state: 9, 8, 3, 6, 7 in this order, or 0.
-fn refused(b: &[u8], kind: u32, item: u32, minutes: u32) -> u32
-    requires { ⌜ ValidBytes (now b) ⌝ }
-    ensures { λ r. ⌜ r ≡ refusalNow (view (cacheOf (now (b .entry)))) (stepCall kind item minutes) ⌝ }
+// What the table says of a step in range on a valid state, by its item: 19 for an arrival, else 6, 20, 7 in this order, or 0.
+fn item_refused(b: &[u8], n: Numbers) -> u32
+    requires { ⌜ ValidBytes (now b) × (inRange n ≡ true) ⌝ }
+    ensures { λ r. ⌜ r ≡ itemRefusal (cacheOf (now (b .entry)) .k) (catalogOf (cacheOf (now (b .entry)))) (stepOf n) ⌝ }
 {
-    if layout::closed(b) {
-        return 9;
-    }
-    if 1000000 <= layout::steps(b) {
-        return 8;
-    }
-    if !landlord::in_range(kind, item, minutes) {
-        return 3;
-    }
     // A flush has no item.
-    if kind == 76 {
+    if n.kind == 76 {
         return 0;
     }
-    let i = item as usize;
-    if layout::count(b) <= i {
+    let i = n.item as usize;
+    let count = layout::count(b);
+    if n.kind == 65 {
+        if i == count {
+            return 0;
+        }
+        return 19;
+    }
+    if count <= i {
         return 6;
+    }
+    if layout::is_left(b, i) {
+        return 20;
+    }
+    // A retirement needs no room.
+    if n.kind == 81 {
+        return 0;
     }
     if layout::capacity(b) < (layout::blocks(b, i) as u32) {
         return 7;
@@ -39,46 +47,71 @@ fn refused(b: &[u8], kind: u32, item: u32, minutes: u32) -> u32
     0
 }
 
-// A step that the table does not refuse: room is made for its item, and it is served.
-fn serve(b: &mut [u8], kind: u32, item: u32, minutes: u32)
-    requires { ⌜ TablePasses (now b) kind item minutes ⌝ }
-    ensures { λ _. ⌜ BecomesAt (took (view (cacheOf (now (b .entry)))) (stepOf kind item minutes)) (now (b .exit)) ⌝ }
+// The number that the table of refusals gives a step on a valid state: 9, 8, 3, then what it says of the item.
+fn refused(b: &[u8], n: Numbers) -> u32
+    requires { ⌜ ValidBytes (now b) ⌝ }
+    ensures { λ r. ⌜ r ≡ refusalNow (view (cacheOf (now (b .entry)))) (stepCall n) ⌝ }
 {
-    if kind == 76 {
+    if layout::closed(b) {
+        return 9;
+    }
+    if 1000000 <= layout::steps(b) {
+        return 8;
+    }
+    if !landlord::in_range(n) {
+        return 3;
+    }
+    item_refused(b, n)
+}
+
+// A step that the table does not refuse: a flush, an arrival, a retirement; or room is made for its item, and it is served.
+fn serve(b: &mut [u8], n: Numbers)
+    requires { ⌜ TablePasses (now b) n ⌝ }
+    ensures { λ _. ⌜ BecomesAt (took (view (cacheOf (now (b .entry)))) (stepOf n)) (now (b .exit)) ⌝ }
+{
+    if n.kind == 76 {
         cache_serve::flush_step(b);
         return;
     }
-    let i = item as usize;
+    if n.kind == 65 {
+        cache_arrivals::arrive(b, n.blocks as u8, n.load as u16, n.write as u16);
+        return;
+    }
+    let i = n.item as usize;
+    if n.kind == 81 {
+        cache_arrivals::retire(b, i);
+        return;
+    }
     cache_room::make_room(b, i);
-    if kind == 82 {
+    if n.kind == 82 {
         cache_serve::serve_read(b, i);
         return;
     }
-    cache_serve::serve_write(b, i, minutes);
+    cache_serve::serve_write(b, i, n.minutes);
 }
 
 // A step by its numbers, on a valid state: as the table says.
-pub fn step_valid(b: &mut [u8], kind: u32, item: u32, minutes: u32) -> u32
+pub fn step_valid(b: &mut [u8], n: Numbers) -> u32
     requires { ⌜ ValidBytes (now b) ⌝ }
-    ensures { λ r. ⌜ Answers lent (now (b .entry)) (stepCall kind item minutes) r (now (b .exit)) ⌝ }
+    ensures { λ r. ⌜ Answers lent (now (b .entry)) (stepCall n) r (now (b .exit)) ⌝ }
 {
-    let number = refused(b, kind, item, minutes);
+    let number = refused(b, n);
     if number != 0 {
         return number;
     }
-    serve(b, kind, item, minutes);
+    serve(b, n);
     0
 }
 
-// A step by its numbers, on any bytes: 17 if they are no valid state, else as the table says. `kind` is the code of its letter,
-// 82 for R, 87 for W, 76 for L.
-pub fn step(b: &mut [u8], kind: u32, item: u32, minutes: u32) -> u32
-    ensures { λ r. ⌜ Called lent (now (b .entry)) (stepCall kind item minutes) r (now (b .exit)) ⌝ }
+// A step by its numbers, on any bytes: 17 if they are no valid state, else as the table says. Its kind is the code of its letter, 82 for R,
+// 87 for W, 76 for L, 65 for A, 81 for Q.
+pub fn step(b: &mut [u8], n: Numbers) -> u32
+    ensures { λ r. ⌜ Called lent (now (b .entry)) (stepCall n) r (now (b .exit)) ⌝ }
 {
     if !cache_check::valid(b) {
         return 17;
     }
-    step_valid(b, kind, item, minutes)
+    step_valid(b, n)
 }
 
 // ---- the closing

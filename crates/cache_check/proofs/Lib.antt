@@ -1,3 +1,4 @@
 mod Blanks
+mod Gone
 mod Past
 mod Sums

@@ -1,6 +1,6 @@
--- The places past the catalog: the ten tests of them find `PastOk`, no less and no more. Assumes nothing.
+-- The places past the catalog: the eleven tests of them find `PastOk`, no less and no more. Assumes nothing.
 use mathlib.Core.Path.{_≡_}
-use mathlib.Core.Bool.{true}
+use mathlib.Core.Bool.{Bool, true}
 use mathlib.Core.List.{List}
 use Prim.Native.Nat.{ℕ, _+_, _≤_, _<_}
 use native.Mathlib.Decide.{decLt}
@@ -17,9 +17,9 @@ use Rattle.validity.specs.InnerDecided.{Decided}
 use Rattle.validity.proofs.Decides.{clash}
 use Rattle.layout.specs.Layout.{cacheOf}
 use Rattle.layout.specs.InnerRows.{atLoadCredits, atWriteCredits, atMinutes, atItemLoads, atItemWritebacks, atItemLoadCosts, atItemWriteCosts, atBlocks, atHeld}
-use Rattle.cache_check.specs.Inner.{BlankRun, BlankFlags}
+use Rattle.cache_check.specs.Inner.{BlankRun, BlankFlags, BlankMarks}
 
--- what the nine tests of runs find; the tenth is of the dirty marks
+-- what the first ten tests find; the last is of the marks of the items that have left
 pub record RunsBlank (b : List ℕ) (n : ℕ) : Type 0 where
   pub loadCredit : BlankRun b atLoadCredits 8 n
   pub writeCredit : BlankRun b atWriteCredits 8 n
@@ -30,6 +30,7 @@ pub record RunsBlank (b : List ℕ) (n : ℕ) : Type 0 where
   pub write : BlankRun b atItemWriteCosts 2 n
   pub blocks : BlankRun b atBlocks 1 n
   pub held : BlankFlags b atHeld n
+  pub dirty : BlankMarks (cacheOf b .dirty) n
 
 module _ (b : List ℕ) (n : ℕ) (e : n ≡ cacheOf b .n) where
   pub runs-blank : PastOk (cacheOf b) → RunsBlank b n
@@ -44,13 +45,14 @@ module _ (b : List ℕ) (n : ℕ) (e : n ≡ cacheOf b .n) where
         write = record { each = λ i l m. here i l m .write };
         blocks = record { each = λ i l m. here i l m .blocks };
         held = record { each = λ i l m. here i l m .place .held };
+        dirty = record { each = λ i l m. here i l m .place .slot .dirty };
       }
     where
       here : (i : ℕ) → n ≤ i → i < 256 → Blank (cacheOf b) i
       here i l m = p .each i (omega arith) m
 
-  pub past-so : (r : ℕ) → n ≤ 256 → r ≡ n + firstSet (drop n (marks (cacheOf b .dirty))) → RunsBlank b n → Decided (PastOk (cacheOf b)) (leb 256 r)
-  past-so r few is a =
+  pub past-so : {r : Bool} → RunsBlank b n → Decided (BlankMarks (cacheOf b .left) n) r → Decided (PastOk (cacheOf b)) r
+  past-so a d =
       record {
         yes = λ t.
             record {
@@ -62,7 +64,7 @@ module _ (b : List ℕ) (n : ℕ) (e : n ≡ cacheOf b .n) where
                           held = a .held .each i k m;
                           slot =
                               record {
-                                dirty = mark .before i k (omega (arith, leb-true 256 r t));
+                                dirty = a .dirty .each i k m;
                                 loadCredit = a .loadCredit .each i k m;
                                 writeCredit = a .writeCredit .each i k m;
                               };
@@ -73,14 +75,23 @@ module _ (b : List ℕ) (n : ℕ) (e : n ≡ cacheOf b .n) where
                     blocks = a .blocks .each i k m;
                     load = a .load .each i k m;
                     write = a .write .each i k m;
+                    left = d .yes t .each i k m;
                   };
             };
-        only = λ p. past (decLt r 256) p;
+        only = λ p. d .only (record { each = λ i l m. p .each i (omega arith) m .left });
       }
-    where
-      mark : NextMark (cacheOf b .dirty) n r
-      mark = next-is (cacheOf b .dirty) n r few is
 
-      past : Dec (r < 256) → PastOk (cacheOf b) → leb 256 r ≡ true
-      past (yes l) p = clash (marked (cacheOf b .dirty) r) (mark .here l) (p .each r (omega (arith, mark .after)) l .place .slot .dirty)
-      past (no l) p = le-leb 256 r (omega arith)
+-- marks are not set from n on exactly if the next one that is set is none
+pub marks-so : (ws : List ℕ) (n r : ℕ) → n ≤ 256 → r ≡ n + firstSet (drop n (marks ws)) → Decided (BlankMarks ws n) (leb 256 r)
+marks-so ws n r few is =
+    record {
+      yes = λ t. record { each = λ i l m. mark .before i l (omega (arith, leb-true 256 r t)) };
+      only = λ p. past (decLt r 256) p;
+    }
+  where
+    mark : NextMark ws n r
+    mark = next-is ws n r few is
+
+    past : Dec (r < 256) → BlankMarks ws n → leb 256 r ≡ true
+    past (yes l) p = clash (marked ws r) (mark .here l) (p .each r (mark .after) l)
+    past (no l) p = le-leb 256 r (omega arith)

@@ -7,13 +7,14 @@ ghost use Prim.Native.Nat.{_≤_, _<_};
 ghost use lib.ListN.{length, getD};
 ghost use Rattle.landlord.specs.Fold.{sumTo};
 ghost use Rattle.landlord.specs.Rule.{used, heldCount};
+ghost use Rattle.marks.specs.Inner.{marks, countSet};
 ghost use Rattle.validity.specs.InnerDecided.{Decided};
 ghost use Rattle.validity.specs.Inner.{CountsOk};
 ghost use Rattle.cache_state.specs.Cache.{Valid};
 ghost use Rattle.cache_state.specs.InnerView.{stateOf, countsOf};
-ghost use Rattle.cache_state.specs.InnerParts.{PastOk, EntriesOk, SumsOf};
+ghost use Rattle.cache_state.specs.InnerParts.{PastOk, EntriesOk, LeftOk, SumsOf};
 ghost use Rattle.layout.specs.Layout.{stateBytes, cacheOf, ValidBytes};
-ghost use Rattle.cache_check.specs.Inner.{Zeros, BlankRun, BlankFlags, RunAt, CountedItems};
+ghost use Rattle.cache_check.specs.Inner.{Zeros, BlankRun, BlankFlags, BlankMarks, RunAt, CountedItems};
 
 // Whether every byte from one place to another is 0. One test at the end, so that the loop goes by vectors.
 fn zeros(b: &[u8], from: usize, to: usize) -> bool
@@ -43,6 +44,14 @@ fn flags_blank(b: &[u8], at: usize, n: usize) -> bool
     ensures { λ r. ⌜ Decided (BlankFlags (now (b .entry)) at n) r ⌝ }
 {
     zeros(b, at + n, at + 256)
+}
+
+// Whether the marks past the first `n` are not set.
+fn marks_blank(words: [u64; 4], n: usize) -> bool
+    requires { ⌜ n ≤ 256 ⌝ }
+    ensures { λ r. ⌜ Decided (BlankMarks words n) r ⌝ }
+{
+    256 <= marks::next(words, n)
 }
 
 // Whether every place past the catalog is blank.
@@ -77,7 +86,10 @@ fn past_ok(b: &[u8], n: usize) -> bool
     if !flags_blank(b, layout::AT_HELD, n) {
         return false;
     }
-    256 <= marks::next(layout::dirty(b), n)
+    if !marks_blank(layout::dirty(b), n) {
+        return false;
+    }
+    marks_blank(layout::left(b), n)
 }
 
 // Whether every item of the catalog is as it should be.
@@ -106,6 +118,34 @@ fn entries_ok(b: &[u8], n: usize) -> bool
         i += 1;
     }
     true
+}
+
+// Whether no item that has left is held. It goes from mark to mark: where no item has left, the four words are all that is looked at.
+fn left_ok(b: &[u8], n: usize) -> bool
+    requires { ⌜ CountedItems (now b) n ⌝ }
+    ensures { λ r. ⌜ Decided (LeftOk (cacheOf (now (b .entry)))) r ⌝ }
+{
+    let left = layout::left(b);
+    let mut i = marks::next(left, 0);
+    while i < n {
+        if layout::held(b, i) {
+            return false;
+        }
+        i = marks::next(left, i + 1);
+    }
+    true
+}
+
+// How many items have left. Where none has, as in most seasons, no mark is counted.
+fn left_count(b: &[u8]) -> u32
+    requires { ⌜ length (now b) ≡ stateBytes ⌝ }
+    ensures { λ r. ⌜ r ≡ countSet (marks (cacheOf (now (b .entry)) .left)) ⌝ }
+{
+    let left = layout::left(b);
+    if 256 <= marks::next(left, 0) {
+        return 0;
+    }
+    marks::count(left)
 }
 
 // What an item adds to a sum over the held items. The bound is for the sums.
@@ -197,6 +237,8 @@ fn sums_ok(b: &[u8], n: usize) -> bool
         layout::steps(b),
         loads_counted(b, n),
         writebacks_counted(b, n),
+        layout::retirements(b),
+        left_count(b),
     )
 }
 
@@ -216,6 +258,8 @@ fn counts_ok(b: &[u8]) -> bool
         layout::writebacks(b),
         layout::write_cost(b),
         layout::flushes(b),
+        layout::arrivals(b),
+        layout::retirements(b),
     )
 }
 
@@ -232,6 +276,9 @@ fn cache_ok(b: &[u8]) -> bool
         return false;
     }
     if !entries_ok(b, n) {
+        return false;
+    }
+    if !left_ok(b, n) {
         return false;
     }
     if !sums_ok(b, n) {

@@ -41,7 +41,7 @@ abbrev pub started : ℕ → Catalog → Bool → Deduction → Standing
 started k cat isClosed r = record { k = k; state = emptied cat; figures = nothing cat; closed = isClosed; split = splitOf r }
 
 -- the empty cache with n items stands where the rule starts with their catalog
-module _ (k n : ℕ) (item : ℕ → Item) (isClosed : Bool) (r : Deduction) (blocks load write : List ℕ) (few : n ≤ 256) (b : Column n (λ i. item i .blocks) blocks) (l : Column n (λ i. item i .load) load) (w : Column n (λ i. item i .write) write) where
+module _ (k n : ℕ) (item : ℕ → Item) (isClosed : Bool) (r : Deduction) (blocks load write : List ℕ) (few : n ≤ 256) (b : Column n (λ i. item i .blocks) blocks) (l : Column n (λ i. item i .load) load) (w : Column n (λ i. item i .write) write) (stays : (i : ℕ) → item i .left ≡ false) where
   abbrev new : Cache
   new = emptyWith k n blocks load write isClosed r
 
@@ -50,7 +50,7 @@ module _ (k n : ℕ) (item : ℕ → Item) (isClosed : Bool) (r : Deduction) (bl
 
   same-catalog : catalogOf new ≡ tab n item
   unfolding catalogOf
-  same-catalog = tab-eq n _ _ (λ i m z. record { blocks = b .front i m z; load = l .front i m z; write = w .front i m z })
+  same-catalog = tab-eq n _ _ (λ i m z. record { blocks = b .front i m z; load = l .front i m z; write = w .front i m z; left = (unmarked i (omega (arith, few)) ∙ sym (stays i)) z })
 
   same-length : n ≡ length (tab n item)
   same-length = sym (tab-length n item)
@@ -66,7 +66,7 @@ module _ (k n : ℕ) (item : ℕ → Item) (isClosed : Bool) (r : Deduction) (bl
       record { minutes = p .minutes z; loads = p .loads z; writebacks = p .writebacks z })
 
   past : (i : ℕ) → n ≤ i → i < 256 → Blank new i
-  past i m u = record { place = place i u; blocks = b .rest i m u; load = l .rest i m u; write = w .rest i m u }
+  past i m u = record { place = place i u; blocks = b .rest i m u; load = l .rest i m u; write = w .rest i m u; left = unmarked i u }
 
   pub empty-becomes : Becomes (started k (tab n item) isClosed r) (emptyWith k n blocks load write isClosed r)
   unfolding slotsOf usesOf
@@ -75,7 +75,7 @@ module _ (k n : ℕ) (item : ℕ → Item) (isClosed : Bool) (r : Deduction) (bl
         stands = λ z. record {
           k = k;
           state = record { catalog = same-catalog z; slots = (slots ∙ ap (λ (m : ℕ). tab m (λ i. absent)) same-length) z };
-          figures = record { totals = totalsOf 0 0 0 0 0 0 0 0 0; uses = (uses ∙ ap (λ (m : ℕ). tab m (λ i. noUse)) same-length) z };
+          figures = record { totals = totalsOf 0 0 0 0 0 0 0 0 0 0 0; uses = (uses ∙ ap (λ (m : ℕ). tab m (λ i. noUse)) same-length) z };
           closed = isClosed;
           split = splitOf r;
         };

@@ -10,13 +10,13 @@ use lib.ListN.{length, set, replicate, getD-replicate, length-replicate}
 use borrow.Author.Tests.{eq-eqb, ne-eqb, le-leb, lt-leb, eqb-true, leb-true}
 use Rattle.types.specs.declared.Deduction.{Deduction}
 use Rattle.types.specs.Types.{deductionOf}
-use Rattle.landlord.specs.Catalog.{CatalogOk}
+use Rattle.landlord.specs.Catalog.{CatalogOk, noneLeft}
 use Rattle.landlord.specs.Slot.{splitOf}
 use Rattle.landlord.specs.Figures.{opened}
 use Rattle.landlord.specs.Calls.{openingRefusal}
 use Rattle.landlord.specs.Inner.{CapacityFacts}
 use Rattle.landlord.proofs.Valid.{ok-opened}
-use Rattle.landlord.proofs.Ranges.{capacity-facts, capacity-ok, opening-taken, opening-accepts, range-refused, rule-refused}
+use Rattle.landlord.proofs.Ranges.{capacity-facts, capacity-ok, listed-none-left, opening-taken, opening-accepts, range-refused, rule-refused}
 use Rattle.fields.specs.Inner.{Below}
 use Rattle.catalog_bytes.specs.Catalogs.{itemIn, catalogIn}
 use Rattle.catalog_bytes.specs.Inner.{HasItem}
@@ -80,11 +80,15 @@ module _ (size k rule : ℕ) (xs : List ℕ) where
     unfolding catalogIn
     good = blocks-catalog (length xs / 5) (itemIn xs) (omega (arith, s .few)) ok (λ i. omega (arith, load-lt xs i bytes)) (λ i. omega (arith, write-lt xs i bytes))
 
+    new : noneLeft (catalogIn xs) ≡ true
+    unfolding catalogIn
+    new = listed-none-left (length xs / 5) (λ i. itemIn xs i .blocks) (λ i. itemIn xs i .load) (λ i. itemIn xs i .write)
+
     pub rule-odd : 1 < rule → 18 ≡ openingNumber size k rule xs
-    rule-odd l = rule-refused k rule (catalogIn xs) (capacity-ok k room) good (lt-leb rule 1 l) ∙ sym (asks s)
+    rule-odd l = rule-refused k rule (catalogIn xs) (capacity-ok k room) good new (lt-leb rule 1 l) ∙ sym (asks s)
 
     pub all-taken : rule ≤ 1 → 0 ≡ openingNumber size k rule xs
-    all-taken l = sym (asks s ∙ opening-accepts k rule (catalogIn xs) (capacity-ok k room) good (le-leb rule 1 l))
+    all-taken l = sym (asks s ∙ opening-accepts k rule (catalogIn xs) (capacity-ok k room) good new (le-leb rule 1 l))
 
 -- an opening that was not refused has passed them all
 pub record Right (size k rule : ℕ) (xs : List ℕ) : Type 0 where
@@ -129,7 +133,7 @@ entered-more c xs i {x = x} {y = y} {z = z} s ex ey ez p q r =
     (ap (λ (d : Cache). withItemWriteCost d i z) (q .cache)
     ∙ ap (λ (d : Cache). withItemWriteCost (withItemLoadCost d i y) i z) (p .cache)
     ∙ ap (λ (d : Cache). withItemWriteCost (withItemLoadCost (withBlocks d i x) i y) i z) (s .cache)
-    ∙ (λ j. withCatalog c (c .k) (c .n) (stored (λ n. itemIn xs n .blocks) (c .blocks) ex j) (stored (λ n. itemIn xs n .load) (c .load) ey j) (stored (λ n. itemIn xs n .write) (c .write) ez j)))
+    ∙ (λ j. withCatalog c (c .k) (c .n) (stored (λ n. itemIn xs n .blocks) (c .blocks) ex j) (stored (λ n. itemIn xs n .load) (c .load) ey j) (stored (λ n. itemIn xs n .write) (c .write) ez j) (c .left)))
   where
     stored : (f : ℕ → ℕ) (l : List ℕ) {v : ℕ} → v ≡ f i → set (storeTo i f l) i v ≡ storeTo (i + 1) f l
     stored f l e = ap (set (storeTo i f l) i) e ∙ sym (store-more i f l)
@@ -151,7 +155,7 @@ opened-becomes : (k : ℕ) (r : Deduction) (xs : List ℕ) → length xs / 5 ≤
 unfolding catalogIn
 opened-becomes k r xs few =
     empty-becomes k (length xs / 5) (itemIn xs) false r _ _ _ few (stored-column (length xs / 5) (λ i. itemIn xs i .blocks) few)
-    (stored-column (length xs / 5) (λ i. itemIn xs i .load) few) (stored-column (length xs / 5) (λ i. itemIn xs i .write) few)
+    (stored-column (length xs / 5) (λ i. itemIn xs i .load) few) (stored-column (length xs / 5) (λ i. itemIn xs i .write) few) (λ i. refl)
 
 -- refused, every byte stays; else the bytes were cleared and capacity, count, rule and items stored
 pub opening-refused : (b xs : List ℕ) (k rule n : ℕ) → n ≡ openingNumber (length b) k rule xs → n ≢ 0 → OpenedLent b k rule xs n b
@@ -182,7 +186,7 @@ opening-done b xs k rule n {r = r} {left = left} e z p q u is t s =
     let stood = stands-become so (opened-becomes k (deductionOf rule) xs (omega (arith, ranges .lengths .few))) in
     record {
       answer = sym z ∙ e;
-      valid = λ w. becomes-valid (ok-opened (splitOf (deductionOf rule)) k (catalogIn xs) (good .0) (good .1)) stood;
+      valid = λ w. becomes-valid (ok-opened (splitOf (deductionOf rule)) k (catalogIn xs) (good .0) (good .1) (good .2)) stood;
       stands = λ w. stood .cache .stands;
       empty = λ w i l. subst (λ (c : Cache). EmptyPlace c i) (sym (so .cache)) (empty-place k (length xs / 5) _ _ _ false (deductionOf rule) i l);
       refused = λ w. absurd (w refl);

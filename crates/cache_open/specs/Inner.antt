@@ -25,10 +25,11 @@ enteredOf c xs n =
     (storeTo n (λ i. itemIn xs i .blocks) (c .blocks))
     (storeTo n (λ i. itemIn xs i .load) (c .load))
     (storeTo n (λ i. itemIn xs i .write) (c .write))
+    (c .left)
 
--- a cache of these capacity, catalog and rule, in which nothing is held and nothing counted
+-- a cache of these capacity, catalog and rule, in which nothing is held, nothing counted, and from which no item has left
 abbrev pub emptyWith : ℕ → ℕ → List ℕ → List ℕ → List ℕ → Bool → Deduction → Cache
-emptyWith k n blocks load write isClosed r = withMode (withCatalog cleared k n blocks load write) isClosed r
+emptyWith k n blocks load write isClosed r = withMode (withCatalog cleared k n blocks load write (cleared .left)) isClosed r
 
 -- a number of each of n items, and 0 past them
 pub record Column (n : ℕ) (f : ℕ → ℕ) (r : List ℕ) : Type 0 where

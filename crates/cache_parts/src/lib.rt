@@ -9,7 +9,7 @@ ghost use Rattle.fields.specs.Inner.{runOf, flags};
 ghost use Rattle.types.specs.Types.{deductionNumber};
 ghost use Rattle.validity.specs.InnerDecided.{Decided};
 ghost use Rattle.layout.specs.Layout.{stateBytes, format};
-ghost use Rattle.layout.specs.InnerRows.{atFormat, atCapacity, atCount, atClosed, atSteps, atHits, atLoads, atEvictions, atDirtyEvictions, atWritebacks, atFlushes, atLoadCost, atWriteCost, atDirty, atLoadCredits, atWriteCredits, atMinutes, atItemLoads, atItemWritebacks, atItemLoadCosts, atItemWriteCosts, atBlocks, atHeld, atRule, flag};
+ghost use Rattle.layout.specs.InnerRows.{atFormat, atCapacity, atCount, atClosed, atSteps, atHits, atLoads, atEvictions, atDirtyEvictions, atWritebacks, atFlushes, atLoadCost, atWriteCost, atDirty, atLoadCredits, atWriteCredits, atMinutes, atItemLoads, atItemWritebacks, atItemLoadCosts, atItemWriteCosts, atBlocks, atHeld, atRule, atLeft, atArrivals, atRetirements, flag};
 ghost use Rattle.layout.proofs.Rows.{stored};
 ghost use Rattle.cache_open.specs.Inner.{BlocksOk};
 ghost use Rattle.cache_parts.specs.Inner.{FirstOf, Opens};
@@ -113,10 +113,7 @@ pub fn put_costs(b: &mut [u8], loadcost: u64, writecost: u64, dirty: [u64; 4])
 {
     fields::put(b, layout::AT_LOAD_COST, 8, loadcost);
     fields::put(b, layout::AT_WRITE_COST, 8, writecost);
-    fields::put(b, layout::AT_DIRTY, 8, dirty[0]);
-    fields::put(b, layout::AT_DIRTY + 8, 8, dirty[1]);
-    fields::put(b, layout::AT_DIRTY + 16, 8, dirty[2]);
-    fields::put(b, layout::AT_DIRTY + 24, 8, dirty[3]);
+    layout::put_words(b, layout::AT_DIRTY, dirty);
 }
 
 // Stores the credits.
@@ -160,4 +157,14 @@ pub fn put_catalog<'a>(
     fields::put_run1(b, layout::AT_BLOCKS, blocks);
     fields::put_flags(b, layout::AT_HELD, held);
     fields::put(b, layout::AT_RULE, 4, rule.number() as u64);
+}
+
+// Stores the marks of the items that have left, and the counts of arrivals and retirements.
+pub fn put_arrivals(b: &mut [u8], left: [u64; 4], arrivals: u32, retirements: u32)
+    requires { ⌜ length (now b) ≡ stateBytes ⌝ }
+    ensures { λ _. ⌜ now (b .exit) ≡ stored (now (b .entry)) ((atLeft, runOf 8 left) ∷ (atArrivals, le 4 arrivals) ∷ (atRetirements, le 4 retirements) ∷ []) ⌝ }
+{
+    layout::put_words(b, layout::AT_LEFT, left);
+    fields::put(b, layout::AT_ARRIVALS, 4, arrivals as u64);
+    fields::put(b, layout::AT_RETIREMENTS, 4, retirements as u64);
 }

@@ -5,17 +5,17 @@ use mathlib.Core.List.{List, [], _∷_}
 use Prim.Native.Nat.{ℕ, _*_, _≤_, _<_}
 use native.Mathlib.Omega.{arith}
 use lib.Dec.{eqb}
-use lib.ListN.{set}
+use lib.ListN.{getD, set}
 use Rattle.landlord.specs.Fold.{tab, fold}
 use Rattle.landlord.specs.Slot.{Slot, absent, isDirty, splitOf, lose}
 use Rattle.landlord.specs.Rule.{size, slotAt, blocksAt, rank, used, victim, evict, evictItem, evicted}
-use Rattle.landlord.specs.Figures.{Use, tally, moved}
+use Rattle.landlord.specs.Figures.{Totals, Use, tally, moved}
 use Rattle.landlord.proofs.Folds.{tab-eq}
 use Rattle.landlord.proofs.Keeps.{victim-least}
 use Rattle.landlord.proofs.Valid.{line-writebacks}
 use Rattle.marks.specs.Inner.{marks}
 use Rattle.cache_state.specs.Cache.{Cache, dirtyAt, slotOf, catalogOf, slotsOf, usesOf, view, Normal, Valid}
-use Rattle.cache_state.specs.InnerView.{stateOf, figuresOf}
+use Rattle.cache_state.specs.InnerView.{stateOf, figuresOf, countsOf}
 use Rattle.cache_state.specs.InnerBecomes.{Becomes}
 use Rattle.cache_state.proofs.Views.{size-is, slot-is, blocks-is, use-is}
 use Rattle.cache_room.specs.Inner.{chargedOf, droppedOf, Dropped, countedOf, Countable}
@@ -83,26 +83,43 @@ pub record Leaving (c : Cache) (v m : ℕ) (charged dropped : Cache) : Type 0 wh
 leaving : (c : Cache) {v m : ℕ} (ch e : Cache) → Leaving c v m ch e → e ≡ droppedOf (chargedOf c m (c .n)) v (e .dirty)
 leaving c {v} ch e so = so .drop .fields ∙ ap (λ (q : Cache). droppedOf q v (e .dirty)) (so .charge)
 
--- the counts of a valid cache can grow
-pub countable : (c : Cache) {v m : ℕ} (ch e : Cache) → Valid c → v < c .n → Leaving c v m ch e → Countable e v
-countable c {v} ch e ok l so =
-    subst (λ (q : Cache). Countable q v) (sym (leaving c ch e so))
-    (record {
+-- the counts of a valid cache can grow, and so can those of a cache q with the same counts
+pub can-count :
+    (c q : Cache) {v : ℕ} →
+    Valid c →
+    v < c .n →
+    countsOf q ≡ countsOf c →
+    q .itemwritebacks ≡ c .itemwritebacks →
+    Countable q v
+can-count c q {v} ok l e own =
+    record {
       known = omega (arith, ok .fields .few);
-      evictions = omega (arith, ok .rule .steps, ok .rule .taken, ok .rule .evictions);
-      dirtyEvictions = omega (arith, ok .rule .steps, ok .rule .taken, ok .rule .evictions, ok .rule .dirtyEvictions);
-      writebacks = omega (arith, ok .rule .taken, ok .rule .writebacks);
+      evictions = omega (arith, ap (λ (t : Totals). t .evictions) e, ok .rule .steps, ok .rule .taken, ok .rule .evictions);
+      dirtyEvictions =
+          omega (
+            arith,
+            ap (λ (t : Totals). t .dirtyEvictions) e,
+            ok .rule .steps,
+            ok .rule .taken,
+            ok .rule .evictions,
+            ok .rule .dirtyEvictions,
+          );
+      writebacks = omega (arith, ap (λ (t : Totals). t .writebacks) e, ok .rule .taken, ok .rule .writebacks);
       itemWritebacks =
           let b : v < size (stateOf c) = rw size-is l in
           omega (
             arith,
+            ap (λ (ws : List ℕ). getD ws v 0) own,
             ok .rule .taken,
             ok .rule .writebacks,
             line-writebacks (view c) v (ok .rule) b,
             ap (λ (u : Use). u .writebacks) (use-is c v l),
           );
-      writeCost = omega (arith, ok .rule .taken, ok .rule .writebacks, ok .rule .writeCost);
-    })
+      writeCost = omega (arith, ap (λ (t : Totals). t .writeCost) e, ok .rule .taken, ok .rule .writebacks, ok .rule .writeCost);
+    }
+
+pub countable : (c : Cache) {v m : ℕ} (ch e : Cache) → Valid c → v < c .n → Leaving c v m ch e → Countable e v
+countable c ch e ok l so = can-count c e ok l (ap countsOf (leaving c ch e so)) (ap (λ (q : Cache). q .itemwritebacks) (leaving c ch e so))
 
 -- the whole eviction
 pub evict-becomes :

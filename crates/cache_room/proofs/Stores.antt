@@ -55,6 +55,7 @@ slots-normal c h a b d ok past unheld unmarked =
             blocks = x .blocks;
             load = x .load;
             write = x .write;
+            left = x .left;
           };
       absent = unheld;
       clean = unmarked;
@@ -291,11 +292,11 @@ module _ (c : Cache) (v : ℕ) (sizes : EvictionSizes c) (ok : Normal c) (l : v 
   totals-more false =
       λ z.
       totalsOf (still (c .steps) z) (still (c .hits) z) (still (c .loads) z) (still (c .loadcost) z) (c .evictions + 1)
-      (still (c .dirtyevictions) z) (still (c .writebacks) z) (still (c .writecost) z) (still (c .flushes) z)
+      (still (c .dirtyevictions) z) (still (c .writebacks) z) (still (c .writecost) z) (still (c .flushes) z) (still (c .arrivals) z) (still (c .retirements) z)
   totals-more true =
       λ z.
       totalsOf (still (c .steps) z) (still (c .hits) z) (still (c .loads) z) (still (c .loadcost) z) (c .evictions + 1)
-      (c .dirtyevictions + 1) (c .writebacks + 1) (c .writecost + sym (item-is c v l) z .write) (still (c .flushes) z)
+      (c .dirtyevictions + 1) (c .writebacks + 1) (c .writecost + sym (item-is c v l) z .write) (still (c .flushes) z) (still (c .arrivals) z) (still (c .retirements) z)
 
   pub counted-view :
       (d : Bool) →

@@ -22,7 +22,8 @@ pub record Ranked (a b blocks : ℕ) : Type 0 where
 -- c with other counts of evictions, of dirty evictions, of writebacks (in all, their cost, and by item)
 abbrev pub withCounts : Cache → ℕ → ℕ → ℕ → ℕ → List ℕ → Cache
 withCounts c e de w wc ws =
-    withFigures c (c .minutes) (c .itemloads) ws (totalsOf (c .steps) (c .hits) (c .loads) (c .loadcost) e de w wc (c .flushes))
+    withFigures c (c .minutes) (c .itemloads) ws
+    (totalsOf (c .steps) (c .hits) (c .loads) (c .loadcost) e de w wc (c .flushes) (c .arrivals) (c .retirements))
 
 -- what item i loses where each block loses m
 abbrev pub lossAt : Cache → ℕ → ℕ → ℕ

@@ -68,7 +68,7 @@ fn charge(b: &mut [u8], n: usize, rank: u64)
 }
 
 // Item `v` is dropped: its place is empty, clean and without credit.
-fn drop_item(b: &mut [u8], v: usize)
+pub fn drop_item(b: &mut [u8], v: usize)
     requires { ⌜ Readable (now b) × (v < 256) ⌝ }
     ensures { λ _. ⌜ DroppedAt (now (b .entry)) v (now (b .exit)) ⌝ }
 {
@@ -80,7 +80,7 @@ fn drop_item(b: &mut [u8], v: usize)
 }
 
 // The eviction of item `v` is counted. A dirty item is written back before it goes, and that is paid for.
-fn count(b: &mut [u8], v: usize, dirty: bool)
+pub fn count(b: &mut [u8], v: usize, dirty: bool)
     requires { ⌜ CountableAt (now b) v ⌝ }
     ensures { λ _. ⌜ Stands (now (b .exit)) (countedOf (cacheOf (now (b .entry))) v dirty) ⌝ }
 {

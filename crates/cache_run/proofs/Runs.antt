@@ -8,6 +8,7 @@ use native.Mathlib.Numerals.{add-one}
 use lib.ListN.{length, getD, drop, set, length-append, drop-of-length-le}
 use lib.Seq.{sets, drop-cons, append-snoc}
 use borrow.Author.Tests.{eq-eqb, ne-eqb}
+use Rattle.types.specs.declared.Numbers.{Numbers}
 use Rattle.landlord.specs.Calls.{Call, stepCall, close}
 use Rattle.landlord.proofs.Folds.{tab-length, tab-at}
 use Rattle.cache_open.specs.Opening.{OpenedLent}
@@ -16,28 +17,21 @@ use Rattle.cache.proofs.Calls.{answers-called}
 use Rattle.cache_run.specs.Inner.{callAt, callFrom, RanCalls}
 use Rattle.cache_run.proofs.Season.{season-lent}
 
--- a call from four numbers
-pub call-takes : (b left : List ℕ) (which kind i m n : ℕ) → which ≡ 0 → Answers lent b (stepCall kind i m) n left → Answers lent b (callFrom which kind i m) n left
-call-takes b left which kind i m n e h = rw (eq-eqb which 0 e) h
+-- a call of numbers
+pub call-takes : (b left : List ℕ) (which n : ℕ) (step : Numbers) → which ≡ 0 → Answers lent b (stepCall step) n left → Answers lent b (callFrom which step) n left
+call-takes b left which n step e h = rw (eq-eqb which 0 e) h
 
-pub call-closes : (b left : List ℕ) (which kind i m n : ℕ) → (which ≡ 0 → ⊥) → Answers lent b close n left → Answers lent b (callFrom which kind i m) n left
-call-closes b left which kind i m n e h = rw (ne-eqb which 0 e) h
+pub call-closes : (b left : List ℕ) (which n : ℕ) (step : Numbers) → which ≢ 0 → Answers lent b close n left → Answers lent b (callFrom which step) n left
+call-closes b left which n step e h = rw (ne-eqb which 0 e) h
 
-pub count-is : (xs : List ℕ) → length (callsOf xs) ≡ length xs / 4
+pub count-is : (xs : List ℕ) → length (callsOf xs) ≡ length xs / 7
 unfolding callsOf
-count-is xs = tab-length (length xs / 4) (callAt xs)
+count-is xs = tab-length (length xs / 7) (λ i. callAt xs (7 * i))
 
-call-is : (xs : List ℕ) (i : ℕ) → i < length xs / 4 → getD (callsOf xs) i close ≡ callAt xs i
+-- call i, where the code keeps seven times its number
+pub call-is : (xs : List ℕ) (i at : ℕ) → i < length xs / 7 → at ≡ 7 * i → getD (callsOf xs) i close ≡ callAt xs at
 unfolding callsOf
-call-is xs i l = tab-at (length xs / 4) (callAt xs) i close l
-
--- call i, where the code keeps four times its number
-pub call-at :
-    (xs : List ℕ) (i at : ℕ) →
-    i < length xs / 4 →
-    at ≡ 4 * i →
-    getD (callsOf xs) i close ≡ callFrom (getD xs at 0) (getD xs (at + 1) 0) (getD xs (at + 2) 0) (getD xs (at + 3) 0)
-call-at xs i at l e = call-is xs i l ∙ ap (λ (z : ℕ). callFrom (getD xs z 0) (getD xs (z + 1) 0) (getD xs (z + 2) 0) (getD xs (z + 3) 0)) (sym e)
+call-is xs i at l e = tab-at (length xs / 7) (λ j. callAt xs (7 * j)) i close l ∙ ap (callAt xs) (sym e)
 
 -- storing a run of values and one more
 sets-more : (l vs : List ℕ) (at v : ℕ) → sets l at (vs ++ (v ∷ [])) ≡ set (sets l at vs) (at + length vs) v

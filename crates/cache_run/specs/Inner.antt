@@ -1,18 +1,19 @@
 -- What is said of calls made one after another. Assumes nothing.
 use mathlib.Core.{Bool.cond, Path._≡_, List.List}
-use Prim.Native.Nat.{ℕ, _+_, _*_}
+use Prim.Native.Nat.{ℕ}
 use lib.{Dec.eqb, Seq.sets, ListN.getD}
+use Rattle.types.specs.declared.Numbers.{Numbers}
 use Rattle.types.specs.Types.{deductionOf}
 use Rattle.landlord.specs.{Slot.splitOf, Catalog.Catalog, Figures.opened, Calls.{openingRefusal, Call, close, stepCall}}
-use Rattle.cache.specs.Contract.{Kind, Follows}
+use Rattle.cache.specs.Contract.{Kind, Follows, numbersBehind}
 
--- a call from four numbers
-abbrev pub callFrom : ℕ → ℕ → ℕ → ℕ → Call
-callFrom which kind item minutes = cond (eqb which 0) (stepCall kind item minutes) close
+-- a call from a number, which tells a step or the closing, and a step's numbers
+abbrev pub callFrom : ℕ → Numbers → Call
+callFrom which n = cond (eqb which 0) (stepCall n) close
 
--- call i of a list of numbers
+-- the call of the seven numbers from a place on
 abbrev pub callAt : List ℕ → ℕ → Call
-callAt xs i = callFrom (getD xs (4 * i) 0) (getD xs (4 * i + 1) 0) (getD xs (4 * i + 2) 0) (getD xs (4 * i + 3) 0)
+callAt xs at = callFrom (getD xs at 0) (numbersBehind xs at)
 
 -- the calls were made, each on the state that the last one left, and their answers noted as far as there was place
 pub record RanCalls {C : Type 0} (kind : Kind C) (c : C) (calls : List Call) (before after : List ℕ) (d : C) : Type 0 where

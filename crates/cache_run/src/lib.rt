@@ -1,19 +1,29 @@
 // A list of calls on a state, in place on its bytes: on a valid one, and from an opening on.
 ghost use mathlib.Core.Path.{_≡_};
-ghost use lib.ListN.{set};
+ghost use Prim.Native.Nat.{_+_, _<_};
+ghost use lib.ListN.{length, set};
 ghost use Rattle.layout.specs.Layout.{ValidBytes};
 ghost use Rattle.cache.specs.Contract.{lent, Answers, callsOf, RanLent};
-ghost use Rattle.cache_run.specs.Inner.{callFrom, RanCalls};
+ghost use Rattle.cache_run.specs.Inner.{callAt, RanCalls};
+use types::Numbers;
 
-// A call from four numbers, on a valid state: 0 and then a step's kind, item and minutes; or another number, and it is the closing.
-fn call(b: &mut [u8], which: u32, kind: u32, item: u32, minutes: u32) -> u32
-    requires { ⌜ ValidBytes (now b) ⌝ }
-    ensures { λ r. ⌜ Answers lent (now (b .entry)) (callFrom which kind item minutes) r (now (b .exit)) ⌝ }
+// The call of the seven numbers from `at` on, on a valid state: 0 and then a step's numbers; or another number, and it is the closing.
+fn call(b: &mut [u8], calls: &[u32], at: usize) -> u32
+    requires { ⌜ ValidBytes (now b) × (at + 6 < length (now calls)) ⌝ }
+    ensures { λ r. ⌜ Answers lent (now (b .entry)) (callAt (now (calls .entry)) at) r (now (b .exit)) ⌝ }
 {
-    if which == 0 {
-        return cache::step_valid(b, kind, item, minutes);
+    if calls[at] != 0 {
+        return cache::close_valid(b);
     }
-    cache::close_valid(b)
+    let step = Numbers {
+        kind: calls[at + 1],
+        item: calls[at + 2],
+        minutes: calls[at + 3],
+        blocks: calls[at + 4],
+        load: calls[at + 5],
+        write: calls[at + 6],
+    };
+    cache::step_valid(b, step)
 }
 
 // Notes the answer to call `i`, if there is a place for it.
@@ -25,20 +35,20 @@ fn note(answers: &mut [u32], i: usize, number: u32)
     }
 }
 
-// Makes the calls that the numbers stand for, four to a call; a remainder is no call. A call on a valid state leaves a valid one, so
+// Makes the calls that the numbers stand for, seven to a call; a remainder is no call. A call on a valid state leaves a valid one, so
 // none of them tests it again. The answers are noted as far as there is place.
 pub fn run_calls(b: &mut [u8], calls: &[u32], answers: &mut [u32])
     requires { ⌜ ValidBytes (now b) ⌝ }
     ensures { λ _. ⌜ RanCalls lent (now (b .entry)) (callsOf (now (calls .entry))) (now (answers .entry)) (now (answers .exit)) (now (b .exit)) ⌝ }
     ensures { λ _. ⌜ ValidBytes (now (b .exit)) ⌝ }
 {
-    let count = calls.len() / 4;
+    let count = calls.len() / 7;
     let mut at = 0;
     let mut i = 0;
     while i < count {
-        let number = call(b, calls[at], calls[at + 1], calls[at + 2], calls[at + 3]);
+        let number = call(b, calls, at);
         note(answers, i, number);
-        at += 4;
+        at += 7;
         i += 1;
     }
 }

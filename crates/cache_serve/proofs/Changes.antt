@@ -15,8 +15,9 @@ use Rattle.types.specs.declared.Deduction.{Deduction}
 use Rattle.landlord.specs.Fold.{tab, fold}
 use Rattle.landlord.specs.Slot.{splitOf}
 use Rattle.landlord.specs.Rule.{Event, size, putSlot}
-use Rattle.landlord.specs.Figures.{Use, useOf, usage, isAbout, plusTotals, plusUse, noUse, adds, tally, moved}
+use Rattle.landlord.specs.Figures.{Use, useOf, usage, isAbout, plusTotals, plusUse, noUse, useAt, adds, linesAfter, tally, moved}
 use Rattle.landlord.proofs.Folds.{tab-set, tab-eq}
+use Rattle.marks.specs.Marks.{marked}
 use Rattle.cache_state.specs.Cache.{Cache, dirtyAt, slotOf, catalogOf, slotsOf, usesOf, view, Blank, Emptied, Normal}
 use Rattle.cache_state.specs.InnerView.{usageOf, slotFrom, stateOf, countsOf, figuresOf}
 use Rattle.cache_state.proofs.Views.{size-is, use-is}
@@ -31,7 +32,7 @@ pub record SameAt (c r : Cache) (j : ℕ) : Type 0 where
   pub loads : getD (r .itemloads) j 0 ≡ getD (c .itemloads) j 0
   pub writebacks : getD (r .itemwritebacks) j 0 ≡ getD (c .itemwritebacks) j 0
 
--- what no step changes
+-- what no request changes, and no flush
 pub record Fixed : Type 0 where
   pub k : ℕ
   pub n : ℕ
@@ -40,9 +41,20 @@ pub record Fixed : Type 0 where
   pub write : List ℕ
   pub closed : Bool
   pub rule : Deduction
+  pub left : List ℕ
 
 abbrev pub fixedOf : Cache → Fixed
-fixedOf c = record { k = c .k; n = c .n; blocks = c .blocks; load = c .load; write = c .write; closed = c .closed; rule = c .rule }
+fixedOf c =
+    record {
+      k = c .k;
+      n = c .n;
+      blocks = c .blocks;
+      load = c .load;
+      write = c .write;
+      closed = c .closed;
+      rule = c .rule;
+      left = c .left;
+    }
 
 -- nothing has changed but item i, and the totals
 pub record OnlyAt (c r : Cache) (i : ℕ) : Type 0 where
@@ -62,7 +74,15 @@ catalog-same : (c r : Cache) (i : ℕ) → OnlyAt c r i → catalogOf r ≡ cata
 unfolding catalogOf
 catalog-same c r i o =
     let e : fixedOf r ≡ fixedOf c = o .fixed in
-    λ z. tab (e z .n) (λ j. record { blocks = getD (e z .blocks) j 0; load = getD (e z .load) j 0; write = getD (e z .write) j 0 })
+    λ z.
+    tab (e z .n)
+    (λ j.
+    record {
+      blocks = getD (e z .blocks) j 0;
+      load = getD (e z .load) j 0;
+      write = getD (e z .write) j 0;
+      left = marked (e z .left) j;
+    })
 
 slots-but : (c r : Cache) (i : ℕ) → OnlyAt c r i → c .n ≤ 256 → i < c .n → slotsOf r ≡ set (slotsOf c) i (slotOf r i)
 unfolding slotsOf
@@ -74,29 +94,33 @@ slots-but c r i o few l =
 pub plus-none : (u : Use) → u ≡ plusUse u noUse
 plus-none u = sym (λ z. useOf (add-zero (u .minutes) z) (add-zero (u .loads) z) (add-zero (u .writebacks) z))
 
--- the items' lines after an event
+-- the items' lines after an event that is no arrival
 pub uses-by :
     (c r : Cache) (e : Event) →
     r .n ≡ c .n →
+    ((m : ℕ) → linesAfter m e ≡ m) →
     ((j : ℕ) → j < c .n → usageOf r j ≡ plusUse (usageOf c j) (cond (isAbout j e) (usage e) noUse)) →
     usesOf r ≡ tally (catalogOf c) (figuresOf c) e .uses
 unfolding usesOf
-uses-by c r e same each =
-    ap (λ (m : ℕ). tab m (usageOf r)) (same ∙ sym (size-is c))
-    ∙ tab-eq (size (stateOf c)) (usageOf r) _
-    (λ j b.
-    let l : j < c .n = rw size-is at b in
-    each j l ∙ ap (λ (u : Use). plusUse u (cond (isAbout j e) (usage e) noUse)) (sym (use-is c j l)))
+uses-by c r e same lines each =
+    ap (λ (m : ℕ). tab m (usageOf r)) same
+    ∙ tab-eq (c .n) (usageOf r) after
+    (λ j l. each j l ∙ ap (λ (u : Use). plusUse u (cond (isAbout j e) (usage e) noUse)) (sym (use-is c j l)))
+    ∙ ap (λ (m : ℕ). tab m after) (sym (size-is c) ∙ sym (lines (size (stateOf c))))
+  where
+    after : ℕ → Use
+    after j = plusUse (useAt (figuresOf c) j) (cond (isAbout j e) (usage e) noUse)
 
 -- an event about item i is counted in its line alone
 uses-but :
     (c r : Cache) (i : ℕ) (e : Event) →
     OnlyAt c r i →
     c .n ≤ 256 →
+    ((m : ℕ) → linesAfter m e ≡ m) →
     ((j : ℕ) → isAbout j e ≡ eqb j i) →
     usageOf r i ≡ plusUse (usageOf c i) (usage e) →
     usesOf r ≡ tally (catalogOf c) (figuresOf c) e .uses
-uses-but c r i e o few about here = uses-by c r e (same-n c r i o) (λ j l. at j l (ℕ-discrete j i))
+uses-but c r i e o few lines about here = uses-by c r e (same-n c r i o) lines (λ j l. at j l (ℕ-discrete j i))
   where
     after : ℕ → Bool → Use
     after j t = plusUse (usageOf c j) (cond t (usage e) noUse)
@@ -113,17 +137,18 @@ pub stands-but :
     OnlyAt c r i →
     c .n ≤ 256 →
     i < c .n →
+    ((m : ℕ) → linesAfter m e ≡ m) →
     ((j : ℕ) → isAbout j e ≡ eqb j i) →
     countsOf r ≡ plusTotals (countsOf c) (adds (catalogOf c) e) →
     usageOf r i ≡ plusUse (usageOf c i) (usage e) →
     view r ≡ moved (view c) (record { state = putSlot (stateOf c) i (slotOf r i); events = e ∷ [] }) (c .closed)
 unfolding fold
-stands-but c r i e o few l about total here =
+stands-but c r i e o few l lines about total here =
     λ z.
     record {
       k = o .fixed z .k;
       state = record { catalog = catalog-same c r i o z; slots = slots-but c r i o few l z };
-      figures = record { totals = total z; uses = uses-but c r i e o few about here z };
+      figures = record { totals = total z; uses = uses-but c r i e o few lines about here z };
       closed = o .fixed z .closed;
       split = splitOf (o .fixed z .rule);
     }
@@ -168,6 +193,7 @@ normal-but c r i o ok l here spent =
           blocks = ap (λ (y : Fixed). getD (y .blocks) j 0) (o .fixed) ∙ x .blocks;
           load = ap (λ (y : Fixed). getD (y .load) j 0) (o .fixed) ∙ x .load;
           write = ap (λ (y : Fixed). getD (y .write) j 0) (o .fixed) ∙ x .write;
+          left = ap (λ (y : Fixed). marked (y .left) j) (o .fixed) ∙ x .left;
         }
 
     absent : (j : ℕ) → j < c .n → getD (r .held) j false ≡ false → Dec (j ≡ i) → Emptied r j

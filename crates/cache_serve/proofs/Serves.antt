@@ -12,7 +12,7 @@ use Rattle.landlord.specs.Fold.{fold}
 use Rattle.landlord.specs.Catalog.{Item, full, itemAt}
 use Rattle.landlord.specs.Slot.{Slot, absent, clean, dirty, held, brought, refilled, written}
 use Rattle.landlord.specs.Rule.{State, Event, hit, loaded, wrote, Moved, size, slotAt, putSlot, found, readSlot, serveRead, serveWrite}
-use Rattle.landlord.specs.Figures.{Use, Standing, usage, isAbout, plusTotals, plusUse, noUse, useAt, adds, moved}
+use Rattle.landlord.specs.Figures.{Use, Standing, usage, isAbout, plusTotals, plusUse, noUse, useAt, adds, linesAfter, moved}
 use Rattle.landlord.specs.Inner.{ItemFacts}
 use Rattle.landlord.proofs.Folds.{tab-at}
 use Rattle.landlord.proofs.Slots.{read-held}
@@ -55,14 +55,15 @@ read-becomes :
     OnlyAt c r i →
     ReadAt c r i →
     e ≡ found (stateOf c) i →
+    ((m : ℕ) → linesAfter m e ≡ m) →
     ((j : ℕ) → isAbout j e ≡ eqb j i) →
     countsOf r ≡ plusTotals (countsOf c) (adds (catalogOf c) e) →
     usageOf r i ≡ plusUse (usageOf c i) (usage e) →
     Becomes (moved (view c) (serveRead i (stateOf c)) (c .closed)) r
-read-becomes c r i e ok l o at event about total here =
+read-becomes c r i e ok l o at event lines about total here =
     record {
       stands =
-          stands-but c r i e o (ok .few) l about total here
+          stands-but c r i e o (ok .few) l lines about total here
           ∙ (λ z. moved (view c) (record { state = putSlot (stateOf c) i (slot z); events = event z ∷ [] }) (c .closed));
       fields = normal-but c r i o ok l (at .holds) (λ q. at .write ∙ ok .clean i l (sym (at .dirty) ∙ q));
     }
@@ -107,6 +108,7 @@ read-hit c i s ok h =
       write = refl;
     })
     (sym (ap (λ (t : Bool). cond t (hit i) (loaded i)) (held-is c i (ok .item) ∙ h)))
+    (λ m. refl)
     (λ j. refl)
     (simp add-zero)
     (plus-none (usageOf c i))
@@ -144,6 +146,7 @@ read-load c i s ok h =
       write = refl;
     })
     (sym (ap (λ (t : Bool). cond t (hit i) (loaded i)) (held-is c i (ok .item) ∙ h)))
+    (λ m. refl)
     (λ j. refl)
     (simp (add-zero, item-is c i (ok .item)))
     (simp (one, add-zero))
@@ -167,7 +170,7 @@ wrote-becomes :
 wrote-becomes c i minutes d s ok l h m =
     record {
       stands =
-          stands-but c r i (wrote i minutes) o (ok .few) l (λ j. refl) (simp add-zero) (simp (more, add-zero))
+          stands-but c r i (wrote i minutes) o (ok .few) l (λ m. refl) (λ j. refl) (simp add-zero) (simp (more, add-zero))
           ∙ (λ z. moved (view c) (record { state = putSlot (stateOf c) i (slot z); events = wrote i minutes ∷ [] }) (c .closed));
       fields = normal-but c r i o ok l h (λ q. absurd (false≢true (sym q ∙ mark)));
     }
@@ -240,6 +243,11 @@ module _ (c q : Cache) (i : ℕ) (ok : Servable c i) (read : Becomes (moved (vie
   no-minutes false true = refl
   no-minutes false false = refl
 
+  -- and neither is an arrival
+  same-lines : (t : Bool) (m : ℕ) → linesAfter m (cond t (hit i) (loaded i)) ≡ m
+  same-lines true m = refl
+  same-lines false m = refl
+
   same-minutes : getD (q .minutes) i 0 ≡ getD (c .minutes) i 0
   unfolding fold
   same-minutes =
@@ -247,8 +255,8 @@ module _ (c q : Cache) (i : ℕ) (ok : Servable c i) (read : Becomes (moved (vie
       sym (ap (λ (u : Use). u .minutes) (use-is q i still-in))
       ∙ ap (λ (v : Standing). useAt (v .figures) i .minutes) (read .stands)
       ∙ ap (λ (u : Use). u .minutes)
-      (tab-at (size (stateOf c)) (λ j. plusUse (useAt (figuresOf c) j) (cond (isAbout j e) (usage e) noUse)) i noUse
-      (omega (arith, size-is c, ok .item)))
+      (tab-at (linesAfter (size (stateOf c)) e) (λ j. plusUse (useAt (figuresOf c) j) (cond (isAbout j e) (usage e) noUse)) i noUse
+      (omega (arith, same-lines (held (slotAt (stateOf c) i)) (size (stateOf c)), size-is c, ok .item)))
       ∙ (λ z. use-is c i (ok .item) z .minutes + no-minutes (held (slotAt (stateOf c) i)) (isAbout i e) z)
       ∙ add-zero (getD (c .minutes) i 0)
 

@@ -64,7 +64,7 @@ back-becomes :
 back-becomes c i d s ok l due m =
     record {
       stands =
-          stands-but c r i (wroteBack i) o (ok .few) l (λ j. refl) (simp (add-zero, item-is c i l)) (simp (one, add-zero))
+          stands-but c r i (wroteBack i) o (ok .few) l (λ m. refl) (λ j. refl) (simp (add-zero, item-is c i l)) (simp (one, add-zero))
           ∙ (λ z. moved (view c) (record { state = putSlot (stateOf c) i (slot z); events = wroteBack i ∷ [] }) (c .closed));
       fields = normal-but c r i o ok l (dirty-held c i ok l due) (λ q. spent);
     }
@@ -215,6 +215,7 @@ flushed-valid c ok =
             capacity = v .capacity;
             kept = v .kept;
             steps = omega (arith, v .steps);
+            retirements = v .retirements;
             taken = omega (arith, ok .room);
             evictions = v .evictions;
             dirtyEvictions = v .dirtyEvictions;
@@ -237,7 +238,7 @@ flushed-stands c =
     record {
       k = c .k;
       state = stateOf c;
-      figures = record { totals = total z; uses = uses-by c (flushedOf c) flushStep refl (λ j l. plus-none (usageOf c j)) z };
+      figures = record { totals = total z; uses = uses-by c (flushedOf c) flushStep refl (λ m. refl) (λ j l. plus-none (usageOf c j)) z };
       closed = c .closed;
       split = splitOf (c .rule);
     }

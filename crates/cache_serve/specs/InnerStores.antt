@@ -12,7 +12,8 @@ pub use Rattle.cache_state.specs.InnerWith.{withSlots, withFigures}
 abbrev pub hitOf : Cache → Cache
 hitOf c =
     withFigures c (c .minutes) (c .itemloads) (c .itemwritebacks)
-    (totalsOf (c .steps + 1) (c .hits + 1) (c .loads) (c .loadcost) (c .evictions) (c .dirtyevictions) (c .writebacks) (c .writecost) (c .flushes))
+    (totalsOf (c .steps + 1) (c .hits + 1) (c .loads) (c .loadcost) (c .evictions) (c .dirtyevictions) (c .writebacks) (c .writecost)
+    (c .flushes) (c .arrivals) (c .retirements))
 
 -- item i loaded, and that counted: one step, one load, which costs the item's load cost
 abbrev pub loadedOf : Cache → ℕ → Cache
@@ -20,7 +21,7 @@ loadedOf c i =
     withFigures (withSlots c (set (c .held) i true) (c .loadcredit) (c .writecredit) (c .dirty))
     (c .minutes) (set (c .itemloads) i (getD (c .itemloads) i 0 + 1)) (c .itemwritebacks)
     (totalsOf (c .steps + 1) (c .hits) (c .loads + 1) (c .loadcost + getD (c .load) i 0) (c .evictions) (c .dirtyevictions)
-    (c .writebacks) (c .writecost) (c .flushes))
+    (c .writebacks) (c .writecost) (c .flushes) (c .arrivals) (c .retirements))
 
 -- the load credit of item i full
 abbrev pub refilledOf : Cache → ℕ → Cache
@@ -38,13 +39,14 @@ wroteBackOf c i marked =
     withFigures (withSlots c (c .held) (c .loadcredit) (set (c .writecredit) i 0) marked)
     (c .minutes) (c .itemloads) (set (c .itemwritebacks) i (getD (c .itemwritebacks) i 0 + 1))
     (totalsOf (c .steps) (c .hits) (c .loads) (c .loadcost) (c .evictions) (c .dirtyevictions)
-    (c .writebacks + 1) (c .writecost + getD (c .write) i 0) (c .flushes))
+    (c .writebacks + 1) (c .writecost + getD (c .write) i 0) (c .flushes) (c .arrivals) (c .retirements))
 
 -- a flush of the log counted: one step, one flush
 abbrev pub flushedOf : Cache → Cache
 flushedOf c =
     withFigures c (c .minutes) (c .itemloads) (c .itemwritebacks)
-    (totalsOf (c .steps + 1) (c .hits) (c .loads) (c .loadcost) (c .evictions) (c .dirtyevictions) (c .writebacks) (c .writecost) (c .flushes + 1))
+    (totalsOf (c .steps + 1) (c .hits) (c .loads) (c .loadcost) (c .evictions) (c .dirtyevictions) (c .writebacks) (c .writecost)
+    (c .flushes + 1) (c .arrivals) (c .retirements))
 
 -- A store that sets or clears a mark: which words hold the marks is left to crate marks.
 pub record Wrote (c : Cache) (i minutes : ℕ) (r : Cache) : Type 0 where

@@ -13,19 +13,19 @@ use Rattle.landlord.specs.Slot.{isDirty, loadCredit, writeCredit}
 use Rattle.landlord.specs.Rule.{size, slotAt}
 use Rattle.landlord.specs.Figures.{Use, useAt}
 use Rattle.landlord.specs.Claims.{SlotKept}
-use Rattle.landlord.specs.Valid.{dirtyCount, StandingOk}
+use Rattle.landlord.specs.Valid.{dirtyCount, leftCount, StandingOk}
 use Rattle.landlord.specs.Inner.{ItemFacts}
 use Rattle.landlord.proofs.Sums.{sum-eq}
 use Rattle.landlord.proofs.Ranges.{catalog-facts, catalog-ok, capacity-facts, capacity-ok}
 use Rattle.marks.specs.Marks.{marked}
 use Rattle.marks.specs.Inner.{marksFrom, marks, countSet}
-use Rattle.cache_state.specs.Cache.{Cache, dirtyAt, catalogOf, view, Normal, Valid}
+use Rattle.cache_state.specs.Cache.{Cache, dirtyAt, leftAt, catalogOf, view, Normal, Valid}
 use Rattle.cache_state.specs.InnerView.{itemOf, stateOf, countsOf, figuresOf}
 use Rattle.validity.specs.Inner.{CountsOk}
-use Rattle.cache_state.specs.InnerParts.{PastOk, EntryAt, EntriesOk, SumsOf}
+use Rattle.cache_state.specs.InnerParts.{PastOk, EntryAt, EntriesOk, LeftOk, SumsOf}
 use Rattle.validity.specs.InnerDecided.{Decided}
 use Rattle.validity.proofs.Decides.{no, sure, denied}
-use Rattle.cache_state.proofs.Views.{size-is, slots-length, uses-length, item-is, slot-is, use-is, from-dirty, from-load, from-write}
+use Rattle.cache_state.proofs.Views.{size-is, slots-length, uses-length, item-is, slot-is, use-is, left-is, held-is, from-dirty, from-load, from-write}
 
 -- ---- sums, as the loops make them
 
@@ -53,7 +53,7 @@ sum-cut m (suc n) f h =
     let e : suc n + m ≡ suc (n + m) = omega arith in
     rw e (omega (arith, sum-cut m n f (λ i l b. h i l (omega arith)), h (n + m) (omega arith) (omega arith)))
 
--- ---- the dirty items are those marked
+-- ---- the dirty items, and those that have left, are those marked
 
 count-sum : (n : ℕ) (f : ℕ → Bool) (i : ℕ) → countSet (marksFrom n f i) ≡ sumTo n (λ j. cond (f (i + j)) 1 0)
 unfolding marksFrom countSet sumTo
@@ -83,16 +83,29 @@ module _ (c : Cache) (i : ℕ) (l : i < c .n) where
       writeCredit (slotAt (stateOf c) i) ≡ getD (c .writecredit) i 0
   write-is h g = ap writeCredit (slot-is c i l) ∙ from-write (getD (c .held) i false) (dirtyAt c i) (getD (c .loadcredit) i 0) (getD (c .writecredit) i 0) h g
 
+-- of marks that are set below n only, as many are set as those below n
+count-below : (ws : List ℕ) (n : ℕ) → n ≤ 256 → ((i : ℕ) → n ≤ i → i < 256 → marked ws i ≡ false) → sumTo n (λ i. cond (marked ws i) 1 0) ≡ countSet (marks ws)
+unfolding marks
+count-below ws n few none =
+    let e : 256 ≡ (256 - n) + n = omega arith in
+    sym (sum-cut n (256 - n) (λ i. cond (marked ws i) 1 0) (λ i l b. ap (λ (t : Bool). cond t 1 0) (none i l (omega arith))))
+    ∙ ap (λ (m : ℕ). sumTo m (λ i. cond (marked ws i) 1 0)) (sym e)
+    ∙ sum-eq 256 _ _ (λ i l. let q : i ≡ 0 + i = omega arith in ap (λ (z : ℕ). cond (marked ws z) 1 0) q)
+    ∙ sym (count-sum 256 (marked ws) 0)
+
 pub dirty-count : (c : Cache) → Normal c → dirtyCount (stateOf c) ≡ countSet (marks (c .dirty))
-unfolding dirtyCount marks
+unfolding dirtyCount
 dirty-count c v =
-    let e : 256 ≡ (256 - c .n) + c .n = omega (arith, v .few) in
     ap (λ (m : ℕ). sumTo m (λ i. cond (isDirty (slotAt (stateOf c) i)) 1 0)) (size-is c)
     ∙ sum-eq (c .n) _ _ (λ i l. λ z. cond (dirty-is c i l (λ a. v .absent i l a .dirty) z) 1 0)
-    ∙ sym (sum-cut (c .n) (256 - c .n) (λ i. cond (dirtyAt c i) 1 0) (λ i l b. ap (λ (t : Bool). cond t 1 0) (v .past i l (omega (arith, v .few)) .place .slot .dirty)))
-    ∙ ap (λ (m : ℕ). sumTo m (λ i. cond (dirtyAt c i) 1 0)) (sym e)
-    ∙ sum-eq 256 _ _ (λ i l. let q : i ≡ 0 + i = omega arith in ap (λ (z : ℕ). cond (dirtyAt c z) 1 0) q)
-    ∙ sym (count-sum 256 (marked (c .dirty)) 0)
+    ∙ count-below (c .dirty) (c .n) (v .few) (λ i l b. v .past i l b .place .slot .dirty)
+
+pub left-count : (c : Cache) → Normal c → leftCount (catalogOf c) ≡ countSet (marks (c .left))
+unfolding leftCount
+left-count c v =
+    ap (λ (m : ℕ). sumTo m (λ i. cond (itemAt (catalogOf c) i .left) 1 0)) (size-is c)
+    ∙ sum-eq (c .n) _ _ (λ i l. λ z. cond (left-is c i l z) 1 0)
+    ∙ count-below (c .left) (c .n) (v .few) (λ i l b. v .past i l b .left)
 
 -- ---- the end of the loop that tests each item
 
@@ -110,6 +123,7 @@ pub record Parts (c : Cache) : Type 0 where
   pub few : c .n ≤ 256
   pub past : PastOk c
   pub entries : EntriesOk c
+  pub left : LeftOk c
   pub sums : SumsOf c
   pub counts : CountsOk (c .k) (countsOf c)
 
@@ -188,8 +202,10 @@ valid-of c w p = record { fields = v; rule = rule }
                 slots = slots-length c ∙ sym (size-is c);
                 slot = λ i l. slot-of c v i (below i l) (p .entries .each i (below i l));
                 room = p .sums .room;
+                left = λ i l e. held-is c i (below i l) ∙ p .left .each i (below i l) (sym (left-is c i (below i l)) ∙ e);
               };
           steps = p .counts .steps;
+          retirements = p .sums .gone ∙ sym (left-count c v);
           taken = p .counts .taken;
           evictions = p .sums .kept;
           dirtyEvictions = p .counts .dirtyEvictions;
@@ -236,6 +252,7 @@ parts-of c o =
       few = o .fields .few;
       past = record { each = o .fields .past };
       entries = record { each = entry-of c o };
+      left = record { each = λ i l e. sym (held-is c i l) ∙ o .rule .kept .left i (rw (size-is c) l) (left-is c i l ∙ e) };
       sums =
           record {
             room = o .rule .kept .room;
@@ -243,6 +260,7 @@ parts-of c o =
             due = rw (dirty-count c (o .fields)) at (o .rule .writebacks);
             loadsAdd = sym (sum-loads c) ∙ o .rule .loadsAdd;
             writebacksAdd = sym (sum-writebacks c) ∙ o .rule .writebacksAdd;
+            gone = o .rule .retirements ∙ left-count c (o .fields);
           };
       counts =
           record {

@@ -32,6 +32,7 @@ module _ (c : Cache) (ws : List ℕ) (t : Totals) (isClosed : Bool) (ok : Normal
         blocks = x .blocks;
         load = x .load;
         write = x .write;
+        left = x .left;
       }
 
   pub figures-normal : Normal (withClosed (withFigures c (c .minutes) (c .itemloads) ws t) isClosed)

@@ -34,6 +34,8 @@ pub record Sizes (c : Cache) : Type 0 where
   pub minutes : length (c .minutes) ≡ 256
   pub loads : length (c .itemloads) ≡ 256
   pub writebacks : length (c .itemwritebacks) ≡ 256
+  pub left : length (c .left) ≡ 4
+  pub leftWords : (k : ℕ) → getD (c .left) k 0 < 2 ^ 64
 
 module _ (c d : Cache) (sc : Sizes c) (sd : Sizes d) (nc : Normal c) (nd : Normal d) (e : view c ≡ view d) where
   same-n : c .n ≡ d .n
@@ -113,6 +115,17 @@ module _ (c d : Cache) (sc : Sizes c) (sd : Sizes d) (nc : Normal c) (nd : Norma
   same-dirty : c .dirty ≡ d .dirty
   same-dirty = marks-tell (c .dirty) (d .dirty) (sc .dirty) (sd .dirty) (sc .words) (sd .words) same-marks
 
+  same-gone : marks (c .left) ≡ marks (d .left)
+  same-gone =
+      agree false (marks (c .left)) (marks (d .left)) (length-marks (c .left)) (length-marks (d .left))
+      (λ i l m.
+      marked-at (c .left) i (omega (arith, nc .few)) ∙ ap (λ (x : Item). x .left) (item i l m) ∙ sym (marked-at (d .left) i (omega (arith, nc .few))))
+      (λ i l b. marked-at (c .left) i b ∙ nc .past i l b .left)
+      (λ i l b. marked-at (d .left) i b ∙ nd .past i l b .left)
+
+  same-left : c .left ≡ d .left
+  same-left = marks-tell (c .left) (d .left) (sc .left) (sd .left) (sc .leftWords) (sd .leftWords) same-gone
+
   same-rule : c .rule ≡ d .rule
   same-rule = deduction-one (c .rule) (d .rule) (ap (λ (v : Standing). v .split) e)
 
@@ -143,6 +156,9 @@ module _ (c d : Cache) (sc : Sizes c) (sd : Sizes d) (nc : Normal c) (nd : Norma
         flushes = e j .figures .totals .flushes;
         closed = e j .closed;
         rule = same-rule j;
+        left = same-left j;
+        arrivals = e j .figures .totals .arrivals;
+        retirements = e j .figures .totals .retirements;
       }
 
 -- there is one cache that stands where the rule stands

@@ -10,7 +10,7 @@ use Rattle.landlord.specs.Rule.{size, slotAt, blocksAt, used, heldCount}
 use Rattle.landlord.specs.Figures.{useAt, noUse}
 use Rattle.landlord.proofs.Folds.{tab-length, tab-at, tab-past}
 use Rattle.landlord.proofs.Sums.{sum-eq}
-use Rattle.cache_state.specs.Cache.{Cache, dirtyAt, slotOf, catalogOf, slotsOf, usesOf}
+use Rattle.cache_state.specs.Cache.{Cache, dirtyAt, leftAt, slotOf, catalogOf, slotsOf, usesOf}
 use Rattle.cache_state.specs.InnerView.{itemOf, usageOf, slotFrom, stateOf, figuresOf}
 
 pub size-is : (c : Cache) → size (stateOf c) ≡ c .n
@@ -44,6 +44,9 @@ use-is c i l = tab-at (c .n) (usageOf c) i noUse l
 
 pub blocks-is : (c : Cache) (i : ℕ) → i < c .n → blocksAt (stateOf c) i ≡ getD (c .blocks) i 0
 blocks-is c i l = ap (λ (x : Item). x .blocks) (item-is c i l)
+
+pub left-is : (c : Cache) (i : ℕ) → i < c .n → itemAt (catalogOf c) i .left ≡ leftAt c i
+left-is c i l = ap (λ (x : Item). x .left) (item-is c i l)
 
 -- a slot's marks and credits, from what it was made of
 pub from-held : (h d : Bool) (a b : ℕ) → held (slotFrom h d a b) ≡ h

@@ -36,10 +36,18 @@ pub record Cache : Type 0 where
   pub closed : Bool
   -- which credit an item loses from first, as the opening said
   pub rule : Deduction
+  -- the words of the marks, one mark for each item that has left
+  pub left : List ℕ
+  pub arrivals : ℕ
+  pub retirements : ℕ
 
 -- whether item i is marked dirty
 abbrev pub dirtyAt : Cache → ℕ → Bool
 dirtyAt c i = marked (c .dirty) i
+
+-- whether item i is marked as one that has left
+abbrev pub leftAt : Cache → ℕ → Bool
+leftAt c i = marked (c .left) i
 
 -- the slot of item i
 abbrev pub slotOf : Cache → ℕ → Slot
@@ -48,7 +56,8 @@ slotOf c i =
     cond (getD (c .held) i false) (cond (dirtyAt c i) (dirty load (getD (c .writecredit) i 0)) (clean load)) absent
 
 unfoldable pub catalogOf : Cache → Catalog
-catalogOf c = tab (c .n) (λ i. record { blocks = getD (c .blocks) i 0; load = getD (c .load) i 0; write = getD (c .write) i 0 })
+catalogOf c =
+    tab (c .n) (λ i. record { blocks = getD (c .blocks) i 0; load = getD (c .load) i 0; write = getD (c .write) i 0; left = leftAt c i })
 
 unfoldable pub slotsOf : Cache → List Slot
 slotsOf c = tab (c .n) (slotOf c)
@@ -59,7 +68,9 @@ usesOf c = tab (c .n) (λ i. useOf (getD (c .minutes) i 0) (getD (c .itemloads) 
 -- where the rule stands
 abbrev pub view : Cache → Standing
 view c =
-    let totals = totalsOf (c .steps) (c .hits) (c .loads) (c .loadcost) (c .evictions) (c .dirtyevictions) (c .writebacks) (c .writecost) (c .flushes) in
+    let totals =
+    totalsOf (c .steps) (c .hits) (c .loads) (c .loadcost) (c .evictions) (c .dirtyevictions) (c .writebacks) (c .writecost) (c .flushes) (c .arrivals)
+    (c .retirements) in
     record {
       k = c .k;
       state = record { catalog = catalogOf c; slots = slotsOf c };
@@ -84,12 +95,13 @@ pub record EmptyPlace (c : Cache) (i : ℕ) : Type 0 where
   pub loads : getD (c .itemloads) i 0 ≡ 0
   pub writebacks : getD (c .itemwritebacks) i 0 ≡ 0
 
--- a place past the catalog: "empty, with counts 0", and 0 in the catalog's arrays too
+-- a place past the catalog: "empty, with counts 0", and 0 in the catalog's arrays too; no item has left it
 pub record Blank (c : Cache) (i : ℕ) : Type 0 where
   pub place : EmptyPlace c i
   pub blocks : getD (c .blocks) i 0 ≡ 0
   pub load : getD (c .load) i 0 ≡ 0
   pub write : getD (c .write) i 0 ≡ 0
+  pub left : leftAt c i ≡ false
 
 -- The sentences on the fields themselves. Flags have no other values than true and false, and every number of a field is one
 -- that its layout allows.

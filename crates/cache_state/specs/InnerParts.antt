@@ -1,12 +1,12 @@
 -- What the parts of the check of validity decide, on the fields of a cache: that the places past the catalog are blank, and what the
 -- tests of the crate `validity` find. proofs/Checks.antt shows that together they are validity. Assumes nothing.
 use Prim.Native.Nat.{ℕ, _≤_, _<_}
-use mathlib.Core.Bool.{false}
+use mathlib.Core.{Path._≡_, Bool.{true, false}}
 use lib.ListN.{getD}
 use Rattle.landlord.specs.{Fold.sumTo, Rule.{used, heldCount}}
 use Rattle.marks.specs.Inner.{marks, countSet}
 use Rattle.validity.specs.Inner.{EntryOk, SumsOk}
-use Rattle.cache_state.specs.{Cache.{Cache, Blank, dirtyAt}, InnerView.stateOf}
+use Rattle.cache_state.specs.{Cache.{Cache, Blank, dirtyAt, leftAt}, InnerView.stateOf}
 
 -- every place past the catalog is blank
 pub record PastOk (c : Cache) : Type 0 where
@@ -22,8 +22,14 @@ EntryAt c i =
 pub record EntriesOk (c : Cache) : Type 0 where
   pub each : (i : ℕ) → i < c .n → EntryAt c i
 
--- what is asked of the sums over the items: what `balanced` decides of them. The dirty items are counted by their marks.
+-- no item that has left is held
+pub record LeftOk (c : Cache) : Type 0 where
+  pub each : (i : ℕ) → i < c .n → leftAt c i ≡ true → getD (c .held) i false ≡ false
+
+-- what is asked of the sums over the items: what `balanced` decides of them. The dirty items and those that have left are counted by
+-- their marks.
 abbrev pub SumsOf : Cache → Type 0
 SumsOf c =
     SumsOk (c .k) (used (stateOf c)) (c .evictions) (heldCount (stateOf c)) (c .loads) (c .writebacks) (countSet (marks (c .dirty))) (c .steps)
-    (sumTo (c .n) (λ i. getD (c .itemloads) i 0)) (sumTo (c .n) (λ i. getD (c .itemwritebacks) i 0))
+    (sumTo (c .n) (λ i. getD (c .itemloads) i 0)) (sumTo (c .n) (λ i. getD (c .itemwritebacks) i 0)) (c .retirements)
+    (countSet (marks (c .left)))

@@ -3,11 +3,11 @@ use lib.ListN.{getD}
 use Rattle.landlord.specs.{Catalog.Item, Figures.{Use, useOf, Totals, Figures}, Slot.{Slot, absent, clean, dirty}, Rule.State}
 use mathlib.Core.Bool.{Bool, cond}
 use Prim.Native.Nat.{ℕ}
-use Rattle.cache_state.specs.Cache.{Cache, view}
+use Rattle.cache_state.specs.Cache.{Cache, leftAt, view}
 
 -- item i of the catalog
 abbrev pub itemOf : Cache → ℕ → Item
-itemOf c i = record { blocks = getD (c .blocks) i 0; load = getD (c .load) i 0; write = getD (c .write) i 0 }
+itemOf c i = record { blocks = getD (c .blocks) i 0; load = getD (c .load) i 0; write = getD (c .write) i 0; left = leftAt c i }
 
 -- the report's line of item i
 abbrev pub usageOf : Cache → ℕ → Use

@@ -7,9 +7,9 @@ use Rattle.types.specs.declared.Deduction.{Deduction}
 use Rattle.landlord.specs.Figures.{Totals, totalsOf}
 use Rattle.cache_state.specs.{Cache.Cache, InnerView.countsOf}
 
--- a cache with another capacity and catalog
-abbrev pub withCatalog : Cache → ℕ → ℕ → List ℕ → List ℕ → List ℕ → Cache
-withCatalog c capacity count sizes loads writes =
+-- a cache with another capacity and catalog: sizes, load and write costs, and the marks of the items that have left
+abbrev pub withCatalog : Cache → ℕ → ℕ → List ℕ → List ℕ → List ℕ → List ℕ → Cache
+withCatalog c capacity count sizes loads writes gone =
     record {
       k = capacity;
       n = count;
@@ -34,6 +34,9 @@ withCatalog c capacity count sizes loads writes =
       flushes = c .flushes;
       closed = c .closed;
       rule = c .rule;
+      left = gone;
+      arrivals = c .arrivals;
+      retirements = c .retirements;
     }
 
 -- a cache with other slots: which items are held, the two credits, and the marks of the dirty ones
@@ -63,6 +66,9 @@ withSlots c holds loads writes marked =
       flushes = c .flushes;
       closed = c .closed;
       rule = c .rule;
+      left = c .left;
+      arrivals = c .arrivals;
+      retirements = c .retirements;
     }
 
 -- a cache with other figures: minutes, loads and writebacks of each item, and the totals
@@ -92,6 +98,9 @@ withFigures c minutesNow loads writes t =
       flushes = t .flushes;
       closed = c .closed;
       rule = c .rule;
+      left = c .left;
+      arrivals = t .arrivals;
+      retirements = t .retirements;
     }
 
 -- a cache closed or not, and of a rule of deduction
@@ -121,6 +130,9 @@ withMode c isClosed r =
       flushes = c .flushes;
       closed = isClosed;
       rule = r;
+      left = c .left;
+      arrivals = c .arrivals;
+      retirements = c .retirements;
     }
 
 abbrev pub withClosed : Cache → Bool → Cache
@@ -132,20 +144,24 @@ withRule c r = withMode c (c .closed) r
 -- ---- capacity and catalog
 
 abbrev pub withCapacity : Cache → ℕ → Cache
-withCapacity c v = withCatalog c v (c .n) (c .blocks) (c .load) (c .write)
+withCapacity c v = withCatalog c v (c .n) (c .blocks) (c .load) (c .write) (c .left)
 
 abbrev pub withCount : Cache → ℕ → Cache
-withCount c v = withCatalog c (c .k) v (c .blocks) (c .load) (c .write)
+withCount c v = withCatalog c (c .k) v (c .blocks) (c .load) (c .write) (c .left)
 
 -- of item i
 abbrev pub withBlocks : Cache → ℕ → ℕ → Cache
-withBlocks c i v = withCatalog c (c .k) (c .n) (set (c .blocks) i v) (c .load) (c .write)
+withBlocks c i v = withCatalog c (c .k) (c .n) (set (c .blocks) i v) (c .load) (c .write) (c .left)
 
 abbrev pub withItemLoadCost : Cache → ℕ → ℕ → Cache
-withItemLoadCost c i v = withCatalog c (c .k) (c .n) (c .blocks) (set (c .load) i v) (c .write)
+withItemLoadCost c i v = withCatalog c (c .k) (c .n) (c .blocks) (set (c .load) i v) (c .write) (c .left)
 
 abbrev pub withItemWriteCost : Cache → ℕ → ℕ → Cache
-withItemWriteCost c i v = withCatalog c (c .k) (c .n) (c .blocks) (c .load) (set (c .write) i v)
+withItemWriteCost c i v = withCatalog c (c .k) (c .n) (c .blocks) (c .load) (set (c .write) i v) (c .left)
+
+-- the marks of those that have left
+abbrev pub withLeft : Cache → List ℕ → Cache
+withLeft c words = withCatalog c (c .k) (c .n) (c .blocks) (c .load) (c .write) words
 
 -- ---- slots, of item i, and the marks
 
@@ -180,44 +196,63 @@ withTotals c t = withFigures c (c .minutes) (c .itemloads) (c .itemwritebacks) t
 abbrev pub withSteps : Cache → ℕ → Cache
 withSteps c v =
     withTotals c
-    (totalsOf v (c .hits) (c .loads) (c .loadcost) (c .evictions) (c .dirtyevictions) (c .writebacks) (c .writecost) (c .flushes))
+    (totalsOf v (c .hits) (c .loads) (c .loadcost) (c .evictions) (c .dirtyevictions) (c .writebacks) (c .writecost) (c .flushes) (c .arrivals)
+    (c .retirements))
 
 abbrev pub withHits : Cache → ℕ → Cache
 withHits c v =
     withTotals c
-    (totalsOf (c .steps) v (c .loads) (c .loadcost) (c .evictions) (c .dirtyevictions) (c .writebacks) (c .writecost) (c .flushes))
+    (totalsOf (c .steps) v (c .loads) (c .loadcost) (c .evictions) (c .dirtyevictions) (c .writebacks) (c .writecost) (c .flushes) (c .arrivals)
+    (c .retirements))
 
 abbrev pub withLoads : Cache → ℕ → Cache
 withLoads c v =
     withTotals c
-    (totalsOf (c .steps) (c .hits) v (c .loadcost) (c .evictions) (c .dirtyevictions) (c .writebacks) (c .writecost) (c .flushes))
+    (totalsOf (c .steps) (c .hits) v (c .loadcost) (c .evictions) (c .dirtyevictions) (c .writebacks) (c .writecost) (c .flushes) (c .arrivals)
+    (c .retirements))
 
 abbrev pub withLoadCost : Cache → ℕ → Cache
 withLoadCost c v =
     withTotals c
-    (totalsOf (c .steps) (c .hits) (c .loads) v (c .evictions) (c .dirtyevictions) (c .writebacks) (c .writecost) (c .flushes))
+    (totalsOf (c .steps) (c .hits) (c .loads) v (c .evictions) (c .dirtyevictions) (c .writebacks) (c .writecost) (c .flushes) (c .arrivals)
+    (c .retirements))
 
 abbrev pub withEvictions : Cache → ℕ → Cache
 withEvictions c v =
     withTotals c
-    (totalsOf (c .steps) (c .hits) (c .loads) (c .loadcost) v (c .dirtyevictions) (c .writebacks) (c .writecost) (c .flushes))
+    (totalsOf (c .steps) (c .hits) (c .loads) (c .loadcost) v (c .dirtyevictions) (c .writebacks) (c .writecost) (c .flushes) (c .arrivals)
+    (c .retirements))
 
 abbrev pub withDirtyEvictions : Cache → ℕ → Cache
 withDirtyEvictions c v =
     withTotals c
-    (totalsOf (c .steps) (c .hits) (c .loads) (c .loadcost) (c .evictions) v (c .writebacks) (c .writecost) (c .flushes))
+    (totalsOf (c .steps) (c .hits) (c .loads) (c .loadcost) (c .evictions) v (c .writebacks) (c .writecost) (c .flushes) (c .arrivals)
+    (c .retirements))
 
 abbrev pub withWritebacks : Cache → ℕ → Cache
 withWritebacks c v =
     withTotals c
-    (totalsOf (c .steps) (c .hits) (c .loads) (c .loadcost) (c .evictions) (c .dirtyevictions) v (c .writecost) (c .flushes))
+    (totalsOf (c .steps) (c .hits) (c .loads) (c .loadcost) (c .evictions) (c .dirtyevictions) v (c .writecost) (c .flushes) (c .arrivals)
+    (c .retirements))
 
 abbrev pub withWriteCost : Cache → ℕ → Cache
 withWriteCost c v =
     withTotals c
-    (totalsOf (c .steps) (c .hits) (c .loads) (c .loadcost) (c .evictions) (c .dirtyevictions) (c .writebacks) v (c .flushes))
+    (totalsOf (c .steps) (c .hits) (c .loads) (c .loadcost) (c .evictions) (c .dirtyevictions) (c .writebacks) v (c .flushes) (c .arrivals)
+    (c .retirements))
 
 abbrev pub withFlushes : Cache → ℕ → Cache
 withFlushes c v =
     withTotals c
-    (totalsOf (c .steps) (c .hits) (c .loads) (c .loadcost) (c .evictions) (c .dirtyevictions) (c .writebacks) (c .writecost) v)
+    (totalsOf (c .steps) (c .hits) (c .loads) (c .loadcost) (c .evictions) (c .dirtyevictions) (c .writebacks) (c .writecost) v (c .arrivals)
+    (c .retirements))
+
+abbrev pub withArrivals : Cache → ℕ → Cache
+withArrivals c v =
+    withTotals c
+    (totalsOf (c .steps) (c .hits) (c .loads) (c .loadcost) (c .evictions) (c .dirtyevictions) (c .writebacks) (c .writecost) (c .flushes) v (c .retirements))
+
+abbrev pub withRetirements : Cache → ℕ → Cache
+withRetirements c v =
+    withTotals c
+    (totalsOf (c .steps) (c .hits) (c .loads) (c .loadcost) (c .evictions) (c .dirtyevictions) (c .writebacks) (c .writecost) (c .flushes) (c .arrivals) v)

@@ -1,16 +1,16 @@
--- A reply's number as an answer: it is at most 18, and the answer tells it and no line. Assumes nothing.
+-- A reply's number as an answer: it is at most 20, and the answer tells it and no line. Assumes nothing.
 use mathlib.Core.Path.{_≡_, sym, ap, subst, _∙_}
 use mathlib.Core.Bool.{Bool, true, false, cond, _&&_}
 use Prim.Native.Nat.{ℕ, _≤_, _<_}
 use native.Mathlib.Omega.{arith}
 use lib.ListN.{length}
-use lib.Dec.{leb, ltb}
+use lib.Dec.{leb, ltb, eqb}
 use Rattle.types.specs.declared.Step.{Step}
-use Rattle.types.specs.declared.Step.the-variants.{Read, Write, Flush}
-use Rattle.types.specs.Types.{Told, telling, isDeduction}
-use Rattle.landlord.specs.Catalog.{Catalog, itemAt, capacityInRange, catalogInRange}
+use Rattle.types.specs.declared.Step.the-variants.{Read, Write, Flush, Arrive, Retire}
+use Rattle.types.specs.Types.{Told, telling, stepOf, isDeduction}
+use Rattle.landlord.specs.Catalog.{Catalog, itemAt, capacityInRange, catalogInRange, noneLeft}
 use Rattle.landlord.specs.Figures.{Standing}
-use Rattle.landlord.specs.Calls.{Call, stepCall, close, callItem, stepOf, inRange, itemRefusal, refusalAt, refusalNow, openingRefusal}
+use Rattle.landlord.specs.Calls.{Call, stepCall, close, callItem, inRange, ifKnown, itemRefusal, refusalAt, refusalNow, openingRefusal}
 use Rattle.cache.specs.Contract.{Called}
 use Rattle.cache_value.specs.declared.Cache.{Cache}
 use Rattle.cache_value.specs.declared.Answered.{Answered}
@@ -18,44 +18,49 @@ use Rattle.cache_value.specs.Contract.{byValue, answerTold, answerNumber
 use Rattle.cache_value.specs.Inner.{Opened}
 use Rattle.cache_value.proofs.Openings.{atOpening}
 
--- ---- the number is at most 18
+-- ---- the number is at most 20
 
-chosen : (t : Bool) {a b : ℕ} → a ≤ 18 → b ≤ 18 → cond t a b ≤ 18
+chosen : (t : Bool) {a b : ℕ} → a ≤ 20 → b ≤ 20 → cond t a b ≤ 20
 chosen true p q = p
 chosen false p q = q
 
 -- each number of the table is, whatever its tests say: a law of the rule's table alone
-table-number : (v : Standing) (call : Call) → refusalNow v call ≤ 18
+table-number : (v : Standing) (call : Call) → refusalNow v call ≤ 20
 unfolding refusalAt
 table-number v close = chosen (v .closed) (omega arith) (omega arith)
-table-number v (stepCall kind i m) =
+table-number v (stepCall n) =
     chosen (v .closed) (omega arith)
-    (chosen (leb 1000000 (v .figures .totals .steps)) (omega arith) (chosen (inRange kind i m) (asks (stepOf kind i m)) (omega arith)))
+    (chosen (leb 1000000 (v .figures .totals .steps)) (omega arith) (chosen (inRange n) (asks (stepOf n)) (omega arith)))
   where
     cat : Catalog
     cat = v .state .catalog
 
-    known : (j : ℕ) → cond (ltb j (length cat)) (cond (leb (itemAt cat j .blocks) (v .k)) 0 7) 6 ≤ 18
-    known j = chosen (ltb j (length cat)) (chosen (leb (itemAt cat j .blocks) (v .k)) (omega arith) (omega arith)) (omega arith)
+    known : (j : ℕ) {next : ℕ} → next ≤ 20 → ifKnown cat j next ≤ 20
+    known j l = chosen (ltb j (length cat)) (chosen (itemAt cat j .left) (omega arith) l) (omega arith)
 
-    asks : (s : Step) → itemRefusal (v .k) cat s ≤ 18
-    asks (Read j) = known j
-    asks (Write j minutes) = known j
+    room : (j : ℕ) → cond (leb (itemAt cat j .blocks) (v .k)) 0 7 ≤ 20
+    room j = chosen (leb (itemAt cat j .blocks) (v .k)) (omega arith) (omega arith)
+
+    asks : (s : Step) → itemRefusal (v .k) cat s ≤ 20
+    asks (Read j) = known j (room j)
+    asks (Write j minutes) = known j (room j)
     asks Flush = omega arith
+    asks (Arrive j b l w) = chosen (eqb j (length cat)) (omega arith) (omega arith)
+    asks (Retire j) = known j (omega arith)
 
 -- so a call's is: on a valid cache it is the table's, else 17
-pub call-number : {c d : Cache} {call : Call} {n : ℕ} → Called byValue c call n d → n ≤ 18
+pub call-number : {c d : Cache} {call : Call} {n : ℕ} → Called byValue c call n d → n ≤ 20
 call-number {c = c} {call = call} {n = n} h = omega (arith, above)
   where
-    above : 18 < n → ⊥
+    above : 20 < n → ⊥
     above l =
         let seventeen = h .invalid (λ ok. omega (arith, h .fine ok .answer, table-number (byValue .view c) call)) .0 in
         omega (arith, seventeen)
 
-pub opening-number : {k rule : ℕ} {cat : Catalog} {n : ℕ} {c : Cache} → Opened k rule cat n c → n ≤ 18
+pub opening-number : {k rule : ℕ} {cat : Catalog} {n : ℕ} {c : Cache} → Opened k rule cat n c → n ≤ 20
 unfolding openingRefusal
 opening-number {k = k} {rule = rule} {cat = cat} o =
-    let most : openingRefusal k rule cat ≤ 18 = chosen (capacityInRange k && catalogInRange cat) (chosen (isDeduction rule) (omega arith) (omega arith)) (omega arith) in
+    let most : openingRefusal k rule cat ≤ 20 = chosen (capacityInRange k && catalogInRange cat && noneLeft cat) (chosen (isDeduction rule) (omega arith) (omega arith)) (omega arith) in
     omega (arith, o .answer, most)
 
 -- ---- the answer tells it

@@ -6,7 +6,8 @@ use Prim.Native.Nat.{ℕ, _<_}
 use native.Mathlib.Omega.{arith}
 use borrow.Author.Tests.{eq-eqb, ne-eqb}
 use Rattle.types.specs.declared.Step.{Step}
-use Rattle.types.specs.Types.{stepKind, stepItem, stepMinutes}
+use Rattle.types.specs.declared.Numbers.{Numbers}
+use Rattle.types.specs.Types.{numbersOf}
 use Rattle.landlord.specs.Figures.{Standing}
 use Rattle.landlord.specs.Calls.{Call, stepCall, close, callOf, refusalNow, after}
 use Rattle.cache_state.specs.Cache.{view, Valid}
@@ -56,19 +57,13 @@ module _ {b : List ℕ} (c : Cache) (s : Stands b (recordOf c)) where
         invalid = λ bad. absurd (let y : _≡_ {A = ℕ} 17 0 = sym (h .invalid (λ ok. bad (valid-here ok)) .0) ∙ z in omega arith);
       }
 
--- a call from four numbers
-pub call-takes : (b left : List ℕ) (which kind i m n : ℕ) → which ≡ 0 → Called lent b (stepCall kind i m) n left → Called lent b (callFrom which kind i m) n left
-call-takes b left which kind i m n e h = rw (eq-eqb which 0 e) h
+-- a call of numbers
+pub call-takes : (b left : List ℕ) (which n : ℕ) (step : Numbers) → which ≡ 0 → Called lent b (stepCall step) n left → Called lent b (callFrom which step) n left
+call-takes b left which n step e h = rw (eq-eqb which 0 e) h
 
-pub call-closes : (b left : List ℕ) (which kind i m n : ℕ) → which ≢ 0 → Called lent b close n left → Called lent b (callFrom which kind i m) n left
-call-closes b left which kind i m n e h = rw (ne-eqb which 0 e) h
+pub call-closes : (b left : List ℕ) (which n : ℕ) (step : Numbers) → which ≢ 0 → Called lent b close n left → Called lent b (callFrom which step) n left
+call-closes b left which n step e h = rw (ne-eqb which 0 e) h
 
--- a step's numbers are those of its call
-pub called-as :
-    (c d : Cache) (s : Step) (n : ℕ) {kind i m : ℕ} →
-    kind ≡ stepKind s →
-    i ≡ stepItem s →
-    m ≡ stepMinutes s →
-    Called byValue c (stepCall kind i m) n d →
-    Called byValue c (callOf s) n d
-called-as c d s n p q w h = subst (λ (z : Call). Called byValue c z n d) (λ j. stepCall (p j) (q j) (w j)) h
+-- a step's call is that of its numbers
+pub called-as : (c d : Cache) (s : Step) (n : ℕ) {step : Numbers} → step ≡ numbersOf s → Called byValue c (stepCall step) n d → Called byValue c (callOf s) n d
+called-as c d s n e h = subst (λ (z : Numbers). Called byValue c (stepCall z) n d) e h

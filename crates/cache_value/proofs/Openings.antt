@@ -11,14 +11,14 @@ use Rattle.types.specs.declared.Deduction.{Deduction}
 use Rattle.types.specs.declared.Deduction.the-variants.{WriteFirst}
 use Rattle.types.specs.Types.{deductionOf}
 use Rattle.landlord.specs.Fold.{tabFrom, fold}
-use Rattle.landlord.specs.Catalog.{Catalog, Item, CapacityOk, CatalogOk, allInRange, catalogInRange}
+use Rattle.landlord.specs.Catalog.{Catalog, Item, listed, noneLeft, CapacityOk, CatalogOk, allInRange, catalogInRange}
 use Rattle.landlord.specs.Slot.{writeFirst, splitOf}
 use Rattle.landlord.specs.Rule.{flush, writeBacks}
 use Rattle.landlord.specs.Figures.{Standing, opened, closes}
 use Rattle.landlord.specs.Calls.{openingRefusal}
 use Rattle.landlord.specs.Valid.{StandingOk}
 use Rattle.landlord.proofs.Valid.{ok-opened, ok-closes}
-use Rattle.landlord.proofs.Ranges.{opening-accepts, range-refused, rule-refused}
+use Rattle.landlord.proofs.Ranges.{OpeningOk, listed-none-left, opening-accepts, range-refused, rule-refused}
 use Rattle.cache_state.specs.Cache.{EmptyPlace}
 use Rattle.cache_state.specs.InnerBecomes.{Becomes}
 use Rattle.cache_state.specs.Cache as records
@@ -55,7 +55,7 @@ stood k rule cat number c asked ok h empty e =
 
 -- a closed cache of 1 block with no items is in order
 refused-ok : StandingOk refusedOpening
-refused-ok = unfold closes flush writeBacks tabFrom fold in ok-closes (opened writeFirst 1 []) (ok-opened writeFirst 1 [] size none)
+refused-ok = unfold closes flush writeBacks tabFrom fold in ok-closes (opened writeFirst 1 []) (ok-opened writeFirst 1 [] size none (unfold noneLeft in refl))
   where
     size : CapacityOk 1
     size = refl
@@ -69,9 +69,9 @@ module _ (k rule n : ℕ) (blocks load write : List ℕ) where
   cat = catalogFrom n blocks load write
 
   abbrev item : ℕ → Item
-  item i = record { blocks = getD blocks i 0; load = getD load i 0; write = getD write i 0 }
+  item i = listed (getD blocks i 0) (getD load i 0) (getD write i 0)
 
-  opens-from : CapacityOk k × CatalogOk cat → Opens k n blocks
+  opens-from : OpeningOk k cat → Opens k n blocks
   unfolding catalogFrom
   opens-from f = record { capacity = f .0; few = catalog-few n item (f .1); each = catalog-blocks n item (f .1) }
 
@@ -86,7 +86,7 @@ module _ (k rule n : ℕ) (blocks load write : List ℕ) where
   refused-with number c asked some e =
       stood k rule cat number c asked (rw some refused-ok)
       (rw some
-      (empty-becomes 1 0 item true WriteFirst (replicate 256 0) (replicate 256 0) (replicate 256 0) (omega arith) (first-none blocks) (first-none load) (first-none write)))
+      (empty-becomes 1 0 item true WriteFirst (replicate 256 0) (replicate 256 0) (replicate 256 0) (omega arith) (first-none blocks) (first-none load) (first-none write) (λ i. refl)))
       (empty-place 1 0 (replicate 256 0) (replicate 256 0) (replicate 256 0) true WriteFirst) e
 
   -- out of range, whatever the rule's number
@@ -105,6 +105,10 @@ module _ (k rule n : ℕ) (blocks load write : List ℕ) where
     unfolding catalogFrom
     good = blocks-catalog n item (o .few) (o .each) ll lw
 
+    new : noneLeft cat ≡ true
+    unfolding catalogFrom
+    new = listed-none-left n (λ i. getD blocks i 0) (λ i. getD load i 0) (λ i. getD write i 0)
+
     pub open-odd :
         (number : ℕ) (c : Cache) →
         1 < rule →
@@ -112,7 +116,7 @@ module _ (k rule n : ℕ) (blocks load write : List ℕ) where
         recordOf c ≡ nothingOpened →
         Opened k rule cat number c
     open-odd number c odd is e =
-        refused-with number c (is ∙ rule-refused k rule cat (o .capacity) good (lt-leb rule 1 odd)) (rw is) e
+        refused-with number c (is ∙ rule-refused k rule cat (o .capacity) good new (lt-leb rule 1 odd)) (rw is) e
 
     pub open-taken :
         {b l w : List ℕ} {r : Deduction} (c : Cache) →
@@ -125,6 +129,6 @@ module _ (k rule n : ℕ) (blocks load write : List ℕ) where
         Opened k rule cat 0 c
     unfolding catalogFrom
     open-taken {b = b} {l = l} {w = w} c known fb fl fw is e =
-        stood k rule cat 0 c (sym (opening-accepts k rule cat (o .capacity) good (le-leb rule 1 known))) (ok-opened (splitOf (deductionOf rule)) k cat (o .capacity) good)
-        (empty-becomes k n item false (deductionOf rule) b l w (o .few) fb fl fw) (empty-place k n b l w false (deductionOf rule))
+        stood k rule cat 0 c (sym (opening-accepts k rule cat (o .capacity) good new (le-leb rule 1 known))) (ok-opened (splitOf (deductionOf rule)) k cat (o .capacity) good new)
+        (empty-becomes k n item false (deductionOf rule) b l w (o .few) fb fl fw (λ i. refl)) (empty-place k n b l w false (deductionOf rule))
         (e ∙ ap (emptyWith k n b l w false) is)

@@ -41,6 +41,9 @@ record-one c d e = λ j.
       flushes = e j .flushes;
       closed = e j .closed;
       rule = e j .rule;
+      left = e j .left;
+      arrivals = e j .arrivals;
+      retirements = e j .retirements;
     }
 
 pub valid-one : (c d : Cache) → Sizes (recordOf c) → Sizes (recordOf d) → byValue .Valid c → byValue .Valid d → byValue .view c ≡ byValue .view d → c ≡ d

@@ -4,7 +4,7 @@ use Prim.Native.Nat.{ℕ, _<_, _+_}
 use lib.{Dec.eqb, ListN.{getD, length, take}, Seq.sets}
 use Rattle.types.specs.declared.Deduction.{Deduction}
 use Rattle.types.specs.Types.{telling, nothingTold, told, Told, deductionOf}
-use Rattle.landlord.specs.{Fold.tab, Catalog.Catalog, Slot.{writeFirst, splitOf}, Rule.emptied, Figures.{Standing, nothing, opened}, Calls.{Call, callItem, openingRefusal, close, refusal}}
+use Rattle.landlord.specs.{Fold.tab, Catalog.{Catalog, listed}, Slot.{writeFirst, splitOf}, Rule.emptied, Figures.{Standing, nothing, opened}, Calls.{Call, callItem, openingRefusal, close, refusal}}
 use Rattle.cache_state.specs.Cache.{Cache as Record, view, Valid, EmptyPlace}
 use Rattle.cache.specs.Contract.{Kind, Called, Closing, Bounded, Season}
 use Rattle.cache_value.specs.declared.{Cache.Cache, Answer.{Answer, the-variants.{Taken, Refused}}, Answered.Answered}
@@ -36,6 +36,9 @@ recordOf c =
       flushes = c .flushes;
       closed = c .closed;
       rule = c .rule;
+      left = c .left;
+      arrivals = c .arrivals;
+      retirements = c .retirements;
     }
 
 -- the struct as a kind of state
@@ -44,7 +47,7 @@ byValue = record { view = λ c. view (recordOf c); Valid = λ c. Valid (recordOf
 
 -- the catalog that an opening is given: of arrays of blocks, load costs and write costs, the first n places
 unfoldable pub catalogFrom : ℕ → List ℕ → List ℕ → List ℕ → Catalog
-catalogFrom n blocks load write = tab n (λ i. record { blocks = getD blocks i 0; load = getD load i 0; write = getD write i 0 })
+catalogFrom n blocks load write = tab n (λ i. listed (getD blocks i 0) (getD load i 0) (getD write i 0))
 
 -- "refused by value, it gives a closed locker of 1 block with no sails"; "write-first if refused" (paper 02, 'Three')
 abbrev pub refusedOpening : Standing

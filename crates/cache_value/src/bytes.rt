@@ -17,10 +17,12 @@ pub fn encode(c: Cache, b: &mut [u8])
     cache_parts::put_totals(b, c.evictions, c.dirtyevictions, c.writebacks, c.flushes);
     let dirty = c.dirty;
     let rule = c.rule;
+    let left = c.left;
     cache_parts::put_costs(b, c.loadcost, c.writecost, dirty);
     cache_parts::put_credits(b, &c.loadcredit, &c.writecredit);
     cache_parts::put_uses(b, &c.minutes, &c.itemloads, &c.itemwritebacks);
     cache_parts::put_catalog(b, &c.load, &c.write, &c.blocks, &c.held, rule);
+    cache_parts::put_arrivals(b, left, c.arrivals, c.retirements);
 }
 
 // The cache that the bytes stand for. A flag is read as set unless its number is 0.
@@ -52,5 +54,8 @@ pub fn decode(b: &[u8]) -> Cache
         blocks: fields::get_run1(b, layout::AT_BLOCKS),
         held: fields::get_flags(b, layout::AT_HELD),
         rule: layout::rule(b),
+        left: layout::left(b),
+        arrivals: layout::arrivals(b),
+        retirements: layout::retirements(b),
     }
 }

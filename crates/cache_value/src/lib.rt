@@ -10,6 +10,7 @@ ghost use Rattle.cache_run.specs.Inner.{callFrom};
 ghost use Rattle.cache_value.specs.Contract.{recordOf, byValue, catalogFrom, answerTold, CalledBy, OpenedBy, Ran};
 ghost use Rattle.cache_value.specs.Inner.{nothingOpened, Opened};
 use types::Deduction;
+use types::Numbers;
 use types::Refusal;
 use types::Step;
 
@@ -44,6 +45,10 @@ pub struct Cache {
     pub closed: bool,
     // which credit an item loses from first, as the opening said
     pub rule: Deduction,
+    // 256 marks, one for each item that has left
+    pub left: [u64; 4],
+    pub arrivals: u32,
+    pub retirements: u32,
 }
 
 // The answer to a call: taken, or why not.
@@ -66,7 +71,7 @@ struct Reply {
 
 // ---- the opening
 
-// A cache in which nothing is held and nothing counted.
+// A cache in which nothing is held and nothing counted, and from which no item has left.
 fn empty(
     k: u32,
     n: usize,
@@ -102,6 +107,9 @@ fn empty(
         flushes: 0,
         closed: closed,
         rule: rule,
+        left: [0; 4],
+        arrivals: 0,
+        retirements: 0,
     }
 }
 
@@ -152,19 +160,19 @@ fn opening(
 
 // ---- the calls
 
-// A call from four numbers, in place on any bytes: 0 and then a step's kind, item and minutes; or another number, and it is the closing.
-fn call_bytes(b: &mut [u8], which: u32, kind: u32, item: u32, minutes: u32) -> u32
-    ensures { λ r. ⌜ Called lent (now (b .entry)) (callFrom which kind item minutes) r (now (b .exit)) ⌝ }
+// A call, in place on any bytes: 0 and then a step's numbers; or another number, and it is the closing.
+fn call_bytes(b: &mut [u8], which: u32, n: Numbers) -> u32
+    ensures { λ r. ⌜ Called lent (now (b .entry)) (callFrom which n) r (now (b .exit)) ⌝ }
 {
     if which == 0 {
-        return cache::step(b, kind, item, minutes);
+        return cache::step(b, n);
     }
     cache::close(b)
 }
 
-// A call from four numbers, by value. A cache of more items than there are places is not valid, and has no room in the bytes.
-fn call(c: Cache, which: u32, kind: u32, item: u32, minutes: u32) -> Reply
-    ensures { λ r. ⌜ Called byValue c (callFrom which kind item minutes) (r .number) (r .cache) ⌝ }
+// The same by value. A cache of more items than there are places is not valid, and has no room in the bytes.
+fn call(c: Cache, which: u32, n: Numbers) -> Reply
+    ensures { λ r. ⌜ Called byValue c (callFrom which n) (r .number) (r .cache) ⌝ }
 {
     if c.n > 256 {
         return Reply {
@@ -174,7 +182,7 @@ fn call(c: Cache, which: u32, kind: u32, item: u32, minutes: u32) -> Reply
     }
     let mut b = [0u8; layout::STATE_BYTES];
     bytes::encode(c, &mut b);
-    let refusal = call_bytes(&mut b, which, kind, item, minutes);
+    let refusal = call_bytes(&mut b, which, n);
     if refusal != 0 {
         return Reply {
             number: refusal,
@@ -189,7 +197,7 @@ fn call(c: Cache, which: u32, kind: u32, item: u32, minutes: u32) -> Reply
 
 // The answer with a call's number, about an item, and no line.
 fn answer_to(number: u32, item: u32) -> Answer
-    requires { ⌜ number ≤ 18 ⌝ }
+    requires { ⌜ number ≤ 20 ⌝ }
     ensures { λ r. ⌜ answerTold r ≡ telling number 0 item ⌝ }
 {
     if number == 0 {
@@ -200,7 +208,7 @@ fn answer_to(number: u32, item: u32) -> Answer
 
 // A reply with its number as an answer, about the call's item.
 fn answer_with(r: Reply, item: u32) -> Answered
-    requires { ⌜ r .number ≤ 18 ⌝ }
+    requires { ⌜ r .number ≤ 20 ⌝ }
     ensures { λ a. ⌜ (answerTold (a .answer) ≡ telling (r .number) 0 item) × (a .cache ≡ r .cache) ⌝ }
 {
     let next = r.cache;
@@ -230,21 +238,21 @@ impl Cache {
     pub fn step(self, s: Step) -> Answered
         ensures { λ r. ⌜ CalledBy self (callOf s) r ⌝ }
     {
-        let item = s.item();
-        answer_with(call(self, 0, s.kind(), item, s.minutes()), item)
+        let n = s.numbers();
+        answer_with(call(self, 0, n), n.item)
     }
 
     // Closes the log: what is dirty is written back.
     pub fn close(self) -> Answered
         ensures { λ r. ⌜ CalledBy self close r ⌝ }
     {
-        answer_with(call(self, 1, 0, 0, 0), 0)
+        answer_with(call(self, 1, Step::Flush.numbers()), 0)
     }
 }
 
 // ---- a list of calls
 
-// A whole list of calls from an opening on, given as numbers, four to a call. The answers are noted as far as there is place; handed
+// A whole list of calls from an opening on, given as numbers, seven to a call. The answers are noted as far as there is place; handed
 // back are the opening's answer and the cache after the last call.
 pub fn run(
     k: u32,

@@ -5,6 +5,7 @@ use Prim.Native.Nat.{ℕ, suc, _+_, _*_, _/_, _%_}
 use native.Mathlib.Omega.{arith}
 use lib.ListN.{getD, set}
 use lib.Seq.{sets}
+use Rattle.landlord.specs.Catalog.{listed}
 use Rattle.catalog_bytes.specs.Inner.{itemBytes}
 
 -- a number of two bytes, read
@@ -21,7 +22,7 @@ number-read xs i k m lo hi p q =
 pub put-stores :
     (xs : List ℕ) (i b l w : ℕ) →
     set (set (set (set (set xs (i * 5) b) (i * 5 + 1) (l % 256)) (i * 5 + 2) (l / 256)) (i * 5 + 3) (w % 256)) (i * 5 + 4) (w / 256)
-    ≡ sets xs (5 * i) (itemBytes (record { blocks = b; load = l; write = w }))
+    ≡ sets xs (5 * i) (itemBytes (listed b l w))
 put-stores xs i b l w =
     let e : i * 5 ≡ 5 * i = omega arith in
     let e₁ : 5 * i + 1 ≡ suc (5 * i) = omega arith in

@@ -2,6 +2,7 @@
 ghost use mathlib.Core.Path.{_≡_};
 ghost use Prim.Native.Nat.{_*_, _<_};
 ghost use lib.Seq.{sets};
+ghost use Rattle.landlord.specs.Catalog.{listed};
 ghost use Rattle.catalog_bytes.specs.Catalogs.{itemIn};
 ghost use Rattle.catalog_bytes.specs.Inner.{itemBytes, HasItem};
 
@@ -44,7 +45,7 @@ pub fn write_cost(catalog: &[u8], i: usize) -> u16
 // Stores item `i`.
 pub fn put(catalog: &mut [u8], i: usize, blocks: u8, load: u16, write: u16)
     requires { ⌜ HasItem (now catalog) i ⌝ }
-    ensures { λ _. ⌜ now (catalog .exit) ≡ sets (now (catalog .entry)) (5 * i) (itemBytes (record { blocks = blocks; load = load; write = write })) ⌝ }
+    ensures { λ _. ⌜ now (catalog .exit) ≡ sets (now (catalog .entry)) (5 * i) (itemBytes (listed blocks load write)) ⌝ }
 {
     let at = i * 5;
     catalog[at] = blocks;

@@ -2,6 +2,7 @@
 // fails, one line on standard error says what, and a log that was not read to its end is not answered.
 ghost use Prim.Native.Nat.{_≤_};
 ghost use lib.ListN.{length};
+use log_reader::ReadAnswer;
 use report::Written;
 use season_log::LogAnswer;
 use types::Refusal;
@@ -23,10 +24,10 @@ fn output(text: &[u8], page: &mut [u8]) -> usize
     // Room for the steps of any log.
     let mut list = [0u8; log_reader::ROOM];
     match log_reader::read_log(text, &mut list) {
-        LogAnswer::Refused(r) => put_refusal(r, page),
-        LogAnswer::Count(steps) => {
-            let bytes = 12 * steps;
-            match season_log::write_log(&list[..bytes], page) {
+        ReadAnswer::Refused(r) => put_refusal(r, page),
+        ReadAnswer::Steps { heading, count } => {
+            let bytes = 24 * count;
+            match season_log::write_log(heading, &list[..bytes], page) {
                 LogAnswer::Refused(r) => put_refusal(r, page),
                 LogAnswer::Count(n) => n,
             }

@@ -1,9 +1,9 @@
 -- A list of calls against its log: the table lets the log through, every list of steps that the table lets through is the log
 -- of some calls, and the rule, asked call by call, stands where it stands over the log. Assumes nothing.
 use mathlib.Core.Path.{_≡_, refl, sym, ap, _∙_}
-use mathlib.Core.Bool.{Bool, true, false, cond}
+use mathlib.Core.Bool.{Bool, true, false, cond, _&&_}
 use mathlib.Core.List.{List, [], _∷_, _++_, append-nil, map}
-use Prim.Native.Nat.{ℕ, suc, _<_}
+use Prim.Native.Nat.{ℕ, zero, suc, _≤_, _<_}
 use native.Mathlib.Omega.{arith}
 use native.Mathlib.Decide.{ℕ-discrete}
 use lib.ListN.{length, getD, drop, length-append, List·getD-append}
@@ -11,65 +11,94 @@ use lib.Seq.{getD-append-seam, append-snoc, split-at}
 use lib.Dec.{leb, eqb}
 use borrow.Author.Tests.{eqb-true, eq-eqb}
 use Rattle.types.specs.declared.Step.{Step}
-use Rattle.types.specs.declared.Step.the-variants.{Read, Write, Flush}
-use Rattle.types.specs.Types.{stepKind, stepItem, stepMinutes}
+use Rattle.types.specs.declared.Step.the-variants.{Read, Write, Flush, Arrive, Retire}
+use Rattle.types.specs.declared.Numbers.{Numbers}
+use Rattle.types.specs.Types.{stepOf}
+use Rattle.types.proofs.Steps.{same-step}
 use Rattle.landlord.specs.Fold.{fold}
-use Rattle.landlord.specs.Catalog.{Catalog, CatalogOk}
+use Rattle.landlord.specs.Catalog.{Catalog, CatalogOk, listed, itemInRange, catalogAfter}
 use Rattle.landlord.specs.Slot.{Split}
 use Rattle.landlord.specs.Figures.{Standing, opened, took, ran, season}
-use Rattle.landlord.specs.Calls.{Call, stepCall, close, Log, noLog, callOf, stepOf, itemRefusal, refusalAt, refusalIn, refusal, refusalNow, logged, joins, logOf, ruleOver, accepted, after}
+use Rattle.landlord.specs.Calls.{Call, stepCall, close, Log, noLog, callOf, itemRefusal, refusalAt, refusalIn, refusal, refusalNow, logged, joins, logOf, ruleOver, accepted, after}
 use Rattle.landlord.specs.Claims.{SplitOk, AllowedLog}
 use Rattle.landlord.proofs.Folds.{either, fold-append, fold-more}
 use Rattle.landlord.proofs.Logs.{StandsAfter, all-served, ran-stands, closes-stands}
 
 -- A call of a known kind in range is answered as the step that it means: values that a step lacks are not looked at.
 pub means :
-    (k : ℕ) (cat : Catalog) (t kind i m : ℕ) →
-    refusalAt k cat t false (stepCall kind i m) ≡ 0 →
-    refusalAt k cat t false (callOf (stepOf kind i m)) ≡ 0
+    (k : ℕ) (cat : Catalog) (t : ℕ) (n : Numbers) →
+    refusalAt k cat t false (stepCall n) ≡ 0 →
+    refusalAt k cat t false (callOf (stepOf n)) ≡ 0
 unfolding refusalAt stepOf
-means k cat t kind i m e = go (eqb kind 82) (eqb kind 87) (eqb kind 76) e
+means k cat t n e = go (eqb (n .kind) 82) (eqb (n .kind) 87) (eqb (n .kind) 65) (eqb (n .kind) 81) (eqb (n .kind) 76) e
   where
     late : (a : Bool) → _≡_ {A = ℕ} (cond a 8 3) 0 → _≡_ {A = ℕ} (cond a 8 0) 0
     late true e = e
     late false e = absurd (omega arith)
 
-    meant : Bool → Bool → Step
-    meant a b = cond a (Read i) (cond b (Write i m) Flush)
+    meant : Bool → Bool → Bool → Bool → Step
+    meant a b c d =
+        cond a (Read (n .item))
+        (cond b (Write (n .item) (n .minutes))
+        (cond c (Arrive (n .item) (n .blocks) (n .load) (n .write))
+        (cond d (Retire (n .item))
+        Flush)))
 
-    ranged : Bool → Bool → Bool → Bool
-    ranged a b c = cond a (leb i 255) (cond b (cond (leb i 255) (leb m 1440) false) c)
+    ranged : Bool → Bool → Bool → Bool → Bool → Bool
+    ranged a b c d f =
+        cond a (leb (n .item) 255)
+        (cond b (leb (n .item) 255 && leb (n .minutes) 1440)
+        (cond c (leb (n .item) 255 && itemInRange (listed (n .blocks) (n .load) (n .write)))
+        (cond d (leb (n .item) 255)
+        f)))
 
     go :
-        (a b c : Bool) →
-        _≡_ {A = ℕ} (cond (leb 1000000 t) 8 (cond (ranged a b c) (itemRefusal k cat (meant a b)) 3)) 0 →
-        refusalAt k cat t false (callOf (meant a b)) ≡ 0
-    go true b c e = e
-    go false true c e = e
-    go false false true e = e
-    go false false false e = late (leb 1000000 t) e
+        (a b c d f : Bool) →
+        _≡_ {A = ℕ} (cond (leb 1000000 t) 8 (cond (ranged a b c d f) (itemRefusal k cat (meant a b c d)) 3)) 0 →
+        refusalAt k cat t false (callOf (meant a b c d)) ≡ 0
+    go true b c d f e = e
+    go false true c d f e = e
+    go false false true d f e = e
+    go false false false true f e = e
+    go false false false false true e = e
+    go false false false false false e = late (leb 1000000 t) e
 
 -- an open log: a refused step on a closed one is refused with 9
 pub open-log : (k : ℕ) (cat : Catalog) (t : ℕ) (c : Bool) (call : Call) → refusalAt k cat t c call ≡ 0 → c ≡ false
 unfolding refusalAt
-open-log k cat t true (stepCall kind i m) e = absurd (omega arith)
-open-log k cat t false (stepCall kind i m) e = refl
+open-log k cat t true (stepCall n) e = absurd (omega arith)
+open-log k cat t false (stepCall n) e = refl
 open-log k cat t true close e = absurd (omega arith)
 open-log k cat t false close e = refl
+
+-- the first i of two lists joined, where the first list has so many
+take-front {ℓ} : {A : Type ℓ} (xs ys : List A) (i : ℕ) → i ≤ length xs → lib.ListN.take i (xs ++ ys) ≡ lib.ListN.take i xs
+take-front [] ys zero l = refl
+take-front [] ys (suc i) l = absurd (omega arith)
+take-front (x ∷ xs) ys zero l = refl
+take-front (x ∷ xs) ys (suc i) l = ap (λ (z : List _). x ∷ z) (take-front xs ys i (omega arith))
+
+take-all {ℓ} : {A : Type ℓ} (xs : List A) → lib.ListN.take (length xs) xs ≡ xs
+take-all [] = refl
+take-all (x ∷ xs) = ap (λ (z : List _). x ∷ z) (take-all xs)
 
 -- one step more at the end of a list that the table lets through
 allowed-more :
     (k : ℕ) (cat : Catalog) (steps : List Step) (s : Step) →
     AllowedLog k cat steps →
-    refusalAt k cat (length steps) false (callOf s) ≡ 0 →
+    refusalAt k (catalogAfter cat steps) (length steps) false (callOf s) ≡ 0 →
     AllowedLog k cat (steps ++ (s ∷ []))
 allowed-more k cat steps s a e = record { each = λ i l. at i l (ℕ-discrete i (length steps)) }
   where
-    at : (i : ℕ) → i < length (steps ++ (s ∷ [])) → Dec (i ≡ length steps) → refusalAt k cat i false (callOf (getD (steps ++ (s ∷ [])) i Flush)) ≡ 0
-    at i l (yes q) = rw (q, getD-append-seam steps s [] Flush) e
+    at :
+        (i : ℕ) →
+        i < length (steps ++ (s ∷ [])) →
+        Dec (i ≡ length steps) →
+        refusalAt k (catalogAfter cat (lib.ListN.take i (steps ++ (s ∷ [])))) i false (callOf (getD (steps ++ (s ∷ [])) i Flush)) ≡ 0
+    at i l (yes q) = rw (q, getD-append-seam steps s [] Flush, take-front steps (s ∷ []) (length steps) (omega arith), take-all steps) e
     at i l (no q) =
         let b : i < length steps = omega (arith, length-append steps (s ∷ [])) in
-        rw (List·getD-append steps (s ∷ []) Flush i b) (a .each i b)
+        rw (List·getD-append steps (s ∷ []) Flush i b, take-front steps (s ∷ []) i (omega arith)) (a .each i b)
 
 -- a call that is refused leaves the log, and one that is not joins it
 pub joins-either : (k : ℕ) (cat : Catalog) (l : Log) (call : Call) (P : Log → Type 0) → (refusalIn k cat l call ≡ 0 → P (logged l call)) → P l → P (joins k cat l call)
@@ -78,9 +107,10 @@ joins-either k cat l call P taken kept =
     either P (eqb (refusalIn k cat l call) 0) (logged l call) l (λ e. taken (eqb-true (refusalIn k cat l call) 0 e)) (λ e. kept)
 
 pub logged-allowed : (k : ℕ) (cat : Catalog) (l : Log) (call : Call) → AllowedLog k cat (l .steps) → refusalIn k cat l call ≡ 0 → AllowedLog k cat (logged l call .steps)
-logged-allowed k cat l (stepCall kind i m) a e =
-    let c : l .closed ≡ false = open-log k cat (length (l .steps)) (l .closed) (stepCall kind i m) e in
-    allowed-more k cat (l .steps) (stepOf kind i m) a (means k cat (length (l .steps)) kind i m (rw c at e))
+logged-allowed k cat l (stepCall n) a e =
+    let now : Catalog = catalogAfter cat (l .steps) in
+    let c : l .closed ≡ false = open-log k now (length (l .steps)) (l .closed) (stepCall n) e in
+    allowed-more k cat (l .steps) (stepOf n) a (means k now (length (l .steps)) n (rw c at e))
 logged-allowed k cat l close a e = a
 
 -- what holds of the empty log, and of a log that one call more joins, holds of the log of every list of calls
@@ -101,13 +131,6 @@ log-allowed k cat calls =
     log-induction k cat (λ l. AllowedLog k cat (l .steps)) (λ l call a e. logged-allowed k cat l call a e) noLog calls
     (record { each = λ i b. absurd (let z : i < 0 = b in omega arith) })
 
--- a step, as a call, means itself
-pub same-step : (s : Step) → stepOf (stepKind s) (stepItem s) (stepMinutes s) ≡ s
-unfolding stepOf
-same-step (Read i) = refl
-same-step (Write i m) = refl
-same-step Flush = refl
-
 abbrev open-with : List Step → Log
 open-with steps = record { steps = steps; closed = false }
 
@@ -118,10 +141,14 @@ logged-one :
 unfolding joins
 logged-one k cat seen rest s a =
     let b : length seen < length (seen ++ (s ∷ rest)) = omega (arith, length-append seen (s ∷ rest)) in
-    let e : refusalAt k cat (length seen) false (callOf s) ≡ 0 =
-    ap (λ (q : Step). refusalAt k cat (length seen) false (callOf q)) (sym (getD-append-seam seen s rest Flush)) ∙ a .each (length seen) b
+    let now : Catalog = catalogAfter cat seen in
+    let same : catalogAfter cat (lib.ListN.take (length seen) (seen ++ (s ∷ rest))) ≡ now =
+    ap (λ (z : List Step). catalogAfter cat z) (take-front seen (s ∷ rest) (length seen) (omega arith) ∙ take-all seen)
     in
-    rw (eq-eqb (refusalAt k cat (length seen) false (callOf s)) 0 e) (ap (λ (q : Step). open-with (seen ++ (q ∷ []))) (same-step s))
+    let e : refusalAt k now (length seen) false (callOf s) ≡ 0 =
+    (λ z. refusalAt k (sym same z) (length seen) false (callOf (sym (getD-append-seam seen s rest Flush) z))) ∙ a .each (length seen) b
+    in
+    rw (eq-eqb (refusalAt k now (length seen) false (callOf s)) 0 e) (ap (λ (q : Step). open-with (seen ++ (q ∷ []))) (same-step s))
 
 -- and every list of steps that the table lets through is the log of those steps as calls
 pub allowed-logged : (k : ℕ) (cat : Catalog) (steps : List Step) → AllowedLog k cat steps → logOf k cat (map callOf steps) ≡ open-with steps
@@ -137,15 +164,21 @@ allowed-logged k cat steps a = from [] steps a
 
 module _ (split : Split) (k : ℕ) (cat : Catalog) (ok : SplitOk split) (good : CatalogOk cat) where
   -- where the rule stands after a log that the table lets through
-  pub stands-over : (l : Log) → AllowedLog k cat (l .steps) → StandsAfter k cat (length (l .steps)) (l .closed) (ruleOver split k cat l)
+  pub stands-over :
+      (l : Log) →
+      AllowedLog k cat (l .steps) →
+      StandsAfter k (catalogAfter cat (l .steps)) (length (l .steps)) (l .closed) (ruleOver split k cat l)
   unfolding ruleOver
   stands-over l a = go (l .closed)
     where
-      so : StandsAfter k cat (length (l .steps)) false (ran split k cat (l .steps))
+      now : Catalog
+      now = catalogAfter cat (l .steps)
+
+      so : StandsAfter k now (length (l .steps)) false (ran split k cat (l .steps))
       so = ran-stands split k cat (l .steps) ok good (all-served k cat (l .steps) a)
 
-      go : (c : Bool) → StandsAfter k cat (length (l .steps)) c (cond c (season split k cat (l .steps)) (ran split k cat (l .steps)))
-      go true = closes-stands k cat (length (l .steps)) (ran split k cat (l .steps)) so
+      go : (c : Bool) → StandsAfter k now (length (l .steps)) c (cond c (season split k cat (l .steps)) (ran split k cat (l .steps)))
+      go true = closes-stands k now (length (l .steps)) (ran split k cat (l .steps)) so
       go false = so
 
   -- the table gives the same answer to the rule where it stands as to the log
@@ -156,7 +189,7 @@ module _ (split : Split) (k : ℕ) (cat : Catalog) (ok : SplitOk split) (good : 
 
   over-more : (l : Log) (call : Call) → l .closed ≡ false → accepted (ruleOver split k cat l) call ≡ ruleOver split k cat (logged l call)
   unfolding ruleOver fold
-  over-more l (stepCall kind i m) e = rw e (sym (fold-append took (opened split k cat) (l .steps) (stepOf kind i m ∷ [])))
+  over-more l (stepCall n) e = rw e (sym (fold-append took (opened split k cat) (l .steps) (stepOf n ∷ [])))
   over-more l close e = rw e
 
   pub one-call : (l : Log) (call : Call) → AllowedLog k cat (l .steps) → after (ruleOver split k cat l) call ≡ ruleOver split k cat (joins k cat l call)
@@ -167,7 +200,7 @@ module _ (split : Split) (k : ℕ) (cat : Catalog) (ok : SplitOk split) (good : 
           (t : Bool) →
           eqb (refusalIn k cat l call) 0 ≡ t →
           cond t (accepted (ruleOver split k cat l) call) (ruleOver split k cat l) ≡ ruleOver split k cat (cond t (logged l call) l)
-      go true e = over-more l call (open-log k cat (length (l .steps)) (l .closed) call (eqb-true (refusalIn k cat l call) 0 e))
+      go true e = over-more l call (open-log k (catalogAfter cat (l .steps)) (length (l .steps)) (l .closed) call (eqb-true (refusalIn k cat l call) 0 e))
       go false e = refl
 
   -- the rule asked call by call stands where it stands over the log of the calls
@@ -190,7 +223,7 @@ closed-stays k cat l (call ∷ calls) e =
     ap (λ (m : Log). fold (joins k cat) m calls) same ∙ closed-stays k cat l calls e
   where
     refused : (call : Call) → refusalIn k cat l call ≡ 9
-    refused (stepCall kind i m) = unfold refusalAt in rw e
+    refused (stepCall n) = unfold refusalAt in rw e
     refused close = unfold refusalAt in rw e
 
 closes-log : (k : ℕ) (cat : Catalog) (l : Log) → refusalIn k cat l close ≡ 0 → joins k cat l close ≡ record { steps = l .steps; closed = true }

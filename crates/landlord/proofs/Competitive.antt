@@ -3,31 +3,32 @@
 use mathlib.Core.Path.{_≡_, refl, sym, ap, subst, _∙_}
 use mathlib.Core.Logic.{_≢_}
 use mathlib.Core.Bool.{Bool, true, false, cond}
-use mathlib.Core.List.{List, [], _∷_}
+use mathlib.Core.List.{List, [], _∷_, _++_}
 use Prim.Native.Nat.{ℕ, suc, _+_, _*_, _-_, _≤_, _<_}
 use native.Mathlib.Nat.{dvd-mul-right, add-zero, zero-add, add-assoc}
 use native.Mathlib.Omega.{arith}
-use lib.ListN.{length, set, length-set}
+use lib.ListN.{length, set, length-set, List·getD-eq-default}
 use lib.Seq.{getD-set-same, getD-set-other}
 use lib.Dec.{leb, ltb}
 use borrow.Author.Tests.{ltb-true, leb-true}
 use Rattle.types.specs.declared.Step.{Step}
-use Rattle.types.specs.declared.Step.the-variants.{Read, Write, Flush}
+use Rattle.types.specs.declared.Step.the-variants.{Read, Write, Flush, Arrive, Retire}
 use Rattle.types.specs.declared.Act.{Act}
 use Rattle.types.specs.declared.Act.the-variants.{Evict, Fetch}
 use Rattle.landlord.specs.Fold.{fold, sumTo, tab}
-use Rattle.landlord.specs.Catalog.{Catalog, CatalogOk, itemAt, unit, full}
+use Rattle.landlord.specs.Catalog.{Catalog, Item, CatalogOk, itemAt, listed, catalogNext, catalogAfter, unit, full}
 use Rattle.landlord.specs.Slot.{Slot, absent, clean, dirty, held, isDirty, loadCredit, writeCredit, Split, lose, brought, refilled, written, flushed}
-use Rattle.landlord.specs.Rule.{State, Event, hit, loaded, evicted, wrote, Moved, size, slotAt, blocksAt, used, rank, victim, evictItem, evict, makeRoom, putSlot, found, flush, step}
+use Rattle.landlord.specs.Rule.{State, Event, hit, loaded, evicted, wrote, retired, Moved, size, slotAt, blocksAt, used, rank, victim, evictItem, evict, makeRoom, putSlot, found, flush, dropItem, step}
 use Rattle.landlord.specs.Figures.{Totals, Standing, adds, totalCost, opened, moved, took, closes, ran, season, leftSide, rightSide}
-use Rattle.landlord.specs.Plan.{Plan, Copy, noCopy, cleanCopy, dirtyCopy, has, isChanged, cleaned, copyAt, planUsed, owed, Done, done, faulty, Priced, costs, fault, planActs, andPaid, andThen, allActs, planServes, pricedWith, priceThen, priceFrom, price}
+use Rattle.landlord.specs.Plan.{Plan, Copy, noCopy, cleanCopy, dirtyCopy, has, isChanged, cleaned, copyAt, planUsed, owed, Done, done, faulty, Priced, costs, fault, ifPresent, planActs, andPaid, andThen, allActs, planServes, pricedWith, priceThen, priceFrom, price}
 use Rattle.landlord.specs.Claims.{SplitOk, SlotKept, Kept, Least, AllowedLog, CompetitiveBound, SharpBound}
 use Rattle.landlord.proofs.Ranges.{catalog-facts}
 use Rattle.landlord.proofs.Folds.{either, tab-at, tab-length}
 use Rattle.landlord.proofs.Slots.{Lost, lose-lost, read-held, flush-held}
 use Rattle.landlord.proofs.Sums.{sum-eq}
 use Rattle.landlord.proofs.Potential
-use Rattle.landlord.proofs.Keeps.{Evicting, enough, more, RoomMade, make-room, Served, rank-whole, bears-rank, evicted-slot, other-slot, evict-catalog, evict-kept, still-absent, put-same, put-other, flush-slot}
+use Rattle.landlord.proofs.Keeps.{Evicting, enough, more, RoomMade, make-room, Served, rank-whole, bears-rank, evicted-slot, other-slot, evict-catalog, evict-kept, still-absent, put-same, put-other, flush-slot, grown, grown-slot, drop-slot, drop-other}
+use Rattle.landlord.proofs.Catalogs.{padded, one-longer, arrived-other, retired-length, retired-alike}
 use Rattle.landlord.proofs.Logs.{eventSum, eventSum-none, eventSum-one, event-append, write-backs-sum, tally-part, AllServed, all-served, StandsAfter, opened-stands, took-stands, closes-stands, ran-stands}
 use Rattle.landlord.proofs.Potential.{Both, both, Terms, Charged, heldBlocks, wasRead, keeps-takes}
 use Rattle.landlord.proofs.Moves
@@ -86,44 +87,61 @@ module _ (k h : ℕ) (low : 1 ≤ h) (high : h ≤ k) (cat : Catalog) (good : Ca
       }
 
   -- What a part of a plan reaches from a position, if it is done: the cache has paid a and stands at x, the plan has paid
-  -- the part's cost over b.
-  abbrev Reach : Position → ℕ → ℕ → State → Done → Type 0
-  Reach from a b x (done r c) = (length r ≡ length cat) × Run terms from (position a (b + c) x r)
-  Reach from a b x (faulty f) = Unit {0}
+  -- the part's cost over b and has n copies, none of an item past the catalog.
+  abbrev Reach : ℕ → Position → ℕ → ℕ → State → Done → Type 0
+  Reach n from a b x (done r c) = (length r ≡ n) × Run terms from (position a (b + c) x r) × ((i : ℕ) → length cat ≤ i → copyAt r i ≡ noCopy)
+  Reach n from a b x (faulty f) = Unit {0}
+
+  none-past : (r : List Copy) → length r ≡ length cat → (i : ℕ) → length cat ≤ i → copyAt r i ≡ noCopy
+  none-past r e i l = List·getD-eq-default r noCopy (omega arith)
+
+  -- an act on an item that is in the catalog and has not left
+  present-reach :
+      (s j i : ℕ) (from : Position) (a b : ℕ) (x : State) (d : Done) →
+      (i < length cat → Reach (length cat) from a b x d) →
+      Reach (length cat) from a b x (ifPresent cat s j i d)
+  present-reach s j i from a b x d there =
+      either (Reach (length cat) from a b x) (ltb i (length cat)) _ _
+      (λ f. either (Reach (length cat) from a b x) (itemAt cat i .left) _ _ (λ g. tt) (λ g. there (ltb-true i (length cat) f)))
+      (λ f. tt)
 
   -- an act is a move of the plan
-  act-reach : (s j : ℕ) (act : Act) (a b : ℕ) (x : State) (q : List Copy) → length q ≡ length cat → Reach (position a b x q) a b x (planActs cat s j act q)
+  act-reach : (s j : ℕ) (act : Act) (a b : ℕ) (x : State) (q : List Copy) → length q ≡ length cat → Reach (length cat) (position a b x q) a b x (planActs cat s j act q)
   unfolding planActs
   act-reach s j (Evict i) a b x q e =
-      either (Reach (position a b x q) a b x) (ltb i (length cat)) _ _
-      (λ f. either (Reach (position a b x q) a b x) (has (copyAt q i)) _ _
-      (λ g. (length-set q i noCopy ∙ e, Run.step (Move.planEvicts i (ltb-true i (length cat) f) g (plan-pays a b _) (plan-upd x q i noCopy e (ltb-true i (length cat) f))) Run.stay))
+      let len : length (set q i noCopy) ≡ length cat = length-set q i noCopy ∙ e in
+      present-reach s j i (position a b x q) a b x _
+      (λ l. either (Reach (length cat) (position a b x q) a b x) (has (copyAt q i)) _ _
+      (λ g. (len, Run.step (Move.planEvicts i l g (plan-pays a b _) (plan-upd x q i noCopy e l)) Run.stay, none-past (set q i noCopy) len))
       (λ g. tt))
-      (λ f. tt)
   act-reach s j (Fetch i) a b x q e =
-      either (Reach (position a b x q) a b x) (ltb i (length cat)) _ _
-      (λ f. either (Reach (position a b x q) a b x) (has (copyAt q i)) _ _
+      let len : length (set q i cleanCopy) ≡ length cat = length-set q i cleanCopy ∙ e in
+      present-reach s j i (position a b x q) a b x _
+      (λ l. either (Reach (length cat) (position a b x q) a b x) (has (copyAt q i)) _ _
       (λ g. tt)
-      (λ g. (length-set q i cleanCopy ∙ e, Run.step (Move.planFetches i (ltb-true i (length cat) f) g (plan-pays a b _) (plan-upd x q i cleanCopy e (ltb-true i (length cat) f))) Run.stay)))
-      (λ f. tt)
+      (λ g. (len, Run.step (Move.planFetches i l g (plan-pays a b _) (plan-upd x q i cleanCopy e l)) Run.stay, none-past (set q i cleanCopy) len)))
 
   then-reach :
-      (from : Position) (a b a' : ℕ) (x x' : State) (d : Done) (next : List Copy → Done) →
-      Reach from a b x d →
-      ((c : ℕ) (r : List Copy) → length r ≡ length cat → Reach (position a (b + c) x r) a' (b + c) x' (next r)) →
-      Reach from a' b x' (andThen d next)
-  then-reach from a b a' x x' (done r c) next first later = go (next r) (later c r (first .0))
+      (n : ℕ) (from : Position) (a b a' : ℕ) (x x' : State) (d : Done) (next : List Copy → Done) →
+      Reach (length cat) from a b x d →
+      ((c : ℕ) (r : List Copy) → length r ≡ length cat → Reach n (position a (b + c) x r) a' (b + c) x' (next r)) →
+      Reach n from a' b x' (andThen d next)
+  then-reach n from a b a' x x' (done r c) next first later = go (next r) (later c r (first .0))
     where
-      go : (d : Done) → Reach (position a (b + c) x r) a' (b + c) x' d → Reach from a' b x' (andPaid c d)
-      go (done r' c') found = (found .0, Moves.append (first .1) (subst (λ (z : ℕ). Run terms (position a (b + c) x r) (position a' z x' r')) (add-assoc b c c') (found .1)))
+      go : (d : Done) → Reach n (position a (b + c) x r) a' (b + c) x' d → Reach n from a' b x' (andPaid c d)
+      go (done r' c') found = (
+        found .0,
+        Moves.append (first .1) (subst (λ (z : ℕ). Run terms (position a (b + c) x r) (position a' z x' r')) (add-assoc b c c') (found .1)),
+        found .2,
+      )
       go (faulty f) found = tt
-  then-reach from a b a' x x' (faulty f) next first later = tt
+  then-reach n from a b a' x x' (faulty f) next first later = tt
 
-  acts-reach : (s j : ℕ) (acts : List Act) (a b : ℕ) (x : State) (q : List Copy) → length q ≡ length cat → Reach (position a b x q) a b x (allActs cat s j acts q)
+  acts-reach : (s j : ℕ) (acts : List Act) (a b : ℕ) (x : State) (q : List Copy) → length q ≡ length cat → Reach (length cat) (position a b x q) a b x (allActs cat s j acts q)
   unfolding allActs
-  acts-reach s j [] a b x q e = (e, subst (λ (z : ℕ). Run terms (position a b x q) (position a z x q)) (sym (add-zero b)) Run.stay)
+  acts-reach s j [] a b x q e = (e, subst (λ (z : ℕ). Run terms (position a b x q) (position a z x q)) (sym (add-zero b)) Run.stay, none-past q e)
   acts-reach s j (act ∷ acts) a b x q e =
-      then-reach (position a b x q) a b a x x (planActs cat s j act q) (allActs cat s (suc j) acts) (act-reach s j act a b x q e)
+      then-reach (length cat) (position a b x q) a b a x x (planActs cat s j act q) (allActs cat s (suc j) acts) (act-reach s j act a b x q e)
       (λ c r f. acts-reach s (suc j) acts a (b + c) x r f)
 
   -- a run's end, written otherwise
@@ -381,6 +399,35 @@ module _ (k h : ℕ) (low : 1 ≤ h) (high : h ≤ k) (cat : Catalog) (good : Ca
       Move.flushes (record { byCache = paid ∙ ap (λ (z : ℕ). a + z) (flush-cost x e); byPlan = refl })
       (λ i l. (λ z. joint (flush-slot x i (rw (size-same x e) l) z) (tab-at (length cat) (λ j. cleaned (copyAt q j)) i noCopy l z)) ∙ flushed-joint (slotAt x i) (copyAt q i))
 
+  -- an item that leaves is dropped by both
+  drop-cost : (x : State) (i : ℕ) → eventCost (dropItem i x .events) ≡ cond (isDirty (slotAt x i)) (itemAt cat i .write) 0
+  unfolding dropItem
+  drop-cost x i = go (slotAt x i)
+    where
+      go : (s : Slot) → eventCost (cond (held s) (evicted i (isDirty s) ∷ []) []) ≡ cond (isDirty s) (itemAt cat i .write) 0
+      go absent = eventSum-none (costAdded cat)
+      go (clean a) = eventSum-one (costAdded cat) (evicted i false)
+      go (dirty a b) = eventSum-one (costAdded cat) (evicted i true) ∙ evicted-cost i true
+
+  retire-move :
+      (i a b c : ℕ) (x : State) (q : List Copy) →
+      i < length cat →
+      i < length (x .slots) →
+      length q ≡ length cat →
+      c ≡ a + eventCost (dropItem i x .events) →
+      Move terms (position a b x q)
+      (position c (b + cond (isChanged (copyAt q i)) (itemAt cat i .write) 0) (dropItem i x .state) (set q i noCopy))
+  retire-move i a b c x q l m e paid =
+      Move.retires i l (record { byCache = paid ∙ ap (λ (z : ℕ). a + z) (drop-cost x i); byPlan = refl })
+      (record {
+        here = λ z. joint (drop-slot x i m z) (getD-set-same q i noCopy noCopy (let f : i < length q = omega arith in f) z);
+        others = λ j b d. λ z. joint (drop-other x i j d z) (getD-set-other q i j noCopy noCopy d z);
+      })
+
+  -- an arrival moves nothing: all that there is reads as before
+  arrival-same : (a b : ℕ) (x : State) (q : List Copy) (it : Item) → position a b x q ≡ position a b (grown x it) (q ++ (noCopy ∷ []))
+  arrival-same a b x q it = λ z. at a b (λ i. joint (sym (grown-slot x it i) z) (sym (padded q noCopy i) z))
+
   module _ (split : Split) (ok : SplitOk split) where
     -- what making room leaves: the catalog, and a place for the item
     catalog-kept : (i : ℕ) (x : State) → x .catalog ≡ cat → i < length cat → blocksOf i ≤ k → makeRoom split k i x .state .catalog ≡ cat
@@ -414,17 +461,18 @@ module _ (k h : ℕ) (low : 1 ≤ h) (high : h ≤ k) (cat : Catalog) (good : Ca
         x .catalog ≡ cat →
         length q ≡ length cat →
         Served k cat st →
-        Reach (position a b x q) (a + eventCost (step split k st x .events)) b (step split k st x .state) (planServes cat h s st q)
+        Reach (length (catalogNext cat st)) (position a b x q) (a + eventCost (step split k st x .events)) b (step split k st x .state) (planServes cat h s st q)
     unfolding planServes step eventSum
     step-reach s (Read i) a b x q kept e len served =
-        either (Reach (position a b x q) _ b _) (has (copyAt q i)) _ _
-        (λ r. either (Reach (position a b x q) _ b _) (leb (planUsed cat q) h) _ _
+        either (Reach (length cat) (position a b x q) _ b _) (has (copyAt q i)) _ _
+        (λ r. either (Reach (length cat) (position a b x q) _ b _) (leb (planUsed cat q) h) _ _
         (λ f. (
           len,
           run-to (a + eventCost (m .events) + costAdded cat (found (m .state) i)) _ b (b + 0) _ _ q
               (omega (arith, event-append (costAdded cat) (m .events) (found (m .state) i ∷ []))) (sym (add-zero b))
               (ap (λ (c : Catalog). putSlot (m .state) i (refilled (full (itemAt c i .load)) (brought (slotAt (m .state) i)))) (sym (catalog-kept i x e (served .0) (served .1))))
               (request-run i a b x q kept e (served .0) (served .1) r (leb-true (planUsed cat q) h f)),
+          none-past q len,
         ))
         (λ f. tt))
         (λ r. tt)
@@ -432,8 +480,8 @@ module _ (k h : ℕ) (low : 1 ≤ h) (high : h ≤ k) (cat : Catalog) (good : Ca
         m : Moved
         m = makeRoom split k i x
     step-reach s (Write i minutes) a b x q kept e len served =
-        either (Reach (position a b x q) _ b _) (has (copyAt q i)) _ _
-        (λ r. either (Reach (position a b x q) _ b _) (leb (planUsed cat q) h) _ _
+        either (Reach (length cat) (position a b x q) _ b _) (has (copyAt q i)) _ _
+        (λ r. either (Reach (length cat) (position a b x q) _ b _) (leb (planUsed cat q) h) _ _
         (λ f. (
           length-set q i dirtyCopy ∙ len,
           run-to (a + eventCost (m .events) + costAdded cat (found (m .state) i)) _ b (b + 0) _ _ (set q i dirtyCopy)
@@ -441,6 +489,7 @@ module _ (k h : ℕ) (low : 1 ≤ h) (high : h ≤ k) (cat : Catalog) (good : Ca
               (ap (λ (c : Catalog). putSlot (m .state) i (written (full (itemAt c i .write)) (refilled (full (itemAt c i .load)) (brought (slotAt (m .state) i))))) (sym (catalog-kept i x e (served .0) (served .1))))
               (Moves.append (request-run i a b x q kept e (served .0) (served .1) r (leb-true (planUsed cat q) h f))
               (Run.step (write-move i _ b (m .state) q (slotAt (m .state) i) (served .0) (placed i x kept e (served .0) (served .1)) len r) Run.stay)),
+          none-past (set q i dirtyCopy) (length-set q i dirtyCopy ∙ len),
         ))
         (λ f. tt))
         (λ r. tt)
@@ -448,8 +497,29 @@ module _ (k h : ℕ) (low : 1 ≤ h) (high : h ≤ k) (cat : Catalog) (good : Ca
         m : Moved
         m = makeRoom split k i x
     step-reach s Flush a b x q kept e len served =
-        either (Reach (position a b x q) _ b _) (leb (planUsed cat q) h) _ _
-        (λ f. (tab-length (length cat) _, Run.step (flush-move a b _ x q e (omega arith)) Run.stay))
+        either (Reach (length cat) (position a b x q) _ b _) (leb (planUsed cat q) h) _ _
+        (λ f. (tab-length (length cat) _, Run.step (flush-move a b _ x q e (omega arith)) Run.stay, none-past (cleanedAll q) (tab-length (length cat) _)))
+        (λ f. tt)
+    step-reach s (Arrive i bl lo wr) a b x q kept e len served =
+        either (Reach (length (cat ++ (it ∷ []))) (position a b x q) _ b _) (leb (planUsed cat q) h) _ _
+        (λ f. (
+          one-longer q noCopy ∙ ap suc len ∙ sym (one-longer cat it),
+          subst (Run terms (position a b x q))
+              (arrival-same a b x q it ∙ (λ z. position (sym (add-zero a) z) (sym (add-zero b) z) (grown x it) (q ++ (noCopy ∷ [])))) Run.stay,
+          λ j m. padded q noCopy j ∙ none-past q len j m,
+        ))
+        (λ f. tt)
+      where
+        it : Item
+        it = listed bl lo wr
+    step-reach s (Retire i) a b x q kept e len served =
+        either (Reach (length (catalogNext cat (Retire i))) (position a b x q) _ b _) (leb (planUsed cat q) h) _ _
+        (λ f. (
+          length-set q i noCopy ∙ len ∙ sym (retired-length cat i),
+          Run.step (retire-move i a b _ x q (served .0) (omega (arith, kept .slots, size-same x e, served .0)) len
+              (omega (arith, event-append (costAdded cat) (dropItem i x .events) (retired i ∷ [])))) Run.stay,
+          none-past (set q i noCopy) (length-set q i noCopy ∙ len),
+        ))
         (λ f. tt)
 
   -- where the game stands after part of a season
@@ -461,71 +531,55 @@ module _ (k h : ℕ) (low : 1 ≤ h) (high : h ≤ k) (cat : Catalog) (good : Ca
       tally-part (λ (a : Totals). a .loadCost + a .writeCost) (λ a b. omega arith) (v .state .catalog) (v .figures) (m .events)
       ∙ ap (λ (z : Catalog). totalCost (v .figures) + eventSum (costAdded z) (m .events)) e
 
-  -- a plan's cost c brings the game from v to v', where the plan owes nothing
-  record Reached (v v' : Standing) (b c : ℕ) (q : List Copy) : Type 0 where
+  -- what is kept at every position
+  abbrev Holds : Position → Type 0
+  Holds p = Moves.Good terms p × Moves.Inv terms p
+
+  -- where the plan has closed too: it owes nothing
+  record Settled (v : Standing) (b : ℕ) : Type 0 where
     copies : List Copy
-    run : Run terms (stand v b q) (stand v' (b + c) copies)
-    clear : PlanClean terms (stand v' (b + c) copies)
+    holds : Holds (stand v b copies)
+    clear : PlanClean terms (stand v b copies)
 
-  abbrev Ends : Standing → Standing → ℕ → List Copy → Priced → Type 0
-  Ends v v' b q (costs c) = Reached v v' b c q
-  Ends v v' b q (fault f) = Unit {0}
-
-  closing : (v : Standing) (b : ℕ) (q : List Copy) → v .state .catalog ≡ cat → Reached v (closes v) b (owed cat q) q
+  closing : (v : Standing) (b : ℕ) (q : List Copy) → v .state .catalog ≡ cat → Holds (stand v b q) → Settled (closes v) (b + owed cat q)
   unfolding closes
-  closing v b q e =
+  closing v b q e now =
       record {
         copies = cleanedAll q;
-        run = Run.step (flush-move (totalCost (v .figures)) b (totalCost (closes v .figures)) (v .state) q e (moved-cost v (flush (v .state)) true e)) Run.stay;
+        holds =
+            Moves.keeps (flush-move (totalCost (v .figures)) b (totalCost (closes v .figures)) (v .state) q e (moved-cost v (flush (v .state)) true e)) (now .0) (now .1);
         clear = λ i l. ap isChanged (tab-at (length cat) (λ j. cleaned (copyAt q j)) i noCopy l) ∙ copy-clean (copyAt q i);
       }
-
-  then-ends :
-      (v w v' : Standing) (b : ℕ) (q : List Copy) (d : Done) (next : List Copy → Priced) →
-      Reach (stand v b q) (totalCost (w .figures)) b (w .state) d →
-      ((c : ℕ) (r : List Copy) → length r ≡ length cat → Ends w v' (b + c) r (next r)) →
-      Ends v v' b q (priceThen d next)
-  then-ends v w v' b q (done r c) next first later = go (next r) (later c r (first .0))
-    where
-      go : (p : Priced) → Ends w v' (b + c) r p → Ends v v' b q (pricedWith c p)
-      go (costs c') end =
-          record {
-            copies = end .copies;
-            run = Moves.append (first .1) (subst (λ (z : ℕ). Run terms (stand w (b + c) r) (stand v' z (end .copies))) (add-assoc b c c') (end .run));
-            clear = λ i l. end .clear i l;
-          }
-      go (fault f) end = tt
-  then-ends v w v' b q (faulty f) next first later = tt
 
   served-reach :
       (s : ℕ) (st : Step) (t : ℕ) (v : Standing) (b : ℕ) (q : List Copy) →
       StandsAfter k cat t false v →
       length q ≡ length cat →
       Served k cat st →
-      Reach (stand v b q) (totalCost (took v st .figures)) b (took v st .state) (planServes cat h s st q)
+      Reach (length (catalogNext cat st)) (stand v b q) (totalCost (took v st .figures)) b (took v st .state) (planServes cat h s st q)
   unfolding took
   served-reach s st t v b q so len served =
-      subst (λ (z : ℕ). Reach (stand v b q) z b (step (v .split) (v .k) st (v .state) .state) (planServes cat h s st q))
+      subst (λ (z : ℕ). Reach n (stand v b q) z b (step (v .split) (v .k) st (v .state) .state) (planServes cat h s st q))
       (sym (moved-cost v (step (v .split) (v .k) st (v .state)) (v .closed) (so .catalog)))
       (subst
-      (λ (n : ℕ). Reach (stand v b q) (totalCost (v .figures) + eventCost (step (v .split) n st (v .state) .events)) b (step (v .split) n st (v .state) .state) (planServes cat h s st q))
+      (λ (m : ℕ). Reach n (stand v b q) (totalCost (v .figures) + eventCost (step (v .split) m st (v .state) .events)) b (step (v .split) m st (v .state) .state) (planServes cat h s st q))
       (sym (so .capacity)) (step-reach (v .split) (so .fit) s st (totalCost (v .figures)) b (v .state) q (so .kept) (so .catalog) len served))
+    where
+      n : ℕ
+      n = length (catalogNext cat st)
 
-  chain :
-      (plan : Plan) (s t : ℕ) (steps : List Step) (v : Standing) (b : ℕ) (q : List Copy) →
+  -- the acts before a step, and the step
+  turn-reach :
+      (plan : Plan) (s : ℕ) (st : Step) (t : ℕ) (v : Standing) (b : ℕ) (q : List Copy) →
       StandsAfter k cat t false v →
       length q ≡ length cat →
-      AllServed k cat steps →
-      Ends v (closes (fold took v steps)) b q (priceFrom cat h plan s steps q)
-  unfolding priceFrom fold
-  chain plan s t [] v b q so len served = closing v b q (so .catalog)
-  chain plan s t (st ∷ steps) v b q so len served =
-      then-ends v (took v st) (closes (fold took (took v st) steps)) b q
-      (andThen (allActs cat s 0 (plan s) q) (planServes cat h s st)) (priceFrom cat h plan (suc s) steps)
-      (then-reach (stand v b q) (totalCost (v .figures)) b (totalCost (took v st .figures)) (v .state) (took v st .state)
+      Served k cat st →
+      Reach (length (catalogNext cat st)) (stand v b q) (totalCost (took v st .figures)) b (took v st .state)
+      (andThen (allActs cat s 0 (plan s) q) (planServes cat h s st))
+  turn-reach plan s st t v b q so len served =
+      then-reach (length (catalogNext cat st)) (stand v b q) (totalCost (v .figures)) b (totalCost (took v st .figures)) (v .state) (took v st .state)
       (allActs cat s 0 (plan s) q) (planServes cat h s st) (acts-reach s 0 (plan s) (totalCost (v .figures)) b (v .state) q len)
-      (λ c r f. served-reach s st t v (b + c) r so f (served .0)))
-      (λ c r f. chain plan (suc s) (t + 1) steps (took v st) (b + c) r (took-stands k cat t v st so (served .0)) f (served .1))
+      (λ c r f. served-reach s st t v (b + c) r so f served)
 
   -- the start, where nothing is held and nothing paid
   fresh : (split : Split) → Fresh terms (stand (opened split k cat) 0 (tab (length cat) (λ i. noCopy)))
@@ -538,6 +592,117 @@ module _ (k h : ℕ) (low : 1 ≤ h) (high : h ≤ k) (cat : Catalog) (good : Ca
 
   sized : Sized terms k h
   sized = record { least = low; most = high; cIs = refl; pIs = refl }
+
+-- The catalog is the season's as the steps have left it, so from step to step the game goes over into one with the next catalog.
+module _ (k h : ℕ) (low : 1 ≤ h) (high : h ≤ k) where
+  abbrev game : (cat : Catalog) → CatalogOk cat → Terms
+  game cat good = terms k h low high cat good
+
+  same-game : (cat : Catalog) (good good' : CatalogOk cat) → Moves.Extends (game cat good) (game cat good')
+  same-game cat good good' =
+      record { cSame = refl; pSame = refl; unitSame = refl; more = omega arith; loadSame = λ i l. refl; writeSame = λ i l. refl }
+
+  -- the game of the catalog after a step has the items of the one before it, and what has come
+  next-game :
+      (cat : Catalog) (st : Step) (good : CatalogOk cat) (good' : CatalogOk (catalogNext cat st)) →
+      Served k cat st →
+      Moves.Extends (game cat good) (game (catalogNext cat st) good')
+  next-game cat (Read i) good good' served = same-game cat good good'
+  next-game cat (Write i m) good good' served = same-game cat good good'
+  next-game cat Flush good good' served = same-game cat good good'
+  next-game cat (Arrive i b l w) good good' served =
+      record {
+        cSame = refl;
+        pSame = refl;
+        unitSame = refl;
+        more = omega (arith, one-longer cat (listed b l w));
+        loadSame = λ j m. ap (λ (y : Item). y .load) (arrived-other cat (listed b l w) j m);
+        writeSame = λ j m. ap (λ (y : Item). y .write) (arrived-other cat (listed b l w) j m);
+      }
+  next-game cat (Retire i) good good' served =
+      record {
+        cSame = refl;
+        pSame = refl;
+        unitSame = refl;
+        more = omega (arith, retired-length cat i);
+        loadSame = λ j m. retired-alike cat i j (served .0) .load;
+        writeSame = λ j m. retired-alike cat i j (served .0) .write;
+      }
+
+  -- a plan's cost brings the game to the close, where the plan owes nothing
+  record Reached (cat : Catalog) (v : Standing) (b : ℕ) : Type 0 where
+    good : CatalogOk cat
+    settled : Settled k h low high cat good v b
+
+  abbrev Ends : Catalog → Standing → ℕ → Priced → Type 0
+  Ends cat v b (costs c) = Reached cat v (b + c)
+  Ends cat v b (fault f) = Unit {0}
+
+  then-ends :
+      (n : ℕ) (cat last : Catalog) (good : CatalogOk cat) (v w v' : Standing) (b : ℕ) (q : List Copy) (d : Done) (next : List Copy → Priced) →
+      Reach k h low high cat good n (stand k h low high cat good v b q) (totalCost (w .figures)) b (w .state) d →
+      Holds k h low high cat good (stand k h low high cat good v b q) →
+      ((c : ℕ) (r : List Copy) →
+      length r ≡ n →
+      ((i : ℕ) → length cat ≤ i → copyAt r i ≡ noCopy) →
+      Holds k h low high cat good (stand k h low high cat good w (b + c) r) →
+      Ends last v' (b + c) (next r)) →
+      Ends last v' b (priceThen d next)
+  then-ends n cat last good v w v' b q (done r c) next first now later =
+      go (next r) (later c r (first .0) (first .2) (Moves.keeps-run (first .1) (now .0) (now .1)))
+    where
+      go : (p : Priced) → Ends last v' (b + c) p → Ends last v' b (pricedWith c p)
+      go (costs c') end = subst (Reached last v') (add-assoc b c c') end
+      go (fault f) end = tt
+  then-ends n cat last good v w v' b q (faulty f) next first now later = tt
+
+  -- what has come is not held
+  new-absent :
+      (cat : Catalog) (st : Step) (v : Standing) (t i : ℕ) →
+      StandsAfter k cat t false v →
+      Served k cat st →
+      length cat ≤ i →
+      slotAt (took v st .state) i ≡ absent
+  unfolding took step
+  new-absent cat st v t i so served past = by-step st served
+    where
+      x : State
+      x = v .state
+
+      -- where no item comes the slots end with the catalog
+      ends : (s : Step) → Served k cat s → length (catalogNext cat s) ≡ length cat → slotAt (took v s .state) i ≡ absent
+      ends s here same =
+          let w : Standing = took v s in
+          let so' : StandsAfter k (catalogNext cat s) (t + 1) false w = took-stands k cat t v s so here in
+          List·getD-eq-default (w .state .slots) absent (omega (arith, so' .kept .slots, ap length (so' .catalog), same))
+
+      by-step : (s : Step) → Served k cat s → slotAt (took v s .state) i ≡ absent
+      by-step (Read j) here = ends (Read j) here refl
+      by-step (Write j m) here = ends (Write j m) here refl
+      by-step Flush here = ends Flush here refl
+      by-step (Arrive j b l w) here =
+          grown-slot x (listed b l w) i ∙ List·getD-eq-default (x .slots) absent (omega (arith, so .kept .slots, ap length (so .catalog)))
+      by-step (Retire j) here = ends (Retire j) here (retired-length cat j)
+
+  chain :
+      (plan : Plan) (s t : ℕ) (steps : List Step) (cat : Catalog) (good : CatalogOk cat) (v : Standing) (b : ℕ) (q : List Copy) →
+      StandsAfter k cat t false v →
+      length q ≡ length cat →
+      AllServed k cat steps →
+      Holds k h low high cat good (stand k h low high cat good v b q) →
+      Ends (catalogAfter cat steps) (closes (fold took v steps)) b (priceFrom cat h plan s steps q)
+  unfolding priceFrom fold
+  chain plan s t [] cat good v b q so len served now = record { good = good; settled = closing k h low high cat good v b q (so .catalog) now }
+  chain plan s t (st ∷ steps) cat good v b q so len served now =
+      let w : Standing = took v st in
+      let so' : StandsAfter k (catalogNext cat st) (t + 1) false w = took-stands k cat t v st so (served .0) in
+      let good' : CatalogOk (catalogNext cat st) = subst CatalogOk (so' .catalog) (so' .kept .catalog) in
+      then-ends (length (catalogNext cat st)) cat (catalogAfter (catalogNext cat st) steps) good v w (closes (fold took w steps)) b q
+      (andThen (allActs cat s 0 (plan s) q) (planServes cat h s st)) (priceFrom (catalogNext cat st) h plan (suc s) steps)
+      (turn-reach k h low high cat good plan s st t v b q so len (served .0)) now
+      (λ c r f none keeps. chain plan (suc s) (t + 1) steps (catalogNext cat st) good' w (b + c) r so' f (served .1)
+      (Moves.extended (next-game cat st good good' (served .0))
+      (λ i past below z. joint (new-absent cat st v t i so (served .0) past z) (none i past z)) (keeps .0) (keeps .1)))
 
 -- the ratio without the 0 from which the plan's cost was counted, and with its products turned round
 turned : (paid y k c : ℕ) → y * paid ≤ k * (0 + c) → y * paid ≤ k * c
@@ -554,31 +719,30 @@ module _ (split : Split) (ok : SplitOk split) (k : ℕ) (cat : Catalog) (good : 
   priced :
       (h : ℕ) (low : 1 ≤ h) (high : h ≤ k) (plan : Plan) (c : ℕ) →
       price cat h plan steps ≡ costs c →
-      Reached k h low high cat good (opened split k cat) (season split k cat steps) 0 c (tab (length cat) (λ i. noCopy))
+      Reached k h low high (catalogAfter cat steps) (season split k cat steps) (0 + c)
   priced h low high plan c e =
-      subst (Ends k h low high cat good (opened split k cat) (season split k cat steps) 0 (tab (length cat) (λ i. noCopy))) e
-      (chain k h low high cat good plan 0 0 steps (opened split k cat) 0 (tab (length cat) (λ i. noCopy)) (opened-stands split k cat ok good) (tab-length (length cat) _) served)
+      subst (Ends k h low high (catalogAfter cat steps) (season split k cat steps) 0) e
+      (chain k h low high plan 0 0 steps cat good (opened split k cat) 0 (tab (length cat) (λ i. noCopy)) (opened-stands split k cat ok good)
+      (tab-length (length cat) _) served (Moves.start (fresh k h low high cat good split)))
 
   -- The wear bound, for every log that the table of refusals lets through: (rule's total over the log and its closing)
   -- × (k - h + 1) ≤ k × (cost of any plan that is legal over the log with h blocks), for every h from 1 to k.
   pub competitive-bound : CompetitiveBound split k cat steps
   competitive-bound h low high plan c e =
-      let begun = Moves.start (fresh k h low high cat good split) in
       let end = priced h low high plan c e in
-      let kept = Moves.keeps-run (end .run) (begun .0) (begun .1) in
       turned (totalCost (season split k cat steps .figures)) (k - h + 1) k c
-      (Moves.ratio (sized k h low high cat good) (let one : 1 ≤ unit = omega arith in one) (kept .0) (kept .1) (end .clear))
+      (Moves.ratio (sized k h low high (catalogAfter cat steps) (end .good)) (let one : 1 ≤ unit = omega arith in one)
+      (end .settled .holds .0) (end .settled .holds .1) (end .settled .clear))
 
   -- the sharper line, with the load credits held at the close
   pub sharp-bound : SharpBound split k cat steps
   sharp-bound h low high plan c e =
-      let begun = Moves.start (fresh k h low high cat good split) in
       let end = priced h low high plan c e in
-      let kept = Moves.keeps-run (end .run) (begun .0) (begun .1) in
       let x : State = season split k cat steps .state in
-      let same : x .catalog ≡ cat = closes-stands k cat (length steps) (ran split k cat steps) (ran-stands split k cat steps ok good served) .catalog in
+      let last : Catalog = catalogAfter cat steps in
+      let same : x .catalog ≡ last = closes-stands k last (length steps) (ran split k cat steps) (ran-stands split k cat steps ok good served) .catalog in
       let line =
-      turned-sharp (totalCost (season split k cat steps .figures)) (k - h + 1) unit (h - 1) (sumTo (length cat) (λ i. loadCredit (slotAt x i))) k c
-      (Moves.ratio-load (sized k h low high cat good) (kept .0) (kept .1) (end .clear))
+      turned-sharp (totalCost (season split k cat steps .figures)) (k - h + 1) unit (h - 1) (sumTo (length last) (λ i. loadCredit (slotAt x i))) k c
+      (Moves.ratio-load (sized k h low high last (end .good)) (end .settled .holds .0) (end .settled .holds .1) (end .settled .clear))
       in
       subst (λ (z : Catalog). leftSide k h (totalCost (season split k cat steps .figures)) * unit + (h - 1) * sumTo (length z) (λ i. loadCredit (slotAt x i)) ≤ rightSide k c * unit) (sym same) line

@@ -63,6 +63,17 @@ module _ {ℓ} {A : Type ℓ} where
               ∙ ap g (sym e)
           at (no e) = getD-set-other (tab n f) v i (g v) (f 0) e ∙ tab-at n f i (f 0) b ∙ h i b e
 
+  tabFrom-more : (n : ℕ) (f : ℕ → A) (i : ℕ) → tabFrom (suc n) f i ≡ tabFrom n f i ++ (f (i + n) ∷ [])
+  unfolding tabFrom
+  tabFrom-more zero f i = ap (λ (j : ℕ). f j ∷ []) (let e : i ≡ i + 0 = omega arith in e)
+  tabFrom-more (suc n) f i =
+      ap (λ (z : List A). f i ∷ z) (tabFrom-more n f (suc i))
+      ∙ ap (λ (j : ℕ). f i ∷ (tabFrom n f (suc i) ++ (f j ∷ []))) (let e : suc i + n ≡ i + suc n = omega arith in e)
+
+  -- a table with one entry more
+  pub tab-more : (n : ℕ) (f : ℕ → A) → tab (suc n) f ≡ tab n f ++ (f n ∷ [])
+  tab-more n f = tabFrom-more n f 0 ∙ ap (λ (j : ℕ). tab n f ++ (f j ∷ [])) (let e : 0 + n ≡ n = omega arith in e)
+
   pub fold-more : {B : Type ℓ} (f : B → A → B) (b : B) (x : A) (xs : List A) → fold f b (x ∷ xs) ≡ fold f (f b x) xs
   unfolding fold
   fold-more f b x xs = refl

@@ -3,24 +3,27 @@
 use mathlib.Core.Path.{_≡_, refl, sym, ap, _∙_}
 use mathlib.Core.Logic.{_≢_}
 use mathlib.Core.Bool.{Bool, true, false, cond, false≢true}
+use mathlib.Core.List.{[], _∷_, _++_}
 use Prim.Native.Nat.{ℕ, zero, suc, _+_, _*_, _≤_, _<_}
 use native.Mathlib.Nat.{dvd-add, dvd-mul-right, div-mul-cancel, mul-le-mul-left}
 use native.Mathlib.Decide.{ℕ-discrete}
 use native.Mathlib.Omega.{arith}
-use lib.ListN.{length, length-set}
+use lib.ListN.{length, length-set, List·getD-eq-default}
 use lib.Seq.{getD-set-same, getD-set-other}
 use lib.Dec.{leb}
 use borrow.Author.Tests.{eq-eqb, ne-eqb, leb-true, leb-false}
 use Rattle.types.specs.declared.Step.{Step}
-use Rattle.types.specs.declared.Step.the-variants.{Read, Write, Flush}
+use Rattle.types.specs.declared.Step.the-variants.{Read, Write, Flush, Arrive, Retire}
 use Rattle.landlord.specs.Fold.{sumTo}
-use Rattle.landlord.specs.Catalog.{Catalog, Item, CatalogOk, itemAt, full}
+use Rattle.landlord.specs.Catalog.{Catalog, Item, CatalogOk, itemAt, listed, catalogNext, itemInRange, full}
 use Rattle.landlord.specs.Slot.{Slot, absent, held, loadCredit, writeCredit, Split, lose, written, flushed}
-use Rattle.landlord.specs.Rule.{State, size, slotAt, blocksAt, used, heldCount, rank, victim, evictItem, evict, evictFor, makeRoom, Moved, stay, joined, putSlot, readSlot, flush, step, emptied}
+use Rattle.landlord.specs.Rule.{State, size, slotAt, blocksAt, used, heldCount, rank, victim, evictItem, evict, evictFor, makeRoom, Moved, stay, joined, putSlot, readSlot, flush, dropItem, leave, step, emptied}
+use Rattle.landlord.specs.Inner.{ItemFacts}
 use Rattle.landlord.specs.Claims.{SplitOk, SlotKept, Kept, Least}
-use Rattle.landlord.proofs.Ranges.{catalog-facts}
+use Rattle.landlord.proofs.Ranges.{catalog-facts, item-facts}
 use Rattle.landlord.proofs.Sums.{sum-zero, sum-none, sum-eq, sum-change}
 use Rattle.landlord.proofs.Folds.{tab-length, tab-at, Best, nobody, somebody, best-is}
+use Rattle.landlord.proofs.Catalogs.{padded, one-longer, below-more, arrived-other, arrived-here, Alike, retired-other, retired-length, retired-alike, arrived-ok, retired-ok}
 use Rattle.landlord.proofs.Slots.{blocks-divide, lose-held, lose-kept, absent-kept, read-kept, write-kept, flush-kept, read-held, write-held, flush-held}
 
 abbrev isHeld : State → ℕ → Bool
@@ -110,6 +113,14 @@ pub evict-count : (split : Split) (v : ℕ) (x : State) → v < size x → isHel
 unfolding heldCount
 evict-count split v x l h = evict-held (λ i. 1) split v x l h
 
+-- an item that is not held is not held after an eviction
+pub still-absent : (split : Split) (v : ℕ) (x : State) (i : ℕ) → i < size x → isHeld x i ≡ false → isHeld (evictItem split v x) i ≡ false
+still-absent split v x i l h = go (ℕ-discrete i v)
+  where
+    go : Dec (i ≡ v) → isHeld (evictItem split v x) i ≡ false
+    go (yes e) = ap held (ap (slotAt (evictItem split v x)) e ∙ evicted-slot split v x (omega arith))
+    go (no e) = other-held split v x i l e ∙ h
+
 -- an eviction of an item of least rank keeps what the rule keeps
 pub evict-kept :
     (k : ℕ) (split : Split) (v : ℕ) (x : State) →
@@ -124,6 +135,7 @@ evict-kept k split v x ok kept low =
       slots = tab-length (size x) _;
       slot = λ i l. at i l (ℕ-discrete i v);
       room = let e : used (evictItem split v x) + blocksAt x v ≡ used x = evict-used split v x (low .below) (low .isHeld) in omega (arith, kept .room);
+      left = λ i l e. still-absent split v x i l (kept .left i l e);
     }
   where
     at : (i : ℕ) → i < size x → Dec (i ≡ v) → SlotKept (itemAt (x .catalog) i) (slotAt (evictItem split v x) i)
@@ -188,13 +200,6 @@ pub record RoomLeft (k blocks : ℕ) (x : State) (y : State) : Type 0 where
   pub kept : Kept k x → Kept k y
   pub absent : (i : ℕ) → i < size x → isHeld x i ≡ false → isHeld y i ≡ false
 
-pub still-absent : (split : Split) (v : ℕ) (x : State) (i : ℕ) → i < size x → isHeld x i ≡ false → isHeld (evictItem split v x) i ≡ false
-still-absent split v x i l h = go (ℕ-discrete i v)
-  where
-    go : Dec (i ≡ v) → isHeld (evictItem split v x) i ≡ false
-    go (yes e) = ap held (ap (slotAt (evictItem split v x)) e ∙ evicted-slot split v x (omega arith))
-    go (no e) = other-held split v x i l e ∙ h
-
 pub room-left : (split : Split) (k blocks : ℕ) (x : State) (m : Moved) → SplitOk split → Evicting split k blocks x m → RoomLeft k blocks x (m .state)
 room-left split k blocks x m ok (enough l) = record { left = l; catalog = refl; kept = λ h. h; absent = λ i b h. h }
 room-left split k blocks x m ok (more {m = n} over low next) =
@@ -222,15 +227,17 @@ pub put-kept :
     i < size x →
     SlotKept (itemAt (x .catalog) i) s →
     held s ≡ true →
+    itemAt (x .catalog) i .left ≡ false →
     (isHeld x i ≡ false → used x + blocksAt x i ≤ k) →
     Kept k (putSlot x i s)
 unfolding used
-put-kept k x i s kept l new h free =
+put-kept k x i s kept l new h present free =
     record {
       catalog = kept .catalog;
       slots = length-set (x .slots) i s ∙ kept .slots;
       slot = λ j b. at j b (ℕ-discrete j i);
       room = bound (isHeld x i) refl;
+      left = λ j b e. gone j b e (ℕ-discrete j i);
     }
   where
     here : slotAt (putSlot x i s) i ≡ s
@@ -239,6 +246,10 @@ put-kept k x i s kept l new h free =
     at : (j : ℕ) → j < size x → Dec (j ≡ i) → SlotKept (itemAt (x .catalog) j) (slotAt (putSlot x i s) j)
     at j b (yes e) = rw (ap (slotAt (putSlot x i s)) e ∙ here, e) new
     at j b (no e) = rw (put-other x i j s e) (kept .slot j b)
+
+    gone : (j : ℕ) → j < size x → itemAt (x .catalog) j .left ≡ true → Dec (j ≡ i) → isHeld (putSlot x i s) j ≡ false
+    gone j b e (yes q) = absurd (false≢true (sym present ∙ ap (λ (z : ℕ). itemAt (x .catalog) z .left) (sym q) ∙ e))
+    gone j b e (no q) = ap held (put-other x i j s q) ∙ kept .left j b e
 
     moved : used (putSlot x i s) + cond (isHeld x i) (blocksAt x i) 0 ≡ used x + blocksAt x i
     moved =
@@ -273,6 +284,7 @@ flush-keeps k x kept =
       room =
           let e : used (flush x .state) ≡ used x = flush-sum (blocksAt x) x in
           omega (arith, kept .room);
+      left = λ i l e. ap held (flush-slot x i l) ∙ flush-held (slotAt x i) ∙ kept .left i l e;
     }
 
 -- Room made for item i: if it was held nothing moved; if not, the paper's loop ran.
@@ -314,11 +326,156 @@ make-room split k i x ok l fits = go (isHeld x i) refl
           ran = λ h. (roomy .absent i l h, made);
         }
 
--- a step that the table lets through: its item is in the catalog, and no larger than the cache
+-- A step that the table lets through: its item is in the catalog, has not left, and is no larger than the cache; an arrival has the
+-- next number, which is one, and its values are in range; an item that is to leave is in the catalog and has not left.
 abbrev pub Served : ℕ → Catalog → Step → Type 0
-Served k cat (Read i) = (i < length cat) × (itemAt cat i .blocks ≤ k)
-Served k cat (Write i minutes) = (i < length cat) × (itemAt cat i .blocks ≤ k)
+Served k cat (Read i) = (i < length cat) × (itemAt cat i .blocks ≤ k) × (itemAt cat i .left ≡ false)
+Served k cat (Write i minutes) = (i < length cat) × (itemAt cat i .blocks ≤ k) × (itemAt cat i .left ≡ false)
 Served k cat Flush = Unit {0}
+Served k cat (Arrive i b l w) = (i ≡ length cat) × (length cat < 256) × (itemInRange (listed b l w) ≡ true)
+Served k cat (Retire i) = (i < length cat) × (itemAt cat i .left ≡ false)
+
+-- An arrival: every slot reads as before, every item too, and the new one is not held. What is summed over the held is as before.
+abbrev pub grown : State → Item → State
+grown x it = record { catalog = x .catalog ++ (it ∷ []); slots = x .slots ++ (absent ∷ []) }
+
+pub grown-slot : (x : State) (it : Item) (i : ℕ) → slotAt (grown x it) i ≡ slotAt x i
+grown-slot x it i = padded (x .slots) absent i
+
+past-absent : (x : State) → length (x .slots) ≡ size x → slotAt x (size x) ≡ absent
+past-absent x e = List·getD-eq-default (x .slots) absent (omega arith)
+
+-- a sum over the items, each counted by its slot and its values, where an item that is not held counts for nothing
+pub grown-sum :
+    (x : State) (it : Item) (w : Slot → Item → ℕ) →
+    length (x .slots) ≡ size x →
+    w absent it ≡ 0 →
+    sumTo (size (grown x it)) (λ i. w (slotAt (grown x it) i) (itemAt (x .catalog ++ (it ∷ [])) i)) ≡ sumTo (size x) (λ i. w (slotAt x i) (itemAt (x .catalog) i))
+unfolding sumTo
+grown-sum x it w e none =
+    ap (λ (n : ℕ). sumTo n new) (one-longer (x .catalog) it)
+    ∙ omega (arith, sum-eq (size x) new old (λ i l z. w (grown-slot x it i z) (arrived-other (x .catalog) it i l z)), last)
+  where
+    new : ℕ → ℕ
+    new i = w (slotAt (grown x it) i) (itemAt (x .catalog ++ (it ∷ [])) i)
+
+    old : ℕ → ℕ
+    old i = w (slotAt x i) (itemAt (x .catalog) i)
+
+    last : new (size x) ≡ 0
+    last = (λ z. w ((grown-slot x it (size x) ∙ past-absent x e) z) (arrived-here (x .catalog) it z)) ∙ none
+
+pub grown-kept : (k : ℕ) (x : State) (it : Item) → Kept k x → ItemFacts it → size x < 256 → Kept k (grown x it)
+unfolding used
+grown-kept k x it kept new few =
+    record {
+      catalog = arrived-ok (x .catalog) it (kept .catalog) new few;
+      slots = one-longer (x .slots) absent ∙ ap suc (kept .slots) ∙ sym (one-longer (x .catalog) it);
+      slot =
+          λ i l. at i l (SlotKept (itemAt (x .catalog ++ (it ∷ [])) i) (slotAt (grown x it) i))
+          (λ b. rw (grown-slot x it i, arrived-other (x .catalog) it i b) (kept .slot i b))
+          (λ e. rw (ap (slotAt (grown x it)) e ∙ grown-slot x it (size x) ∙ past-absent x (kept .slots)) (absent-kept (itemAt (x .catalog ++ (it ∷ [])) i)));
+      room =
+          let e : used (grown x it) ≡ used x = grown-sum x it (λ (s : Slot) (y : Item). cond (held s) (y .blocks) 0) (kept .slots) refl in
+          omega (arith, kept .room);
+      left =
+          λ i l e. at i l (isHeld (grown x it) i ≡ false)
+          (λ b. ap held (grown-slot x it i) ∙ kept .left i b (sym (ap (λ (y : Item). y .left) (arrived-other (x .catalog) it i b)) ∙ e))
+          (λ q. ap held (ap (slotAt (grown x it)) q ∙ grown-slot x it (size x) ∙ past-absent x (kept .slots)));
+    }
+  where
+    at : (i : ℕ) → i < size (grown x it) → (P : Type 0) → (i < size x → P) → (i ≡ size x → P) → P
+    at i l P = below-more (size x) i P (omega (arith, one-longer (x .catalog) it))
+
+-- a retirement, first half: the item is dropped, and no other slot moves
+pub drop-slot : (x : State) (i : ℕ) → i < length (x .slots) → slotAt (dropItem i x .state) i ≡ absent
+unfolding dropItem
+drop-slot x i l = put-same x i absent l
+
+pub drop-other : (x : State) (i j : ℕ) → j ≢ i → slotAt (dropItem i x .state) j ≡ slotAt x j
+unfolding dropItem
+drop-other x i j e = put-other x i j absent e
+
+pub drop-catalog : (x : State) (i : ℕ) → dropItem i x .state .catalog ≡ x .catalog
+unfolding dropItem
+drop-catalog x i = refl
+
+-- the item is taken out of a sum over marks that an empty place has not
+pub drop-sum :
+    (mark : Slot → Bool) (w : ℕ → ℕ) (x : State) (i : ℕ) →
+    mark absent ≡ false →
+    length (x .slots) ≡ size x →
+    i < size x →
+    markSum mark w (dropItem i x .state) + cond (mark (slotAt x i)) (w i) 0 ≡ markSum mark w x
+unfolding dropItem
+drop-sum mark w x i none e l =
+    let y : State = dropItem i x .state in
+    let c : markSum mark w y + cond (mark (slotAt x i)) (w i) 0 ≡ markSum mark w x + cond (mark (slotAt y i)) (w i) 0 =
+    mark-change mark w x y i refl l (λ j b d. ap mark (drop-other x i j d))
+    in
+    omega (arith, ap (λ (t : Bool). cond t (w i) 0) (ap mark (drop-slot x i (omega arith)) ∙ none))
+
+pub drop-kept : (k : ℕ) (x : State) (i : ℕ) → Kept k x → i < size x → Kept k (dropItem i x .state)
+unfolding used dropItem
+drop-kept k x i kept l =
+    record {
+      catalog = kept .catalog;
+      slots = length-set (x .slots) i absent ∙ kept .slots;
+      slot = λ j b. at j b (ℕ-discrete j i);
+      room = omega (arith, kept .room, drop-sum held (blocksAt x) x i refl (kept .slots) l);
+      left = λ j b e. gone j b e (ℕ-discrete j i);
+    }
+  where
+    here : slotAt (dropItem i x .state) i ≡ absent
+    here = drop-slot x i (let e : length (x .slots) ≡ size x = kept .slots in omega arith)
+
+    at : (j : ℕ) → j < size x → Dec (j ≡ i) → SlotKept (itemAt (x .catalog) j) (slotAt (dropItem i x .state) j)
+    at j b (yes e) = rw (ap (slotAt (dropItem i x .state)) e ∙ here) (absent-kept (itemAt (x .catalog) j))
+    at j b (no e) = rw (drop-other x i j e) (kept .slot j b)
+
+    gone : (j : ℕ) → j < size x → itemAt (x .catalog) j .left ≡ true → Dec (j ≡ i) → isHeld (dropItem i x .state) j ≡ false
+    gone j b e (yes q) = ap held (ap (slotAt (dropItem i x .state)) q ∙ here)
+    gone j b e (no q) = ap held (drop-other x i j q) ∙ kept .left j b e
+
+-- second half: the item's mark, and nothing else
+pub leave-sum :
+    (x : State) (i : ℕ) (w : Slot → Item → ℕ) →
+    i < size x →
+    ((s : Slot) (y z : Item) → Alike y z → w s y ≡ w s z) →
+    sumTo (size (leave i x .state)) (λ j. w (slotAt x j) (itemAt (leave i x .state .catalog) j)) ≡ sumTo (size x) (λ j. w (slotAt x j) (itemAt (x .catalog) j))
+leave-sum x i w l same =
+    ap (λ (n : ℕ). sumTo n (λ j. w (slotAt x j) (itemAt (catalogNext (x .catalog) (Retire i)) j))) (retired-length (x .catalog) i)
+    ∙ sum-eq (size x) (λ j. w (slotAt x j) (itemAt (catalogNext (x .catalog) (Retire i)) j)) (λ j. w (slotAt x j) (itemAt (x .catalog) j))
+    (λ j b. same (slotAt x j) _ _ (retired-alike (x .catalog) i j l))
+
+slot-alike : (y z : Item) (s : Slot) → Alike y z → SlotKept z s → SlotKept y s
+slot-alike y z s a o =
+    record {
+      wholeLoad = rw (a .blocks) (o .wholeLoad);
+      wholeWrite = rw (a .blocks) (o .wholeWrite);
+      loadTop = rw (a .load) (o .loadTop);
+      writeTop = rw (a .write) (o .writeTop);
+    }
+
+pub leave-kept : (k : ℕ) (x : State) (i : ℕ) → Kept k x → i < size x → isHeld x i ≡ false → Kept k (leave i x .state)
+unfolding used
+leave-kept k x i kept l none =
+    record {
+      catalog = retired-ok (x .catalog) i (kept .catalog) l;
+      slots = kept .slots ∙ sym (retired-length (x .catalog) i);
+      slot = λ j b. slot-alike _ _ (slotAt x j) (retired-alike (x .catalog) i j l) (kept .slot j (below j b));
+      room =
+          let e : used (leave i x .state) ≡ used x = leave-sum x i (λ (s : Slot) (y : Item). cond (held s) (y .blocks) 0) l (λ s y z a. ap (λ (n : ℕ). cond (held s) n 0) (a .blocks)) in
+          omega (arith, kept .room);
+      left = λ j b e. gone j (below j b) e (ℕ-discrete j i);
+    }
+  where
+    below : (j : ℕ) → j < size (leave i x .state) → j < size x
+    below j b = omega (arith, retired-length (x .catalog) i)
+
+    gone : (j : ℕ) → j < size x → itemAt (leave i x .state .catalog) j .left ≡ true → Dec (j ≡ i) → isHeld x j ≡ false
+    gone j b e (yes q) = ap (isHeld x) q ∙ none
+    gone j b e (no q) = kept .left j b (sym (ap (λ (y : Item). y .left) (retired-other (x .catalog) i j q)) ∙ e)
 
 -- Room made for a requested item, and then its slot changed to one that is held: this is a read, and this is a write.
 request-kept :
@@ -328,9 +485,10 @@ request-kept :
     i < size x →
     SlotKept (itemAt (m .state .catalog) i) s →
     held s ≡ true →
+    itemAt (x .catalog) i .left ≡ false →
     Kept k (putSlot (m .state) i s)
-request-kept split k i x m s room kept l new h =
-    put-kept k (m .state) i s (room .kept kept) (rw (room .catalog) l) new h
+request-kept split k i x m s room kept l new h present =
+    put-kept k (m .state) i s (room .kept kept) (rw (room .catalog) l) new h (rw (room .catalog) present)
     (λ q. let same : itemAt (m .state .catalog) i .blocks ≡ blocksAt x i = ap (λ (c : Catalog). itemAt c i .blocks) (room .catalog) in omega (arith, room .free q))
 
 -- the slot of an item just requested is as the rule keeps it
@@ -345,7 +503,7 @@ step-kept split k (Read i) x ok kept served =
     let room : RoomMade split k i x m = make-room split k i x ok (served .0) (served .1) in
     request-kept split k i x m (readSlot (m .state) i) room kept (served .0)
     (requested k (m .state) i (room .kept kept) (rw (room .catalog) (served .0)))
-    (read-held _ (slotAt (m .state) i))
+    (read-held _ (slotAt (m .state) i)) (served .2)
 step-kept split k (Write i minutes) x ok kept served =
     let m : Moved = makeRoom split k i x in
     let it : Item = itemAt (m .state .catalog) i in
@@ -353,14 +511,28 @@ step-kept split k (Write i minutes) x ok kept served =
     let l : i < size (m .state) = rw (room .catalog) (served .0) in
     request-kept split k i x m (written (full (it .write)) (readSlot (m .state) i)) room kept (served .0)
     (write-kept it (readSlot (m .state) i) (blocks-divide it (catalog-facts (m .state .catalog) (room .kept kept .catalog) .each i l)) (requested k (m .state) i (room .kept kept) l))
-    (write-held _ (readSlot (m .state) i) ∙ read-held _ (slotAt (m .state) i))
+    (write-held _ (readSlot (m .state) i) ∙ read-held _ (slotAt (m .state) i)) (served .2)
 step-kept split k Flush x ok kept served = flush-keeps k x kept
+step-kept split k (Arrive i b l w) x ok kept served = grown-kept k x (listed b l w) kept (item-facts (listed b l w) (served .2)) (served .1)
+step-kept split k (Retire i) x ok kept served =
+    leave-kept k (dropItem i x .state) i (drop-kept k x i kept (served .0)) (rw (drop-catalog x i) (served .0))
+    (ap held (drop-slot x i (omega (arith, kept .slots, served .0))))
 
-pub step-catalog : (split : Split) (k : ℕ) (s : Step) (x : State) → SplitOk split → Served k (x .catalog) s → step split k s x .state .catalog ≡ x .catalog
+pub step-catalog : (split : Split) (k : ℕ) (s : Step) (x : State) → SplitOk split → Served k (x .catalog) s → step split k s x .state .catalog ≡ catalogNext (x .catalog) s
 unfolding step
 step-catalog split k (Read i) x ok served = make-room split k i x ok (served .0) (served .1) .catalog
 step-catalog split k (Write i minutes) x ok served = make-room split k i x ok (served .0) (served .1) .catalog
 step-catalog split k Flush x ok served = flush-catalog x
+step-catalog split k (Arrive i b l w) x ok served = refl
+step-catalog split k (Retire i) x ok served = ap (λ (c : Catalog). catalogNext c (Retire i)) (drop-catalog x i)
+
+-- a catalog in range stays so
+pub next-ok : (k : ℕ) (cat : Catalog) (s : Step) → CatalogOk cat → Served k cat s → CatalogOk (catalogNext cat s)
+next-ok k cat (Read i) ok served = ok
+next-ok k cat (Write i minutes) ok served = ok
+next-ok k cat Flush ok served = ok
+next-ok k cat (Arrive i b l w) ok served = arrived-ok cat (listed b l w) ok (item-facts (listed b l w) (served .2)) (served .1)
+next-ok k cat (Retire i) ok served = retired-ok cat i ok (served .0)
 
 -- the empty cache
 pub empty-kept : (k : ℕ) (cat : Catalog) → CatalogOk cat → Kept k (emptied cat)
@@ -371,4 +543,5 @@ empty-kept k cat ok =
       slots = tab-length (length cat) _;
       slot = λ i l. rw (tab-at (length cat) (λ j. absent) i absent l) (absent-kept (itemAt cat i));
       room = let e : used (emptied cat) ≡ 0 = sum-zero (length cat) _ (λ i l. rw (tab-at (length cat) (λ j. absent) i absent l)) in omega arith;
+      left = λ i l e. ap held (tab-at (length cat) (λ j. absent) i absent l);
     }

@@ -5,6 +5,7 @@ pub mod Potential
 pub mod Moves
 pub mod Folds
 pub mod Ranges
+pub mod Catalogs
 pub mod Faults
 pub mod Slots
 pub mod Keeps

@@ -1,58 +1,89 @@
 -- Laws of logs: what the table lets through can be served; what a log's events add up to; where the rule stands after a log
 -- that the table lets through; and a list of calls against its log. Assumes nothing.
-use mathlib.Core.Path.{_≡_, refl, _∙_}
+use mathlib.Core.Path.{_≡_, refl, ap, _∙_}
 use mathlib.Core.Bool.{Bool, true, false, cond}
 use mathlib.Core.List.{List, [], _∷_, _++_}
 use Prim.Native.Nat.{ℕ, zero, suc, _+_, _≤_, _<_}
 use native.Mathlib.Omega.{arith}
-use lib.ListN.{length, getD}
-use lib.Dec.{leb, ltb}
-use borrow.Author.Tests.{ltb-true, leb-true}
+use lib.ListN.{length, getD, take}
+use lib.Dec.{leb, ltb, eqb}
+use borrow.Author.Tests.{ltb-true, leb-true, eqb-true}
 use Rattle.types.specs.declared.Step.{Step}
-use Rattle.types.specs.declared.Step.the-variants.{Read, Write, Flush}
+use Rattle.types.specs.declared.Step.the-variants.{Read, Write, Flush, Arrive, Retire}
+use Rattle.types.specs.Types.{numbersOf, stepOf}
 use Rattle.landlord.specs.Fold.{fold, sumTo}
-use Rattle.landlord.specs.Catalog.{Catalog, CatalogOk, itemAt}
+use Rattle.landlord.specs.Catalog.{Catalog, CatalogOk, itemAt, listed, itemInRange, catalogNext, catalogAfter}
 use Rattle.landlord.specs.Slot.{Split, held, isDirty}
-use Rattle.landlord.specs.Rule.{State, Event, hit, loaded, evicted, wroteBack, wrote, Moved, evict, victim, makeRoom, found, slotAt, writeBacks, flush, step, size, blocksAt}
+use Rattle.landlord.specs.Rule.{State, Event, hit, loaded, evicted, wroteBack, wrote, retired, Moved, dropItem, evict, victim, makeRoom, found, slotAt, writeBacks, flush, step, size, blocksAt}
 use Rattle.landlord.specs.Figures.{Totals, Figures, Standing, plusTotals, adds, tally, opened, took, closes, ran}
-use Rattle.landlord.specs.Calls.{callOf, stepOf, inRange, refusalAt}
+use Rattle.landlord.specs.Calls.{callOf, inRange, refusalAt}
 use Rattle.landlord.specs.Claims.{SplitOk, Kept, AllowedLog}
 use Rattle.landlord.proofs.Sums.{sum-zero}
-use Rattle.landlord.proofs.Keeps.{Evicting, enough, more, RoomMade, make-room, Served, step-kept, step-catalog, flush-keeps, flush-catalog, empty-kept}
+use Rattle.landlord.proofs.Ranges.{and-left, and-right}
+use Rattle.landlord.proofs.Keeps.{Evicting, enough, more, RoomMade, make-room, Served, next-ok, step-kept, step-catalog, flush-keeps, flush-catalog, empty-kept}
 
--- the item of a step is in the catalog, and no larger than the cache
-known : (k : ℕ) (cat : Catalog) (i : ℕ) → (ltb i (length cat) ≡ true) × (leb (itemAt cat i .blocks) k ≡ true) → (i < length cat) × (itemAt cat i .blocks ≤ k)
-known k cat i f = (ltb-true i (length cat) (f .0), leb-true (itemAt cat i .blocks) k (f .1))
+-- the item of a step is in the catalog, no larger than the cache, and has not left
+known :
+    (k : ℕ) (cat : Catalog) (i : ℕ) →
+    (ltb i (length cat) ≡ true) × (itemAt cat i .left ≡ false) × (leb (itemAt cat i .blocks) k ≡ true) →
+    (i < length cat) × (itemAt cat i .blocks ≤ k) × (itemAt cat i .left ≡ false)
+known k cat i f = (ltb-true i (length cat) (f .0), leb-true (itemAt cat i .blocks) k (f .2), f .1)
 
 -- the tests of the table that an answer of 0 has passed
-clear : (a b c d : Bool) → _≡_ {A = ℕ} (cond a 8 (cond b (cond c (cond d 0 7) 6) 3)) 0 → (c ≡ true) × (d ≡ true)
-clear true b c d e = absurd (omega arith)
-clear false true true true e = (refl, refl)
-clear false true true false e = absurd (omega arith)
-clear false true false d e = absurd (omega arith)
-clear false false c d e = absurd (omega arith)
+clear : (a b c g d : Bool) → _≡_ {A = ℕ} (cond a 8 (cond b (cond c (cond g 20 (cond d 0 7)) 6) 3)) 0 → (c ≡ true) × (g ≡ false) × (d ≡ true)
+clear true b c g d e = absurd (omega arith)
+clear false true true true d e = absurd (omega arith)
+clear false true true false true e = (refl, refl, refl)
+clear false true true false false e = absurd (omega arith)
+clear false true false g d e = absurd (omega arith)
+clear false false c g d e = absurd (omega arith)
+
+clear-arrival : (a b c : Bool) → _≡_ {A = ℕ} (cond a 8 (cond b (cond c 0 19) 3)) 0 → (b ≡ true) × (c ≡ true)
+clear-arrival true b c e = absurd (omega arith)
+clear-arrival false true true e = (refl, refl)
+clear-arrival false true false e = absurd (omega arith)
+clear-arrival false false c e = absurd (omega arith)
 
 pub allowed-served : (k : ℕ) (cat : Catalog) (t : ℕ) (s : Step) → refusalAt k cat t false (callOf s) ≡ 0 → Served k cat s
 unfolding refusalAt stepOf
-allowed-served k cat t (Read i) e = known k cat i (clear (leb 1000000 t) (inRange 82 i 0) (ltb i (length cat)) (leb (itemAt cat i .blocks) k) e)
+allowed-served k cat t (Read i) e =
+    known k cat i (clear (leb 1000000 t) (inRange (numbersOf (Read i))) (ltb i (length cat)) (itemAt cat i .left) (leb (itemAt cat i .blocks) k) e)
 allowed-served k cat t (Write i minutes) e =
-    known k cat i (clear (leb 1000000 t) (inRange 87 i minutes) (ltb i (length cat)) (leb (itemAt cat i .blocks) k) e)
+    known k cat i (clear (leb 1000000 t) (inRange (numbersOf (Write i minutes))) (ltb i (length cat)) (itemAt cat i .left) (leb (itemAt cat i .blocks) k) e)
 allowed-served k cat t Flush e = tt
+allowed-served k cat t (Arrive i b l w) e =
+    let f = clear-arrival (leb 1000000 t) (inRange (numbersOf (Arrive i b l w))) (eqb i (length cat)) e in
+    let next : i ≡ length cat = eqb-true i (length cat) (f .1) in
+    let small : i ≤ 255 = leb-true i 255 (and-left (leb i 255) (itemInRange (listed b l w)) (f .0)) in
+    (next, omega arith, and-right (leb i 255) (itemInRange (listed b l w)) (f .0))
+allowed-served k cat t (Retire i) e =
+    let f = clear (leb 1000000 t) (inRange (numbersOf (Retire i))) (ltb i (length cat)) (itemAt cat i .left) true e in
+    (ltb-true i (length cat) (f .0), f .1)
 
--- each step of a list can be served
+-- each step of a list can be served, by the catalog as the steps before it have left it
 abbrev pub AllServed : ℕ → Catalog → List Step → Type 0
 AllServed k cat [] = Unit {0}
-AllServed k cat (s ∷ steps) = Served k cat s × AllServed k cat steps
+AllServed k cat (s ∷ steps) = Served k cat s × AllServed k (catalogNext cat s) steps
 
 pub all-served : (k : ℕ) (cat : Catalog) (steps : List Step) → AllowedLog k cat steps → AllServed k cat steps
-all-served k cat steps a = from 0 steps (λ i l. rw (let e : 0 + i ≡ i = omega arith in e) (a .each i l))
+unfolding fold
+all-served k cat steps a = from 0 cat steps (λ i l. rw (let e : 0 + i ≡ i = omega arith in e) (a .each i l))
   where
-    from : (t : ℕ) (steps : List Step) → ((i : ℕ) → i < length steps → refusalAt k cat (t + i) false (callOf (getD steps i Flush)) ≡ 0) → AllServed k cat steps
-    from t [] h = tt
-    from t (s ∷ steps) h = (
+    from :
+        (t : ℕ) (cat : Catalog) (steps : List Step) →
+        ((i : ℕ) → i < length steps → refusalAt k (catalogAfter cat (take i steps)) (t + i) false (callOf (getD steps i Flush)) ≡ 0) →
+        AllServed k cat steps
+    from t cat [] h = tt
+    from t cat (s ∷ steps) h = (
       allowed-served k cat (t + 0) s (h 0 (omega arith)),
-      from (t + 1) steps (λ i l. rw (let e : t + 1 + i ≡ t + suc i = omega arith in e) (h (suc i) (omega arith))),
+      from (t + 1) (catalogNext cat s) steps (λ i l. rw (let e : t + 1 + i ≡ t + suc i = omega arith in e) (h (suc i) (omega arith))),
     )
+
+-- so a catalog in range is in range after them
+pub after-ok : (k : ℕ) (cat : Catalog) (steps : List Step) → CatalogOk cat → AllServed k cat steps → CatalogOk (catalogAfter cat steps)
+unfolding fold
+after-ok k cat [] ok served = ok
+after-ok k cat (s ∷ steps) ok served = after-ok k (catalogNext cat s) steps (next-ok k cat s ok (served .0)) (served .1)
 
 -- the sum of a weight over events
 unfoldable pub eventSum : (Event → ℕ) → List Event → ℕ
@@ -148,6 +179,15 @@ flush-steps cat x = write-backs-sum (stepsAdded cat) (size x) (λ i. isDirty (sl
     even true = refl
     even false = refl
 
+-- a weight that evictions do not have adds nothing where an item is dropped
+pub drop-events : (w : Event → ℕ) → ((i : ℕ) (d : Bool) → w (evicted i d) ≡ 0) → (x : State) (i : ℕ) → eventSum w (dropItem i x .events) ≡ 0
+unfolding dropItem
+drop-events w none x i = go (held (slotAt x i))
+  where
+    go : (t : Bool) → eventSum w (cond t (evicted i (isDirty (slotAt x i)) ∷ []) []) ≡ 0
+    go true = eventSum-one w (evicted i (isDirty (slotAt x i))) ∙ none i (isDirty (slotAt x i))
+    go false = eventSum-none w
+
 step-steps : (split : Split) (k : ℕ) (s : Step) (x : State) (cat : Catalog) → SplitOk split → Served k (x .catalog) s → eventSum (stepsAdded cat) (step split k s x .events) ≡ 1
 unfolding step eventSum
 step-steps split k (Read i) x cat ok served =
@@ -167,6 +207,9 @@ step-steps split k (Write i minutes) x cat ok served =
       found-step cat (m .state) i,
     )
 step-steps split k Flush x cat ok served = omega (arith, flush-steps cat x)
+step-steps split k (Arrive i b l w) x cat ok served = refl
+step-steps split k (Retire i) x cat ok served =
+    omega (arith, event-append (stepsAdded cat) (dropItem i x .events) (retired i ∷ []), drop-events (stepsAdded cat) (no-step cat) x i)
 
 -- where the rule stands in a season of capacity k and catalog cat, after t steps, with a split that is fit
 pub record StandsAfter (k : ℕ) (cat : Catalog) (t : ℕ) (isClosed : Bool) (v : Standing) : Type 0 where
@@ -185,13 +228,13 @@ pub took-stands :
     (k : ℕ) (cat : Catalog) (t : ℕ) (v : Standing) (s : Step) →
     StandsAfter k cat t false v →
     Served k cat s →
-    StandsAfter k cat (t + 1) false (took v s)
+    StandsAfter k (catalogNext cat s) (t + 1) false (took v s)
 unfolding took
 took-stands k cat t v s so served =
     let here : Served (v .k) (v .state .catalog) s = rw (so .capacity, so .catalog) served in
     record {
       capacity = so .capacity;
-      catalog = step-catalog (v .split) (v .k) s (v .state) (so .fit) here ∙ so .catalog;
+      catalog = step-catalog (v .split) (v .k) s (v .state) (so .fit) here ∙ ap (λ (c : Catalog). catalogNext c s) (so .catalog);
       kept = rw (so .capacity) (step-kept (v .split) k s (v .state) (so .fit) (so .kept) (rw (so .catalog) served));
       taken =
           omega (
@@ -228,17 +271,17 @@ pub ran-stands :
     SplitOk split →
     CatalogOk cat →
     AllServed k cat steps →
-    StandsAfter k cat (length steps) false (ran split k cat steps)
+    StandsAfter k (catalogAfter cat steps) (length steps) false (ran split k cat steps)
 unfolding fold
 ran-stands split k cat steps ok good served =
-    rw (let e : length steps ≡ 0 + length steps = omega arith in e) (from 0 (opened split k cat) steps (opened-stands split k cat ok good) served)
+    rw (let e : length steps ≡ 0 + length steps = omega arith in e) (from 0 cat (opened split k cat) steps (opened-stands split k cat ok good) served)
   where
     from :
-        (t : ℕ) (v : Standing) (steps : List Step) →
+        (t : ℕ) (cat : Catalog) (v : Standing) (steps : List Step) →
         StandsAfter k cat t false v →
         AllServed k cat steps →
-        StandsAfter k cat (t + length steps) false (fold took v steps)
-    from t v [] so served = rw (let e : t + 0 ≡ t = omega arith in e) so
-    from t v (s ∷ steps) so served =
+        StandsAfter k (catalogAfter cat steps) (t + length steps) false (fold took v steps)
+    from t cat v [] so served = rw (let e : t + 0 ≡ t = omega arith in e) so
+    from t cat v (s ∷ steps) so served =
         rw (let e : t + suc (length steps) ≡ t + 1 + length steps = omega arith in e)
-        (from (t + 1) (took v s) steps (took-stands k cat t v s so (served .0)) (served .1))
+        (from (t + 1) (catalogNext cat s) (took v s) steps (took-stands k cat t v s so (served .0)) (served .1))

@@ -6,10 +6,10 @@ use mathlib.Core.Path.{_≡_, sym, subst}
 use mathlib.Core.Logic.{_≢_}
 use Prim.Native.Nat.{ℕ, suc, _+_, _*_, _-_, _≤_, _<_}
 use native.Mathlib.Nat.{le-of-mul-le-mul-left, mul-le-mul-left}
-use native.Mathlib.Decide.{ℕ-discrete}
+use native.Mathlib.Decide.{ℕ-discrete, decLt}
 use native.Mathlib.Omega.{arith}
 use Rattle.landlord.specs.Fold.{sumTo}
-use Rattle.landlord.proofs.Sums.{sum-le, sum-add, sum-plus, sum-zero, sum-but-with}
+use Rattle.landlord.proofs.Sums.{sum-le, sum-add, sum-plus, sum-zero, sum-but-with, sum-longer}
 use Rattle.landlord.proofs.Potential
 use Rattle.landlord.proofs.Potential.{Both, Terms, Fine, Covered, Charged, cacheBlocks, writeback, planWriteback, heldBlocks, planBlocks, sharedBlocks, cacheSide, planSide, rise, fall, absent, planEvicted, planFetched, evicted, loaded, wasRead, wasWritten, wasFlushed}
 
@@ -95,6 +95,12 @@ pub data Move (T : Terms) (s t : Position) : Type 0 where
   flushes :
       Paid s t (sumOver T (writeback T) (s .items)) (sumOver T (planWriteback T) (s .items))
       → ((i : ℕ) → i < T .n → t .items i ≡ wasFlushed (s .items i))
+      → Move T s t
+  retires :
+      (i : ℕ)
+      → i < T .n
+      → Paid s t (writeback T i (s .items i)) (planWriteback T i (s .items i))
+      → Upd (T .n) (s .items) (t .items) i absent
       → Move T s t
 
 -- some moves, one after the other
@@ -271,12 +277,57 @@ keeps (loads i l h r w u) g v = one i l (Potential.keeps-loads (g i l) h r) w u 
 keeps (reads i l h r w u) g v = one i l (Potential.reads (g i l) h r) w u g v
 keeps (writes i l h r w u) g v = one i l (Potential.writes (g i l) h r) w u g v
 keeps (flushes w h) g v = flushing w h g v
+keeps (retires i l w u) g v = one i l (Potential.retires (g i l)) w u g v
 
 pub keeps-run : {T : Terms} {s t : Position} → Run T s t → Good T s → Inv T s → Good T t × Inv T t
 keeps-run stay g v = (g, v)
 keeps-run (step m r) g v =
     let k = keeps m g v in
     keeps-run r (k .0) (k .1)
+
+-- The same game with items that have come: the others have the costs that they had.
+pub record Extends (T U : Terms) : Type 0 where
+  pub cSame : U .c ≡ T .c
+  pub pSame : U .p ≡ T .p
+  pub unitSame : U .unit ≡ T .unit
+  pub more : T .n ≤ U .n
+  pub loadSame : (i : ℕ) → i < T .n → U .loadCost i ≡ T .loadCost i
+  pub writeSame : (i : ℕ) → i < T .n → U .writeCost i ≡ T .writeCost i
+
+-- what has come is absent on both sides, and counts for nothing
+pub extended :
+    {T U : Terms} {s : Position}
+    → Extends T U
+    → ((i : ℕ) → T .n ≤ i → i < U .n → s .items i ≡ absent)
+    → Good T s
+    → Inv T s
+    → Good U s × Inv U s
+extended {T} {U} {s} e new g v = (good, record { bound = rw (cacheSame, planSame, e .cSame, e .pSame, e .unitSame) (v .bound) })
+  where
+    good : Good U s
+    good i l = at (decLt i (T .n))
+      where
+        at : Dec (i < T .n) → Fine U i (s .items i)
+        at (yes b) =
+            record {
+              loadMost = rw (e .loadSame i b, e .unitSame) (g i b .loadMost);
+              writeMost = rw (e .writeSame i b, e .unitSame) (g i b .writeMost);
+              dirtyHeld = g i b .dirtyHeld;
+              planDirtyHeld = g i b .planDirtyHeld;
+            }
+        at (no b) = rw (new i (omega arith) l) (omega arith)
+
+    cacheSame : sumOver U (cacheSide U) (s .items) ≡ sumOver T (cacheSide T) (s .items)
+    cacheSame =
+        sum-longer (T .n) (U .n) (λ i. cacheSide T i (s .items i)) (λ i. cacheSide U i (s .items i)) (e .more)
+        (λ i l. rw (e .cSame, e .pSame, e .unitSame, e .loadSame i l, e .writeSame i l))
+        (λ i low high. rw (new i low high) (omega arith))
+
+    planSame : sumOver U (planSide U) (s .items) ≡ sumOver T (planSide T) (s .items)
+    planSame =
+        sum-longer (T .n) (U .n) (λ i. planSide T i (s .items i)) (λ i. planSide U i (s .items i)) (e .more)
+        (λ i l. rw (e .cSame, e .pSame))
+        (λ i low high. rw (new i low high) (omega arith))
 
 -- the plan owes no writeback, as after a flush
 abbrev pub PlanClean : Terms → Position → Type 0

@@ -163,6 +163,10 @@ module _ {T : Terms} {i : ℕ} {x : Both} (o : Fine T i x) where
   pub flushes : Covered T i x (wasFlushed x) (writeback T i x) (planWriteback T i x)
   flushes = omega (arith, mul-le-mul-left (cacheBlocks T) write-cost)
 
+  -- the item leaves on both sides, and each pays what it owes: no term of it is left
+  pub retires : Covered T i x absent (writeback T i x) (planWriteback T i x)
+  retires = omega (arith, mul-le-mul-left (cacheBlocks T) load-cost, mul-le-mul-left (cacheBlocks T) write-cost)
+
   -- where the plan owes no writeback, what is left of the potential is at least the load credits' part
   pub at-rest : x .planDirty ≡ false → planSide T i x + T .p * x .load ≤ cacheSide T i x
   at-rest e = rw e (omega (arith, mul-le-mul-left (cacheBlocks T) load-cost))

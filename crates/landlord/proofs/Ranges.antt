@@ -1,23 +1,26 @@
 -- The ranges of the table, read off as inequalities and put together again. Assumes nothing.
-use mathlib.Core.Path.{_≡_, refl}
+use mathlib.Core.Path.{_≡_, refl, ap}
 use mathlib.Core.Logic.{_≢_}
-use mathlib.Core.Bool.{Bool, true, false, cond, _&&_, false≢true}
+use mathlib.Core.Bool.{Bool, true, false, not, cond, _&&_, false≢true}
 use mathlib.Core.List.{[], _∷_}
 use Prim.Native.Nat.{ℕ, zero, suc, _≤_, _<_}
 use native.Mathlib.Omega.{arith}
 use lib.ListN.{length}
 use lib.Dec.{leb, eqb}
-use borrow.Author.Tests.{leb-true, eq-eqb, ne-eqb, le-leb, lt-leb}
-use Rattle.landlord.specs.Catalog.{Catalog, Item, itemAt, blocksInRange, costInRange, itemInRange, allInRange, catalogInRange, capacityInRange, CatalogOk, CapacityOk}
+use borrow.Author.Tests.{leb-true, ne-eqb, le-leb, lt-leb}
+use Rattle.types.specs.declared.Numbers.{Numbers}
 use Rattle.types.specs.Types.{isDeduction}
+use Rattle.landlord.specs.Fold.{tab}
+use Rattle.landlord.specs.Catalog.{Catalog, Item, itemAt, noItem, listed, blocksInRange, costInRange, itemInRange, allInRange, catalogInRange, noneLeft, capacityInRange, CatalogOk, CapacityOk}
 use Rattle.landlord.specs.Calls.{openingRefusal, inRange}
 use Rattle.landlord.specs.Inner.{ItemFacts, CatalogFacts, CapacityFacts}
+use Rattle.landlord.proofs.Folds.{tab-length, tab-at}
 
-and-left : (a b : Bool) → a && b ≡ true → a ≡ true
+pub and-left : (a b : Bool) → a && b ≡ true → a ≡ true
 and-left true b e = refl
 and-left false b e = absurd (false≢true e)
 
-and-right : (a b : Bool) → a && b ≡ true → b ≡ true
+pub and-right : (a b : Bool) → a && b ≡ true → b ≡ true
 and-right true b e = e
 and-right false b e = absurd (false≢true e)
 
@@ -70,6 +73,32 @@ pub catalog-ok : (cat : Catalog) → CatalogFacts cat → CatalogOk cat
 unfolding catalogInRange
 catalog-ok cat f = rw (le-leb (length cat) 256 (f .few), all-ok cat (f .each))
 
+-- ## A catalog of which no item has left
+
+not-true : (t : Bool) → not t ≡ true → t ≡ false
+not-true true e = absurd (false≢true e)
+not-true false e = refl
+
+-- none has left, and nothing past the end has
+pub none-left-at : (cat : Catalog) → noneLeft cat ≡ true → (i : ℕ) → itemAt cat i .left ≡ false
+unfolding noneLeft
+none-left-at [] e zero = refl
+none-left-at [] e (suc i) = refl
+none-left-at (x ∷ items) e zero = not-true (x .left) (and-left (not (x .left)) (noneLeft items) e)
+none-left-at (x ∷ items) e (suc i) = none-left-at items (and-right (not (x .left)) (noneLeft items) e) i
+
+pub none-left-ok : (cat : Catalog) → ((i : ℕ) → i < length cat → itemAt cat i .left ≡ false) → noneLeft cat ≡ true
+unfolding noneLeft
+none-left-ok [] h = refl
+none-left-ok (x ∷ items) h = rw (h 0 (omega arith), none-left-ok items (λ i l. h (suc i) (omega arith)))
+
+-- a catalog by its items' three values, as an opening gives it
+pub listed-none-left : (n : ℕ) (blocks load write : ℕ → ℕ) → noneLeft (tab n (λ i. listed (blocks i) (load i) (write i))) ≡ true
+listed-none-left n blocks load write = none-left-ok (tab n item) (λ i l. ap (λ (x : Item). x .left) (tab-at n item i noItem (omega (arith, tab-length n item))))
+  where
+    item : ℕ → Item
+    item i = listed (blocks i) (load i) (write i)
+
 -- ## A capacity
 
 pub capacity-facts : (k : ℕ) → CapacityOk k → CapacityFacts k
@@ -81,45 +110,93 @@ capacity-ok k f = rw (le-leb 1 k (f .low), le-leb k 4096 (f .high))
 
 -- ## An opening
 
+-- the three ranges of an opening, and whether any item has left
+abbrev openingInRange : ℕ → Catalog → Bool
+openingInRange k cat = capacityInRange k && catalogInRange cat && noneLeft cat
+
+-- what is asked of an opening's capacity and catalog
+abbrev pub OpeningOk : ℕ → Catalog → Type 0
+OpeningOk k cat = CapacityOk k × CatalogOk cat × (noneLeft cat ≡ true)
+
+opening-parts : (a b c : Bool) → a && b && c ≡ true → (a ≡ true) × (b ≡ true) × (c ≡ true)
+opening-parts true true true e = (refl, refl, refl)
+opening-parts true true false e = absurd (false≢true e)
+opening-parts true false c e = absurd (false≢true e)
+opening-parts false b c e = absurd (false≢true e)
+
 none-refused : (s t : Bool) → _≡_ {A = ℕ} (cond s (cond t 0 18) 3) 0 → (s ≡ true) × (t ≡ true)
 none-refused true true e = (refl, refl)
 none-refused true false e = absurd (omega arith)
 none-refused false t e = absurd (omega arith)
 
-pub opening-taken : (k rule : ℕ) (cat : Catalog) → openingRefusal k rule cat ≡ 0 → (CapacityOk k × CatalogOk cat) × (isDeduction rule ≡ true)
+pub opening-taken : (k rule : ℕ) (cat : Catalog) → openingRefusal k rule cat ≡ 0 → OpeningOk k cat × (isDeduction rule ≡ true)
 unfolding openingRefusal
 opening-taken k rule cat e =
-    let all = none-refused (capacityInRange k && catalogInRange cat) (isDeduction rule) e in
-    ((and-left (capacityInRange k) (catalogInRange cat) (all .0), and-right (capacityInRange k) (catalogInRange cat) (all .0)), all .1)
+    let all = none-refused (openingInRange k cat) (isDeduction rule) e in
+    (opening-parts (capacityInRange k) (catalogInRange cat) (noneLeft cat) (all .0), all .1)
 
-pub opening-accepts : (k rule : ℕ) (cat : Catalog) → CapacityOk k → CatalogOk cat → isDeduction rule ≡ true → openingRefusal k rule cat ≡ 0
+pub opening-accepts : (k rule : ℕ) (cat : Catalog) → CapacityOk k → CatalogOk cat → noneLeft cat ≡ true → isDeduction rule ≡ true → openingRefusal k rule cat ≡ 0
 unfolding openingRefusal
-opening-accepts k rule cat size ok known = rw (size, ok, known)
+opening-accepts k rule cat size ok new known = rw (size, ok, new, known)
 
 -- an opening that asks for something out of range is refused
-pub range-refused : (k rule : ℕ) (cat : Catalog) → (CapacityOk k × CatalogOk cat → ⊥) → 3 ≡ openingRefusal k rule cat
+pub range-refused : (k rule : ℕ) (cat : Catalog) → (OpeningOk k cat → ⊥) → 3 ≡ openingRefusal k rule cat
 unfolding openingRefusal
-range-refused k rule cat none = go (capacityInRange k && catalogInRange cat) refl
+range-refused k rule cat none = go (openingInRange k cat) refl
   where
-    go : (t : Bool) → capacityInRange k && catalogInRange cat ≡ t → _≡_ {A = ℕ} 3 (cond t (cond (isDeduction rule) 0 18) 3)
-    go true e = absurd (none (and-left (capacityInRange k) (catalogInRange cat) e, and-right (capacityInRange k) (catalogInRange cat) e))
+    go : (t : Bool) → openingInRange k cat ≡ t → _≡_ {A = ℕ} 3 (cond t (cond (isDeduction rule) 0 18) 3)
+    go true e = absurd (none (opening-parts (capacityInRange k) (catalogInRange cat) (noneLeft cat) e))
     go false e = refl
 
 -- and after that one whose rule's number is no rule's
-pub rule-refused : (k rule : ℕ) (cat : Catalog) → CapacityOk k → CatalogOk cat → isDeduction rule ≡ false → 18 ≡ openingRefusal k rule cat
+pub rule-refused : (k rule : ℕ) (cat : Catalog) → CapacityOk k → CatalogOk cat → noneLeft cat ≡ true → isDeduction rule ≡ false → 18 ≡ openingRefusal k rule cat
 unfolding openingRefusal
-rule-refused k rule cat size ok odd = rw (size, ok, odd)
+rule-refused k rule cat size ok new odd = rw (size, ok, new, odd)
+
+-- ## An item's values, test by test
+
+pub range-empty : (b l w : ℕ) → b < 1 → false ≡ itemInRange (listed b l w)
+range-empty b l w q = rw (lt-leb 1 b q)
+
+pub range-large : (b l w : ℕ) → 1 ≤ b → 16 < b → false ≡ itemInRange (listed b l w)
+range-large b l w some q = rw (le-leb 1 b some, lt-leb b 16 q)
+
+pub range-dear : (b l w : ℕ) → 1 ≤ b → b ≤ 16 → 65535 < l → false ≡ itemInRange (listed b l w)
+range-dear b l w some small q = rw (blocks-ok b some small, lt-leb l 65535 q)
+
+pub range-item : (b l w : ℕ) → 1 ≤ b → b ≤ 16 → l ≤ 65535 → costInRange w ≡ itemInRange (listed b l w)
+range-item b l w some small q = rw (blocks-ok b some small, le-leb l 65535 q)
 
 -- ## A step, test by test
 
-pub range-read : (kind i m : ℕ) → kind ≡ 82 → leb i 255 ≡ inRange kind i m
-range-read kind i m e = rw (eq-eqb kind 82 e)
+pub range-flush : (n : Numbers) → n .kind ≡ 76 → true ≡ inRange n
+range-flush n e = rw e
 
-pub range-write : (kind i m : ℕ) → kind ≢ 82 → kind ≡ 87 → i ≤ 255 → leb m 1440 ≡ inRange kind i m
-range-write kind i m n e l = rw (ne-eqb kind 82 n, eq-eqb kind 87 e, le-leb i 255 l)
+-- a step that names an item, where the number is none's
+pub range-wide : (n : Numbers) → n .kind ≢ 76 → 255 < n .item → false ≡ inRange n
+range-wide n o l = rw (lt-leb (n .item) 255 l, ne-eqb (n .kind) 76 o) (go (eqb (n .kind) 82) (eqb (n .kind) 87) (eqb (n .kind) 65) (eqb (n .kind) 81))
+  where
+    go : (a b c d : Bool) → _≡_ {A = Bool} false (cond a false (cond b false (cond c false (cond d false false))))
+    go true b c d = refl
+    go false true c d = refl
+    go false false true d = refl
+    go false false false true = refl
+    go false false false false = refl
 
-pub range-wide : (kind i m : ℕ) → kind ≢ 82 → kind ≡ 87 → 255 < i → false ≡ inRange kind i m
-range-wide kind i m n e l = rw (ne-eqb kind 82 n, eq-eqb kind 87 e, lt-leb i 255 l)
+pub range-read : (n : Numbers) → n .kind ≡ 82 → n .item ≤ 255 → true ≡ inRange n
+range-read n e l = rw (e, le-leb (n .item) 255 l)
 
-pub range-flush : (kind i m : ℕ) → kind ≢ 82 → kind ≢ 87 → eqb kind 76 ≡ inRange kind i m
-range-flush kind i m n e = rw (ne-eqb kind 82 n, ne-eqb kind 87 e)
+pub range-write : (n : Numbers) → n .kind ≡ 87 → n .item ≤ 255 → leb (n .minutes) 1440 ≡ inRange n
+range-write n e l = rw (e, le-leb (n .item) 255 l)
+
+pub range-arrive : (n : Numbers) → n .kind ≡ 65 → n .item ≤ 255 → itemInRange (listed (n .blocks) (n .load) (n .write)) ≡ inRange n
+range-arrive n e l = rw (e, le-leb (n .item) 255 l)
+
+-- a retirement, or else a kind that is none
+pub range-retire : (n : Numbers) → n .kind ≢ 76 → n .item ≤ 255 → n .kind ≢ 82 → n .kind ≢ 87 → n .kind ≢ 65 → eqb (n .kind) 81 ≡ inRange n
+range-retire n f l r w a =
+    rw (ne-eqb (n .kind) 82 r, ne-eqb (n .kind) 87 w, ne-eqb (n .kind) 65 a, ne-eqb (n .kind) 76 f, le-leb (n .item) 255 l) (go (eqb (n .kind) 81))
+  where
+    go : (t : Bool) → t ≡ cond t true false
+    go true = refl
+    go false = refl

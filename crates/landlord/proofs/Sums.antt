@@ -1,6 +1,6 @@
 -- Laws of the sum over the numbers below n: compared at each number, split, scaled, changed at one number.
 -- Assumes nothing.
-use mathlib.Core.Path.{_≡_, ap}
+use mathlib.Core.Path.{_≡_, refl, sym, ap, _∙_}
 use mathlib.Core.Logic.{_≢_}
 use Prim.Native.Nat.{ℕ, zero, suc, _+_, _*_, _≤_, _<_}
 use native.Mathlib.Nat.{le-of-eq}
@@ -83,3 +83,19 @@ sum-none (suc n) f e i l = go (ℕ-discrete i n) (λ m. sum-none n f (omega arit
     go : Dec (i ≡ n) → (i < n → f i ≡ 0) → f i ≡ 0
     go (yes q) below = omega (arith, ap f q)
     go (no q) below = below (omega arith)
+
+-- a longer sum, whose further terms are nothing
+pub sum-longer :
+    (n m : ℕ) (f g : ℕ → ℕ)
+    → n ≤ m
+    → ((i : ℕ) → i < n → g i ≡ f i)
+    → ((i : ℕ) → n ≤ i → i < m → g i ≡ 0)
+    → sumTo m g ≡ sumTo n f
+unfolding sumTo
+sum-longer zero zero f g l same none = refl
+sum-longer (suc n) zero f g l same none = absurd (let z : suc n ≤ 0 = l in omega arith)
+sum-longer n (suc m) f g l same none = go (ℕ-discrete n (suc m)) (λ b. sum-longer n m f g b same (λ i low high. none i low (omega arith)))
+  where
+    go : Dec (n ≡ suc m) → (n ≤ m → sumTo m g ≡ sumTo n f) → sumTo (suc m) g ≡ sumTo n f
+    go (yes e) below = ap (λ (z : ℕ). sumTo z g) (sym e) ∙ sum-eq n g f same
+    go (no e) below = omega (arith, below (omega arith), none m (omega arith) (omega arith))

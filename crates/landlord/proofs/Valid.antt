@@ -11,24 +11,25 @@ use lib.ListN.{length}
 use lib.Dec.{leb, eqb}
 use borrow.Author.Tests.{eqb-true, leb-true, leb-false}
 use Rattle.types.specs.declared.Step.{Step}
-use Rattle.types.specs.declared.Step.the-variants.{Read, Write, Flush}
-use Rattle.types.specs.Types.{stepMinutes}
+use Rattle.types.specs.declared.Step.the-variants.{Read, Write, Flush, Arrive, Retire}
+use Rattle.types.specs.Types.{numbersOf, stepOf}
 use Rattle.landlord.specs.Fold.{fold}
-use Rattle.landlord.specs.Catalog.{Catalog, Item, CatalogOk, CapacityOk, itemAt, full}
-use Rattle.landlord.specs.Slot.{Slot, absent, held, isDirty, Split, written}
-use Rattle.landlord.specs.Rule.{State, size, slotAt, blocksAt, used, heldCount, emptied, wrote, flushStep, Moved, stay, joined, victim, evictItem, evict, makeRoom, putSlot, found, readSlot, serveRead, serveWrite, flush, step}
+use Rattle.landlord.specs.Catalog.{Catalog, Item, CatalogOk, CapacityOk, noneLeft, itemAt, listed, itemInRange, full}
+use Rattle.landlord.specs.Slot.{Slot, absent, clean, dirty, held, isDirty, Split, written}
+use Rattle.landlord.specs.Rule.{State, size, slotAt, blocksAt, used, heldCount, emptied, wrote, flushStep, evicted, retired, Moved, stay, joined, victim, evictItem, evict, makeRoom, putSlot, found, readSlot, serveRead, serveWrite, flush, arrive, dropItem, leave, step}
 use Rattle.landlord.specs.Figures.{Totals, Figures, Standing, useAt, tally, opened, moved, took, closes}
-use Rattle.landlord.specs.Calls.{Call, stepCall, close, stepOf, callOf, inRange, itemRefusal, refusalAt, refusalNow, logOf, ruleOver, accepted, after}
+use Rattle.landlord.specs.Calls.{Call, stepCall, close, callOf, inRange, itemRefusal, refusalAt, refusalNow, logOf, ruleOver, accepted, after}
 use Rattle.landlord.specs.Claims.{SplitOk, SlotKept, Kept, Least}
-use Rattle.landlord.specs.Valid.{dirtyCount, StandingOk}
-use Rattle.landlord.proofs.Ranges.{catalog-facts}
+use Rattle.landlord.specs.Valid.{dirtyCount, leftCount, StandingOk}
+use Rattle.landlord.proofs.Ranges.{catalog-facts, item-facts, and-right}
 use Rattle.landlord.proofs.Sums.{sum-zero, sum-term}
 use Rattle.landlord.proofs.Folds.{either, tab-at, fold-append}
+use Rattle.landlord.proofs.Catalogs.{one-longer, retired-length, left-none, left-arrived, left-retired}
 use Rattle.landlord.proofs.Slots.{blocks-divide, lose-dirty, read-held, write-held, write-kept, flush-clean}
-use Rattle.landlord.proofs.Keeps.{markSum, mark-change, evict-sum, evict-count, evict-catalog, evicted-slot, other-slot, evict-kept, Evicting, enough, more, RoomMade, make-room, put-same, put-other, put-kept, requested, flush-slot, flush-sum, flush-keeps, Served, empty-kept}
-use Rattle.landlord.proofs.Logs.{tally-part, room-sum, stepsAdded, no-step, allowed-served}
+use Rattle.landlord.proofs.Keeps.{markSum, mark-change, evict-sum, evict-count, evict-catalog, evicted-slot, other-slot, evict-kept, Evicting, enough, more, RoomMade, make-room, put-same, put-other, put-kept, requested, flush-slot, flush-sum, flush-keeps, Served, empty-kept, grown, grown-sum, grown-kept, drop-slot, drop-catalog, drop-sum, drop-kept, leave-sum, leave-kept}
+use Rattle.landlord.proofs.Logs.{tally-part, room-sum, drop-events, stepsAdded, no-step, allowed-served}
 use Rattle.landlord.proofs.Calls.{means, open-log, rule-follows}
-use Rattle.landlord.proofs.Counts.{CountsKept, nothing-counted, tallied, evicted-counted, found-counted, flush-counted}
+use Rattle.landlord.proofs.Counts.{CountsKept, nothing-counted, tallied, evicted-counted, found-counted, flush-counted, arrived-counted}
 
 -- the count of steps
 abbrev taken : Standing → ℕ
@@ -40,7 +41,7 @@ Clean x isClosed = isClosed ≡ true → (i : ℕ) → i < size x → isDirty (s
 
 -- the figures of a cache that stands so, where t steps are taken
 abbrev Right : State → ℕ → Figures → Type 0
-Right x t f = CountsKept (size x) t (heldCount x) (dirtyCount x) (1440 * t) f
+Right x t f = CountsKept (size x) (leftCount (x .catalog)) t (heldCount x) (dirtyCount x) (1440 * t) f
 
 -- a standing, by its parts
 abbrev standingWith : ℕ → State → Figures → Bool → Split → Standing
@@ -51,6 +52,7 @@ counted-of : (v : Standing) → StandingOk v → Right (v .state) (taken v) (v .
 counted-of v o =
     record {
       steps = o .steps;
+      retirements = o .retirements;
       taken = refl;
       evictions = o .evictions;
       dirtyEvictions = o .dirtyEvictions;
@@ -77,6 +79,7 @@ standing-of v t capacity kept few c tidy =
       capacity = capacity;
       kept = kept;
       steps = omega arith;
+      retirements = c .retirements;
       taken = omega arith;
       evictions = c .evictions;
       dirtyEvictions = c .dirtyEvictions;
@@ -91,12 +94,12 @@ standing-of v t capacity kept few c tidy =
       closed = tidy;
     }
 
--- at opening nothing is held, and nothing is counted
-pub ok-opened : (split : Split) (k : ℕ) (cat : Catalog) → CapacityOk k → CatalogOk cat → StandingOk (opened split k cat)
+-- at opening nothing is held, none has left, and nothing is counted
+pub ok-opened : (split : Split) (k : ℕ) (cat : Catalog) → CapacityOk k → CatalogOk cat → noneLeft cat ≡ true → StandingOk (opened split k cat)
 unfolding heldCount dirtyCount
-ok-opened split k cat capacity good =
+ok-opened split k cat capacity good new =
     standing-of (opened split k cat) 0 capacity (empty-kept k cat good) (omega arith)
-    (rw (none held refl, none isDirty refl) (nothing-counted cat))
+    (rw (none held refl, none isDirty refl, left-none cat new) (nothing-counted cat))
     (λ c. absurd (false≢true c))
   where
     none : (mark : Slot → Bool) → mark absent ≡ false → markSum mark (λ i. 1) (emptied cat) ≡ 0
@@ -129,7 +132,7 @@ unfolding fold evictItem
 ok-evict split v ok o low =
     let x : State = v .state in
     standing-of (moved v (evict split x) (v .closed)) (taken v) (o .capacity) (evict-kept (v .k) split (victim x) x ok (o .kept) low) (o .taken)
-    (evicted-counted (x .catalog) (v .figures) (victim x) (isDirty (slotAt x (victim x))) _ _ _ _ _ _ (o .kept .catalog) (low .below) (counted-of v o)
+    (evicted-counted (x .catalog) (v .figures) (victim x) (isDirty (slotAt x (victim x))) _ _ _ _ _ _ _ (o .kept .catalog) (low .below) (counted-of v o)
     (evict-count split (victim x) x (low .below) (low .isHeld)) (evict-dirty split (victim x) x (low .below)))
     (evict-clean split (victim x) x (v .closed) (low .below) (o .closed))
 
@@ -224,10 +227,11 @@ pub record Taking (v : Standing) : Type 0 where
   pub few : v .figures .totals .steps < 1000000
   pub isOpen : v .closed ≡ false
 
--- item i can be served: it is in the catalog, and held or else there is room for it
+-- item i can be served: it is in the catalog, has not left, and is held or else there is room for it
 pub record CanServe (v : Standing) (i : ℕ) : Type 0 where
   pub taking : Taking v
   pub below : i < size (v .state)
+  pub present : itemAt (v .state .catalog) i .left ≡ false
   pub free : held (slotAt (v .state) i) ≡ false → used (v .state) + blocksAt (v .state) i ≤ v .k
 
 -- after room is made for it, an item can be served
@@ -237,8 +241,9 @@ pub room-ready :
     Taking v →
     i < size (v .state) →
     blocksAt (v .state) i ≤ v .k →
+    itemAt (v .state .catalog) i .left ≡ false →
     CanServe (moved v (makeRoom split (v .k) i (v .state)) (v .closed)) i
-room-ready split v i ok o l fits =
+room-ready split v i ok o l fits here =
     let m : Moved = makeRoom split (v .k) i (v .state) in
     let room : RoomMade split (v .k) i (v .state) m = make-room split (v .k) i (v .state) ok l fits in
     record {
@@ -249,6 +254,7 @@ room-ready split v i ok o l fits =
             isOpen = o .isOpen;
           };
       below = rw (room .catalog) l;
+      present = rw (room .catalog) here;
       free = λ e. omega (arith, room .free e, ap (λ (c : Catalog). itemAt c i .blocks) (room .catalog));
     }
 
@@ -279,10 +285,10 @@ found-right :
     i < size (v .state) →
     held s ≡ true →
     1440 * taken v ≤ top →
-    CountsKept (size (v .state)) (taken v + 1) (heldCount (putSlot (v .state) i s)) (dirtyCount (putSlot (v .state) i s)) top
+    CountsKept (size (v .state)) (leftCount (v .state .catalog)) (taken v + 1) (heldCount (putSlot (v .state) i s)) (dirtyCount (putSlot (v .state) i s)) top
     (tally (v .state .catalog) (v .figures) (found (v .state) i))
 found-right v i top s o l h up =
-    found-counted (v .state .catalog) (v .figures) i (held (slotAt (v .state) i)) (taken v) _ _ _ _ _ top (o .kept .catalog) l (counted-of v o)
+    found-counted (v .state .catalog) (v .figures) i (held (slotAt (v .state) i)) _ (taken v) _ _ _ _ _ top (o .kept .catalog) l (counted-of v o)
     (put-held (v .state) i s (o .kept .slots) l h) (put-dirty (v .state) i s l) up
 
 -- a requested item's slot changed and one step more counted: this is a read, and this is a write
@@ -296,7 +302,7 @@ serve-ok :
 serve-ok v i s f r new h right =
     let o : StandingOk v = r .taking .standing in
     standing-of (standingWith (v .k) (putSlot (v .state) i s) f (v .closed) (v .split)) (taken v + 1) (o .capacity)
-    (put-kept (v .k) (v .state) i s (o .kept) (r .below) new h (r .free))
+    (put-kept (v .k) (v .state) i s (o .kept) (r .below) new h (r .present) (r .free))
     (omega (arith, r .taking .few)) right (λ c. absurd (false≢true (sym (r .taking .isOpen) ∙ c)))
 
 pub ok-serve-read : (v : Standing) (i : ℕ) → CanServe v i → StandingOk (moved v (serveRead i (v .state)) (v .closed))
@@ -318,8 +324,8 @@ ok-serve-write v i minutes r few =
     let f : Figures = tally (x .catalog) (v .figures) (found x i) in
     serve-ok v i s (tally (x .catalog) f (wrote i minutes)) r
     (write-kept it (readSlot x i) (blocks-divide it (catalog-facts (x .catalog) (o .kept .catalog) .each i (r .below))) (requested (v .k) x i (o .kept) (r .below))) h
-    (tallied (x .catalog) f (wrote i minutes) (taken v + 1) _ _ (1440 * taken v) _ _ _ _ (o .kept .catalog) (r .below)
-    (found-right v i (1440 * taken v) s o (r .below) h (omega arith)) (omega arith) (omega arith) (omega arith) (omega arith))
+    (tallied (x .catalog) f (wrote i minutes) _ (taken v + 1) _ _ (1440 * taken v) _ _ _ _ _ (o .kept .catalog) (r .below)
+    (found-right v i (1440 * taken v) s o (r .below) h (omega arith)) (omega arith) (omega arith) (omega arith) (omega arith) (omega arith))
 
 -- a landing as an event: a step that moves nothing
 abbrev pub flushCounts : State → Moved
@@ -330,8 +336,8 @@ unfolding fold
 ok-flushCounts v r =
     let o : StandingOk v = r .standing in
     standing-of (moved v (flushCounts (v .state)) (v .closed)) (taken v + 1) (o .capacity) (o .kept) (omega (arith, r .few))
-    (tallied (v .state .catalog) (v .figures) flushStep (taken v) _ _ _ _ _ _ _ (o .kept .catalog) tt (counted-of v o)
-    (omega arith) (omega arith) (omega arith) (omega arith))
+    (tallied (v .state .catalog) (v .figures) flushStep _ (taken v) _ _ _ _ _ _ _ _ (o .kept .catalog) tt (counted-of v o)
+    (omega arith) (omega arith) (omega arith) (omega arith) (omega arith))
     (o .closed)
 
 -- after a flush none is dirty, and as many are held as before
@@ -350,7 +356,7 @@ ok-flush v c o =
     let x : State = v .state in
     standing-of (moved v (flush x) c) (taken v) (o .capacity) (flush-keeps (v .k) x (o .kept)) (o .taken)
     (rw (flush-held-count x, flush-none x)
-    (flush-counted (x .catalog) (size x) (λ i. isDirty (slotAt x i)) (v .figures) (taken v) _ 0 _ (o .kept .catalog) (omega arith)
+    (flush-counted (x .catalog) (size x) (λ i. isDirty (slotAt x i)) (v .figures) _ (taken v) _ 0 _ (o .kept .catalog) (omega arith)
     (rw (let e : 0 + dirtyCount x ≡ dirtyCount x = omega arith in e) (counted-of v o))))
     (λ e i l. ap isDirty (flush-slot x i l) ∙ flush-clean (slotAt x i))
 
@@ -365,24 +371,145 @@ ok-flush-step v r =
     rw (moved-joined v (flushCounts (v .state)) (flush (v .state)) (v .closed) refl)
     (ok-flush (moved v (flushCounts (v .state)) (v .closed)) (v .closed) (ok-flushCounts v r))
 
+-- an arrival: a step, and one item more, which is not held
+pub ok-arrives :
+    (v : Standing) (i b l w : ℕ) →
+    Taking v →
+    itemInRange (listed b l w) ≡ true →
+    size (v .state) < 256 →
+    StandingOk (moved v (arrive (Arrive i b l w) i (v .state)) (v .closed))
+unfolding fold
+ok-arrives v i b l w r new few =
+    let o : StandingOk v = r .standing in
+    standing-of (moved v (arrive (Arrive i b l w) i x) (v .closed)) (taken v + 1) (o .capacity)
+    (grown-kept (v .k) x it (o .kept) (item-facts it new) few) (omega (arith, r .few))
+    (rw (one-longer (x .catalog) it, left-arrived (x .catalog) i b l w, sameHeld, sameDirty)
+    (arrived-counted (x .catalog) (v .figures) i _ (taken v) _ _ (1440 * taken v) _ (counted-of v o) (omega arith)))
+    (λ c. absurd (false≢true (sym (r .isOpen) ∙ c)))
+  where
+    x : State
+    x = v .state
+
+    it : Item
+    it = listed b l w
+
+    sameHeld : heldCount (grown x it) ≡ heldCount x
+    sameHeld = unfold heldCount in grown-sum x it (λ (s : Slot) (y : Item). cond (held s) 1 0) (r .standing .kept .slots) refl
+
+    sameDirty : dirtyCount (grown x it) ≡ dirtyCount x
+    sameDirty = unfold dirtyCount in grown-sum x it (λ (s : Slot) (y : Item). cond (isDirty s) 1 0) (r .standing .kept .slots) refl
+
+-- what is not held is not dirty
+pub not-dirty : (s : Slot) → held s ≡ false → isDirty s ≡ false
+not-dirty absent e = refl
+not-dirty (clean a) e = refl
+not-dirty (dirty a b) e = e
+
+-- an item dropped, and no other changed: an eviction if it was held, and else nothing
+pub ok-drop : (v : Standing) (i : ℕ) → StandingOk v → i < size (v .state) → StandingOk (moved v (dropItem i (v .state)) (v .closed))
+unfolding fold dropItem
+ok-drop v i o l = go (held (slotAt x i)) refl
+  where
+    x : State
+    x = v .state
+
+    y : State
+    y = putSlot x i absent
+
+    helds : heldCount y + cond (held (slotAt x i)) 1 0 ≡ heldCount x
+    helds = unfold heldCount dropItem in drop-sum held (λ j. 1) x i refl (o .kept .slots) l
+
+    dirties : dirtyCount y + cond (isDirty (slotAt x i)) 1 0 ≡ dirtyCount x
+    dirties = unfold dirtyCount dropItem in drop-sum isDirty (λ j. 1) x i refl (o .kept .slots) l
+
+    tidy : Clean y (v .closed)
+    tidy c j b = at (ℕ-discrete j i)
+      where
+        at : Dec (j ≡ i) → isDirty (slotAt y j) ≡ false
+        at (yes q) = ap isDirty (ap (slotAt y) q ∙ put-same x i absent (omega (arith, o .kept .slots)))
+        at (no q) = ap isDirty (put-other x i j absent q) ∙ o .closed c j b
+
+    go :
+        (t : Bool) →
+        held (slotAt x i) ≡ t →
+        StandingOk (standingWith (v .k) y (fold (tally (x .catalog)) (v .figures) (cond t (evicted i (isDirty (slotAt x i)) ∷ []) [])) (v .closed) (v .split))
+    go true e =
+        standing-of _ (taken v) (o .capacity) (drop-kept (v .k) x i (o .kept) l) (o .taken)
+        (evicted-counted (x .catalog) (v .figures) i (isDirty (slotAt x i)) _ _ _ _ _ _ _ (o .kept .catalog) l (counted-of v o) (rw e at helds) dirties)
+        tidy
+    go false e =
+        let h : heldCount y ≡ heldCount x = omega (arith, rw e at helds) in
+        let d : dirtyCount y ≡ dirtyCount x = omega (arith, rw (not-dirty (slotAt x i) e) at dirties) in
+        standing-of _ (taken v) (o .capacity) (drop-kept (v .k) x i (o .kept) l) (o .taken) (rw (h, d) (counted-of v o)) tidy
+
+-- an item that is not held leaves: a step, and a mark
+pub ok-leaves :
+    (v : Standing) (i : ℕ) →
+    Taking v →
+    i < size (v .state) →
+    itemAt (v .state .catalog) i .left ≡ false →
+    held (slotAt (v .state) i) ≡ false →
+    StandingOk (moved v (leave i (v .state)) (v .closed))
+unfolding fold
+ok-leaves v i r l present none =
+    let o : StandingOk v = r .standing in
+    standing-of (moved v (leave i x) (v .closed)) (taken v + 1) (o .capacity) (leave-kept (v .k) x i (o .kept) l none) (omega (arith, r .few))
+    (rw (retired-length (x .catalog) i, left-retired (x .catalog) i l present, sameHeld, sameDirty)
+    (tallied (x .catalog) (v .figures) (retired i) _ (taken v) _ _ (1440 * taken v) _ _ _ _ _ (o .kept .catalog) l (counted-of v o)
+    refl refl (omega arith) (omega arith) (omega arith)))
+    (λ c. absurd (false≢true (sym (r .isOpen) ∙ c)))
+  where
+    x : State
+    x = v .state
+
+    sameHeld : heldCount (leave i x .state) ≡ heldCount x
+    sameHeld = unfold heldCount in leave-sum x i (λ (s : Slot) (y : Item). cond (held s) 1 0) l (λ s y z a. refl)
+
+    sameDirty : dirtyCount (leave i x .state) ≡ dirtyCount x
+    sameDirty = unfold dirtyCount in leave-sum x i (λ (s : Slot) (y : Item). cond (isDirty s) 1 0) l (λ s y z a. refl)
+
+-- a retirement: the item is dropped, and leaves
+pub ok-retires :
+    (v : Standing) (i : ℕ) →
+    Taking v →
+    i < size (v .state) →
+    itemAt (v .state .catalog) i .left ≡ false →
+    StandingOk (moved v (joined (dropItem i (v .state)) (leave i (dropItem i (v .state) .state))) (v .closed))
+ok-retires v i r l present =
+    let d : Moved = dropItem i (v .state) in
+    let same : d .state .catalog ≡ v .state .catalog = drop-catalog (v .state) i in
+    let none : taken (moved v d (v .closed)) ≡ taken v =
+    omega (
+      arith,
+      tally-part (λ (a : Totals). a .steps) (λ a b. refl) (v .state .catalog) (v .figures) (d .events),
+      drop-events (stepsAdded (v .state .catalog)) (no-step (v .state .catalog)) (v .state) i,
+    )
+    in
+    rw (moved-joined v d (leave i (d .state)) (v .closed) same)
+    (ok-leaves (moved v d (v .closed)) i
+    (record { standing = ok-drop v i (r .standing) l; few = omega (arith, none, r .few); isOpen = r .isOpen })
+    (rw same l) (rw same present) (ap held (drop-slot (v .state) i (omega (arith, r .standing .kept .slots)))))
+
 -- every step that the table lets through
 pub ok-took :
     (v : Standing) (s : Step) →
     SplitOk (v .split) →
     Taking v →
     Served (v .k) (v .state .catalog) s →
-    stepMinutes s ≤ 1440 →
+    numbersOf s .minutes ≤ 1440 →
     StandingOk (took v s)
 unfolding took step
 ok-took v (Read i) ok r served few =
     let m : Moved = makeRoom (v .split) (v .k) i (v .state) in
     rw (moved-joined v m (serveRead i (m .state)) (v .closed) (make-room (v .split) (v .k) i (v .state) ok (served .0) (served .1) .catalog))
-    (ok-serve-read (moved v m (v .closed)) i (room-ready (v .split) v i ok r (served .0) (served .1)))
+    (ok-serve-read (moved v m (v .closed)) i (room-ready (v .split) v i ok r (served .0) (served .1) (served .2)))
 ok-took v (Write i minutes) ok r served few =
     let m : Moved = makeRoom (v .split) (v .k) i (v .state) in
     rw (moved-joined v m (serveWrite i minutes (m .state)) (v .closed) (make-room (v .split) (v .k) i (v .state) ok (served .0) (served .1) .catalog))
-    (ok-serve-write (moved v m (v .closed)) i minutes (room-ready (v .split) v i ok r (served .0) (served .1)) few)
+    (ok-serve-write (moved v m (v .closed)) i minutes (room-ready (v .split) v i ok r (served .0) (served .1) (served .2)) few)
 ok-took v Flush ok r served few = ok-flush-step v r
+ok-took v (Arrive i b l w) ok r served few = ok-arrives v i b l w r (served .2) (served .1)
+ok-took v (Retire i) ok r served few = ok-retires v i r (served .0) (served .1)
 
 -- the two first tests of the table that an answer of 0 has passed: the log is not full, and the numbers are in range
 passed : (a b : Bool) (z : ℕ) → cond a 8 (cond b z 3) ≡ 0 → (a ≡ false) × (b ≡ true)
@@ -391,28 +518,28 @@ passed false true z e = (refl, refl)
 passed false false z e = absurd (omega arith)
 
 -- a step that the table lets through: the log is not full, and the minutes are in range
-in-range : (k : ℕ) (cat : Catalog) (t : ℕ) (s : Step) → refusalAt k cat t false (callOf s) ≡ 0 → (t < 1000000) × (stepMinutes s ≤ 1440)
+in-range : (k : ℕ) (cat : Catalog) (t : ℕ) (s : Step) → refusalAt k cat t false (callOf s) ≡ 0 → (t < 1000000) × (numbersOf s .minutes ≤ 1440)
 unfolding refusalAt stepOf
-in-range k cat t (Read i) e = (leb-false 1000000 t (passed (leb 1000000 t) (inRange 82 i 0) (itemRefusal k cat (Read i)) e .0), omega arith)
+in-range k cat t (Read i) e = (leb-false 1000000 t (passed (leb 1000000 t) (inRange (numbersOf (Read i))) (itemRefusal k cat (Read i)) e .0), omega arith)
 in-range k cat t (Write i m) e =
-    let f : (leb 1000000 t ≡ false) × (inRange 87 i m ≡ true) = passed (leb 1000000 t) (inRange 87 i m) (itemRefusal k cat (Write i m)) e in
-    (leb-false 1000000 t (f .0), leb-true m 1440 (second (leb i 255) (leb m 1440) (f .1)))
-  where
-    second : (a b : Bool) → cond a b false ≡ true → b ≡ true
-    second true b e = e
-    second false b e = absurd (false≢true e)
+    let f : (leb 1000000 t ≡ false) × (inRange (numbersOf (Write i m)) ≡ true) = passed (leb 1000000 t) (inRange (numbersOf (Write i m))) (itemRefusal k cat (Write i m)) e in
+    (leb-false 1000000 t (f .0), leb-true m 1440 (and-right (leb i 255) (leb m 1440) (f .1)))
 in-range k cat t Flush e = (leb-false 1000000 t (passed (leb 1000000 t) true 0 e .0), omega arith)
+in-range k cat t (Arrive i b l w) e =
+    (leb-false 1000000 t (passed (leb 1000000 t) (inRange (numbersOf (Arrive i b l w))) (itemRefusal k cat (Arrive i b l w)) e .0), omega arith)
+in-range k cat t (Retire i) e =
+    (leb-false 1000000 t (passed (leb 1000000 t) (inRange (numbersOf (Retire i))) (itemRefusal k cat (Retire i)) e .0), omega arith)
 
 -- a call that is not refused
 accepted-ok : (v : Standing) (call : Call) → SplitOk (v .split) → StandingOk v → refusalNow v call ≡ 0 → StandingOk (accepted v call)
-accepted-ok v (stepCall kind i m) ok o e =
-    let isOpen : v .closed ≡ false = open-log (v .k) (v .state .catalog) (taken v) (v .closed) (stepCall kind i m) e in
-    let lets : refusalAt (v .k) (v .state .catalog) (taken v) false (callOf (stepOf kind i m)) ≡ 0 =
-    means (v .k) (v .state .catalog) (taken v) kind i m (rw isOpen at e)
+accepted-ok v (stepCall n) ok o e =
+    let isOpen : v .closed ≡ false = open-log (v .k) (v .state .catalog) (taken v) (v .closed) (stepCall n) e in
+    let lets : refusalAt (v .k) (v .state .catalog) (taken v) false (callOf (stepOf n)) ≡ 0 =
+    means (v .k) (v .state .catalog) (taken v) n (rw isOpen at e)
     in
-    let ranged : (taken v < 1000000) × (stepMinutes (stepOf kind i m) ≤ 1440) = in-range (v .k) (v .state .catalog) (taken v) (stepOf kind i m) lets in
-    ok-took v (stepOf kind i m) ok (record { standing = o; few = ranged .0; isOpen = isOpen })
-    (allowed-served (v .k) (v .state .catalog) (taken v) (stepOf kind i m) lets) (ranged .1)
+    let ranged : (taken v < 1000000) × (numbersOf (stepOf n) .minutes ≤ 1440) = in-range (v .k) (v .state .catalog) (taken v) (stepOf n) lets in
+    ok-took v (stepOf n) ok (record { standing = o; few = ranged .0; isOpen = isOpen })
+    (allowed-served (v .k) (v .state .catalog) (taken v) (stepOf n) lets) (ranged .1)
 accepted-ok v close ok o e = ok-closes v o
 
 -- a call keeps the split
@@ -422,7 +549,7 @@ after-split v call =
     either (λ (w : Standing). w .split ≡ v .split) (eqb (refusalNow v call) 0) (accepted v call) v (λ e. kept call) (λ e. refl)
   where
     kept : (call : Call) → accepted v call .split ≡ v .split
-    kept (stepCall kind i m) = unfold took in refl
+    kept (stepCall n) = unfold took in refl
     kept close = unfold closes in refl
 
 -- every call: a refused one changes nothing, and an accepted one has passed the table
@@ -438,10 +565,11 @@ pub ok-over :
     SplitOk split →
     CapacityOk k →
     CatalogOk cat →
+    noneLeft cat ≡ true →
     StandingOk (ruleOver split k cat (logOf k cat calls))
 unfolding fold
-ok-over split k cat calls ok capacity good =
-    rw (rule-follows split k cat ok good calls) at (from (opened split k cat) calls ok (ok-opened split k cat capacity good))
+ok-over split k cat calls ok capacity good new =
+    rw (rule-follows split k cat ok good calls) at (from (opened split k cat) calls ok (ok-opened split k cat capacity good new))
   where
     from : (v : Standing) (calls : List Call) → SplitOk (v .split) → StandingOk v → StandingOk (fold after v calls)
     from v [] ok o = o

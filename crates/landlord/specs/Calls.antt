@@ -3,53 +3,64 @@
 use mathlib.Core.{Bool.{Bool, true, false, cond, _&&_}, List.{List, [], _∷_, _++_}}
 use Prim.Native.Nat.{ℕ}
 use lib.{ListN.length, Dec.{leb, ltb, eqb}}
-use Rattle.types.specs.declared.Step.{Step, the-variants.{Read, Write, Flush}}
-use Rattle.types.specs.Types.{stepKind, stepItem, stepMinutes, isDeduction}
-use Rattle.landlord.specs.{Fold.fold, Catalog.{Catalog, itemAt, catalogInRange, capacityInRange}, Slot.Split, Figures.{Standing, took, closes, ran, season}}
+use Rattle.types.specs.declared.{Step.{Step, the-variants.{Read, Write, Flush, Arrive, Retire}}, Numbers.Numbers}
+use Rattle.types.specs.Types.{numbersOf, stepOf, isDeduction}
+use Rattle.landlord.specs.{Fold.fold, Catalog.{Catalog, itemAt, listed, catalogAfter, itemInRange, catalogInRange, noneLeft, capacityInRange}, Slot.Split, Figures.{Standing, took, closes, ran, season}}
 
 -- "Opening by call checks k and catalogue (3)", then the rule's number: "any other number is 18" (paper 02, 'Three'). The refusal's
--- number, 0 if there is none.
+-- number, 0 if there is none. No item of an opening has left.
 unfoldable pub openingRefusal : ℕ → ℕ → Catalog → ℕ
-openingRefusal k rule cat = cond (capacityInRange k && catalogInRange cat) (cond (isDeduction rule) 0 18) 3
+openingRefusal k rule cat = cond (capacityInRange k && catalogInRange cat && noneLeft cat) (cond (isDeduction rule) 0 18) 3
 
 -- a call, with any numbers: a step's kind is the code of its letter
 pub data Call : Type 0 where
-  stepCall : (kind item minutes : ℕ) → Call
+  stepCall : Numbers → Call
   close : Call
 
 -- a step as a call
 abbrev pub callOf : Step → Call
-callOf s = stepCall (stepKind s) (stepItem s) (stepMinutes s)
+callOf s = stepCall (numbersOf s)
 
 -- the item that a call is about; the closing is about none
 abbrev pub callItem : Call → ℕ
-callItem (stepCall kind item minutes) = item
+callItem (stepCall n) = n .item
 callItem close = 0
 
--- the step that a call of a known kind means; values that a step lacks are not looked at
-unfoldable pub stepOf : ℕ → ℕ → ℕ → Step
-stepOf kind item minutes = cond (eqb kind 82) (Read item) (cond (eqb kind 87) (Write item minutes) Flush)
+-- "Sail numbers run from 0 to 255"; the 257th sail would have the number 256: "256 sails remain the limit by range"
+abbrev pub isItemNumber : ℕ → Bool
+isItemNumber i = leb i 255
 
--- "Sail numbers run from 0 to 255", "a write with minutes 0 to 1,440"; a kind is R, W or L
-abbrev pub inRange : ℕ → ℕ → ℕ → Bool
-inRange kind item minutes =
-    cond (eqb kind 82) (leb item 255)
-    (cond (eqb kind 87) (cond (leb item 255) (leb minutes 1440) false)
-    (eqb kind 76))
+-- a kind is R, W, L, A or Q, and the values that such a step has are in range: "a write with minutes 0 to 1,440", and an arrival's as a
+-- catalogue line's
+abbrev pub inRange : Numbers → Bool
+inRange n =
+    cond (eqb (n .kind) 82) (isItemNumber (n .item))
+    (cond (eqb (n .kind) 87) (isItemNumber (n .item) && leb (n .minutes) 1440)
+    (cond (eqb (n .kind) 65) (isItemNumber (n .item) && itemInRange (listed (n .blocks) (n .load) (n .write)))
+    (cond (eqb (n .kind) 81) (isItemNumber (n .item))
+    (eqb (n .kind) 76))))
 
--- "6 stranger: the sail is not in the catalogue. 7 too bulky: the sail has more than k blocks." A landing has no sail.
+-- 6, 20, or what follows: "6 stranger: the sail is not in the catalogue"; "20 when a step or act names a sail whose Q is at an earlier
+-- step, straight after 6". The catalog is as the steps before have left it.
+abbrev pub ifKnown : Catalog → ℕ → ℕ → ℕ
+ifKnown cat i next = cond (ltb i (length cat)) (cond (itemAt cat i .left) 20 next) 6
+
+-- "7 too bulky: the sail has more than k blocks." A landing has no sail. "Q is never too bulky, and A is never a stranger or too bulky";
+-- "19 when A does not carry the next unused number".
 abbrev pub itemRefusal : ℕ → Catalog → Step → ℕ
-itemRefusal k cat (Read i) = cond (ltb i (length cat)) (cond (leb (itemAt cat i .blocks) k) 0 7) 6
-itemRefusal k cat (Write i minutes) = cond (ltb i (length cat)) (cond (leb (itemAt cat i .blocks) k) 0 7) 6
+itemRefusal k cat (Read i) = ifKnown cat i (cond (leb (itemAt cat i .blocks) k) 0 7)
+itemRefusal k cat (Write i minutes) = ifKnown cat i (cond (leb (itemAt cat i .blocks) k) 0 7)
 itemRefusal k cat Flush = 0
+itemRefusal k cat (Arrive i b l w) = cond (eqb i (length cat)) 0 19
+itemRefusal k cat (Retire i) = ifKnown cat i 0
 
--- The refusal's number, 0 if there is none, when so many steps are taken and the log is closed or not:
--- "A step checks 9, 8, 3, 6, 7; closing 9".
+-- The refusal's number, 0 if there is none, when so many steps are taken and the log is closed or not, and the catalog is as those steps
+-- have left it: "A step checks 9, 8, 3, 6, 7; closing 9", with 19 for an arrival and 20 straight after 6.
 unfoldable pub refusalAt : ℕ → Catalog → ℕ → Bool → Call → ℕ
-refusalAt k cat taken isClosed (stepCall kind item minutes) =
+refusalAt k cat taken isClosed (stepCall n) =
     cond isClosed 9
     (cond (leb 1000000 taken) 8
-    (cond (inRange kind item minutes) (itemRefusal k cat (stepOf kind item minutes)) 3))
+    (cond (inRange n) (itemRefusal k cat (stepOf n)) 3))
 refusalAt k cat taken isClosed close = cond isClosed 9 0
 
 -- the steps taken, in order, and whether a closing has ended the log
@@ -63,11 +74,11 @@ noLog = record { steps = []; closed = false }
 
 -- what the table says to a call after a log
 abbrev pub refusalIn : ℕ → Catalog → Log → Call → ℕ
-refusalIn k cat l call = refusalAt k cat (length (l .steps)) (l .closed) call
+refusalIn k cat l call = refusalAt k (catalogAfter cat (l .steps)) (length (l .steps)) (l .closed) call
 
 -- a log that a call joins: a step at its end, or the closing
 abbrev pub logged : Log → Call → Log
-logged l (stepCall kind item minutes) = record { steps = l .steps ++ (stepOf kind item minutes ∷ []); closed = l .closed }
+logged l (stepCall n) = record { steps = l .steps ++ (stepOf n ∷ []); closed = l .closed }
 logged l close = record { steps = l .steps; closed = true }
 
 -- "what the table refuses moves nothing, each step that it does not refuse joins the log, and the first closing that it
@@ -89,7 +100,7 @@ ruleOver split k cat l = cond (l .closed) (season split k cat (l .steps)) (ran s
 
 -- where the rule stands after a call that is not refused
 abbrev pub accepted : Standing → Call → Standing
-accepted v (stepCall kind item minutes) = took v (stepOf kind item minutes)
+accepted v (stepCall n) = took v (stepOf n)
 accepted v close = closes v
 
 -- the same table, asked where the rule stands

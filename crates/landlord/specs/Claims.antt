@@ -2,13 +2,14 @@
 -- bound. They are proved in proofs/ (docs/CONTRACTS.md names each). Assumes nothing.
 use mathlib.Core.{Path._≡_, Bool.{true, false}, List.List}
 use Prim.Native.Nat.{ℕ, _+_, _*_, _-_, _≤_, _<_, _∣_}
-use lib.ListN.{length, getD}
+use lib.ListN.{length, getD, take}
 use Rattle.types.specs.declared.Step.{Step, the-variants.Flush}
-use Rattle.landlord.specs.{Fold.sumTo, Catalog.{Catalog, Item, itemAt, CatalogOk, full, unit}, Slot.{Split, Slot, held, loadCredit, writeCredit}, Rule.{State, size, slotAt, used, rank}, Figures.{season, totalCost, leftSide, rightSide}, Plan.{Plan, price, costs}, Calls.{callOf, refusalAt}}
+use Rattle.landlord.specs.{Fold.sumTo, Catalog.{Catalog, Item, itemAt, catalogAfter, CatalogOk, full, unit}, Slot.{Split, Slot, held, loadCredit, writeCredit}, Rule.{State, size, slotAt, used, rank}, Figures.{season, totalCost, leftSide, rightSide}, Plan.{Plan, price, costs}, Calls.{callOf, refusalAt}}
 
--- a list of steps that the table of refusals lets through, each at its place in an open log
+-- a list of steps that the table of refusals lets through, each at its place in an open log and by the catalog as the steps before it
+-- have left it
 pub record AllowedLog (k : ℕ) (cat : Catalog) (steps : List Step) : Type 0 where
-  pub each : (i : ℕ) → i < length steps → refusalAt k cat i false (callOf (getD steps i Flush)) ≡ 0
+  pub each : (i : ℕ) → i < length steps → refusalAt k (catalogAfter cat (take i steps)) i false (callOf (getD steps i Flush)) ≡ 0
 
 -- What a split "in multiples of the item's blocks" lets the write credit bear, t, of a loss: a multiple of the blocks, no
 -- more than the loss and no more than the write credit, and no more than the load credit is left to the load credit.
@@ -37,6 +38,8 @@ pub record Kept (k : ℕ) (x : State) : Type 0 where
   pub slots : length (x .slots) ≡ size x
   pub slot : (i : ℕ) → i < size x → SlotKept (itemAt (x .catalog) i) (slotAt x i)
   pub room : used x ≤ k
+  -- "left sails, none held"
+  pub left : (i : ℕ) → i < size x → itemAt (x .catalog) i .left ≡ true → held (slotAt x i) ≡ false
 
 -- what the victim is: held, of least rank, and of these the lowest number
 pub record Least (x : State) (v : ℕ) : Type 0 where

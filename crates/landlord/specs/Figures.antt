@@ -1,12 +1,12 @@
 -- What the rule pays and counts: a table of what each event adds, and the sums over a log from an empty cache.
 -- Paper 01, 'The step rule' and the report's names. Assumes nothing.
 use mathlib.Core.{Bool.{Bool, true, false, cond}, List.List}
-use Prim.Native.Nat.{ℕ, _+_, _*_, _-_, _/_}
+use Prim.Native.Nat.{ℕ, suc, _+_, _*_, _-_, _/_}
 use lib.{ListN.{length, getD}, Dec.eqb}
 use Rattle.types.specs.declared.Step.{Step}
-use Rattle.landlord.specs.{Fold.{tab, fold}, Catalog.{Catalog, itemAt}, Slot.Split, Rule.{State, Event, hit, loaded, evicted, wroteBack, wrote, flushStep, Moved, emptied, flush, step}}
+use Rattle.landlord.specs.{Fold.{tab, fold}, Catalog.{Catalog, itemAt}, Slot.Split, Rule.{State, Event, hit, loaded, evicted, wroteBack, wrote, flushStep, arrived, retired, Moved, emptied, flush, step}}
 
--- The totals of paper 01's report, with the steps and the flushes (landings). The closing is neither a step nor a flush.
+-- The totals of paper 01's report, with the steps, the flushes (landings), the arrivals and the retirements. The closing is none of these.
 pub record Totals : Type 0 where
   pub steps : ℕ
   pub hits : ℕ
@@ -17,6 +17,8 @@ pub record Totals : Type 0 where
   pub writebacks : ℕ
   pub writeCost : ℕ
   pub flushes : ℕ
+  pub arrivals : ℕ
+  pub retirements : ℕ
 
 -- what is counted for an item
 pub record Use : Type 0 where
@@ -29,9 +31,9 @@ pub record Figures : Type 0 where
   pub totals : Totals
   pub uses : List Use
 
--- the totals from nine numbers, in the order of the fields
-abbrev pub totalsOf : ℕ → ℕ → ℕ → ℕ → ℕ → ℕ → ℕ → ℕ → ℕ → Totals
-totalsOf s h l lc e de w wc f =
+-- the totals from eleven numbers, in the order of the fields
+abbrev pub totalsOf : ℕ → ℕ → ℕ → ℕ → ℕ → ℕ → ℕ → ℕ → ℕ → ℕ → ℕ → Totals
+totalsOf s h l lc e de w wc f a r =
     record {
       steps = s;
       hits = h;
@@ -42,18 +44,22 @@ totalsOf s h l lc e de w wc f =
       writebacks = w;
       writeCost = wc;
       flushes = f;
+      arrivals = a;
+      retirements = r;
     }
 
 -- What an event adds, in the order: steps, hits, loads, load cost, evictions, dirty evictions, writebacks, write cost,
--- flushes. A dirty eviction is a writeback, whatever its cost.
+-- flushes, arrivals, retirements. A dirty eviction is a writeback, whatever its cost.
 abbrev pub adds : Catalog → Event → Totals
-adds cat (hit i) = totalsOf 1 1 0 0 0 0 0 0 0
-adds cat (loaded i) = totalsOf 1 0 1 (itemAt cat i .load) 0 0 0 0 0
-adds cat (evicted i false) = totalsOf 0 0 0 0 1 0 0 0 0
-adds cat (evicted i true) = totalsOf 0 0 0 0 1 1 1 (itemAt cat i .write) 0
-adds cat (wroteBack i) = totalsOf 0 0 0 0 0 0 1 (itemAt cat i .write) 0
-adds cat (wrote i minutes) = totalsOf 0 0 0 0 0 0 0 0 0
-adds cat flushStep = totalsOf 1 0 0 0 0 0 0 0 1
+adds cat (hit i) = totalsOf 1 1 0 0 0 0 0 0 0 0 0
+adds cat (loaded i) = totalsOf 1 0 1 (itemAt cat i .load) 0 0 0 0 0 0 0
+adds cat (evicted i false) = totalsOf 0 0 0 0 1 0 0 0 0 0 0
+adds cat (evicted i true) = totalsOf 0 0 0 0 1 1 1 (itemAt cat i .write) 0 0 0
+adds cat (wroteBack i) = totalsOf 0 0 0 0 0 0 1 (itemAt cat i .write) 0 0 0
+adds cat (wrote i minutes) = totalsOf 0 0 0 0 0 0 0 0 0 0 0
+adds cat flushStep = totalsOf 1 0 0 0 0 0 0 0 1 0 0
+adds cat (arrived i) = totalsOf 1 0 0 0 0 0 0 0 0 1 0
+adds cat (retired i) = totalsOf 1 0 0 0 0 0 0 0 0 0 1
 
 -- what is counted for an item, from its three numbers
 abbrev pub useOf : ℕ → ℕ → ℕ → Use
@@ -69,6 +75,8 @@ usage (evicted i true) = useOf 0 0 1
 usage (wroteBack i) = useOf 0 0 1
 usage (wrote i minutes) = useOf minutes 0 0
 usage flushStep = useOf 0 0 0
+usage (arrived i) = useOf 0 0 0
+usage (retired i) = useOf 0 0 0
 
 -- whether an event is about item i
 abbrev pub isAbout : ℕ → Event → Bool
@@ -78,13 +86,15 @@ isAbout i (evicted j d) = eqb i j
 isAbout i (wroteBack j) = eqb i j
 isAbout i (wrote j minutes) = eqb i j
 isAbout i flushStep = false
+isAbout i (arrived j) = eqb i j
+isAbout i (retired j) = eqb i j
 
 -- totals added up, each by itself
 abbrev pub plusTotals : Totals → Totals → Totals
 plusTotals a b =
     totalsOf (a .steps + b .steps) (a .hits + b .hits) (a .loads + b .loads) (a .loadCost + b .loadCost)
     (a .evictions + b .evictions) (a .dirtyEvictions + b .dirtyEvictions) (a .writebacks + b .writebacks)
-    (a .writeCost + b .writeCost) (a .flushes + b .flushes)
+    (a .writeCost + b .writeCost) (a .flushes + b .flushes) (a .arrivals + b .arrivals) (a .retirements + b .retirements)
 
 -- what is counted for an item that nothing has happened to
 abbrev pub noUse : Use
@@ -98,12 +108,24 @@ useAt f i = getD (f .uses) i noUse
 abbrev pub plusUse : Use → Use → Use
 plusUse a b = useOf (a .minutes + b .minutes) (a .loads + b .loads) (a .writebacks + b .writebacks)
 
+-- how many items are counted for after an event, of n before it: an arrival has a line of its own from then on. "Left sails stay in the
+-- report."
+abbrev pub linesAfter : ℕ → Event → ℕ
+linesAfter n (hit i) = n
+linesAfter n (loaded i) = n
+linesAfter n (evicted i d) = n
+linesAfter n (wroteBack i) = n
+linesAfter n (wrote i minutes) = n
+linesAfter n flushStep = n
+linesAfter n (arrived i) = suc n
+linesAfter n (retired i) = n
+
 -- the figures after one event more
 abbrev pub tally : Catalog → Figures → Event → Figures
 tally cat f e =
     record {
       totals = plusTotals (f .totals) (adds cat e);
-      uses = tab (length cat) (λ i. plusUse (useAt f i) (cond (isAbout i e) (usage e) noUse));
+      uses = tab (linesAfter (length cat) e) (λ i. plusUse (useAt f i) (cond (isAbout i e) (usage e) noUse));
     }
 
 -- "The state keeps minutes per sail; tenths are total minutes / 6 rounded down, at print"
@@ -112,7 +134,7 @@ tenthsOf minutes = minutes / 6
 
 -- at opening nothing is counted
 abbrev pub nothing : Catalog → Figures
-nothing cat = record { totals = totalsOf 0 0 0 0 0 0 0 0 0; uses = tab (length cat) (λ i. noUse) }
+nothing cat = record { totals = totalsOf 0 0 0 0 0 0 0 0 0 0 0; uses = tab (length cat) (λ i. noUse) }
 
 -- "Total is loadcost + writecost"
 abbrev pub totalCost : Figures → ℕ

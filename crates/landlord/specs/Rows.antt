@@ -1,13 +1,15 @@
 -- The bench rows: seasons with every figure that the rule gives for them, in one table, and one theorem over the table, by
 -- computation. The first nine are those that paper 01 marks, the next six catch replays that go astray, one is of minutes that come
--- to a tenth of an hour only together, the next five are where write-first and load-first part, the last two are for the table of
--- refusals and the plan's faults. Two more tables put questions to the table of refusals, about calls and about openings. Assumes nothing.
+-- to a tenth of an hour only together, the next five are where write-first and load-first part, two are for the table of refusals and
+-- the plan's faults, and the last four are of items that arrive and leave. Two more tables put questions to the table of refusals, about
+-- calls and about openings. Assumes nothing.
 use mathlib.Core.{Path.{_≡_, refl}, Bool.{Bool, true, false}, List.{List, [], _∷_, _++_, map}}
 use Prim.Native.Nat.{ℕ, _+_, _*_, _-_, _≤_}
 use native.Mathlib.Omega.{arith}
 use lib.ListN.{getD}
 use Rattle.types.specs.declared.{Step.{Step, the-variants.Write}, Act.{Act, the-variants.{Evict, Fetch}}, Deduction.{Deduction, the-variants.{WriteFirst, LoadFirst}}}
-use Rattle.landlord.specs.{Fold.{sumTo, tabFrom, bestTo, fold}, Catalog.{Catalog, Item, allInRange, catalogInRange, unit}, Slot.{Slot, absent, clean, dirty, Split, writeFirst, splitOf}, Rule.{State, Event, hit, loaded, evicted, wroteBack, wrote, flushStep, emptied, used, heldCount, victim, evictItem, evictFor, makeRoom, writeBacks, flush, step}, Figures.{Totals, Use, Standing, totalsOf, useOf, tenthsOf, took, closes, season, totalCost, leftSide, rightSide}, Plan.{Plan, Priced, costs, fault, unknownItem, notHeld, alreadyHeld, requestNotHeld, overCapacity, planUsed, owed, planActs, allActs, planServes, priceFrom, price}, Claims.loadCredits, Calls.{Call, stepCall, close, Log, noLog, stepOf, refusalAt, refusalIn, joins, logOf, ruleOver, openingRefusal}}
+use Rattle.types.specs.Types.{numbersFrom, stepOf}
+use Rattle.landlord.specs.{Fold.{sumTo, tab, tabFrom, bestTo, fold}, Catalog.{Catalog, Item, listed, departed, allInRange, catalogInRange, noneLeft, unit}, Slot.{Slot, absent, clean, dirty, Split, writeFirst, splitOf}, Rule.{State, Event, hit, loaded, evicted, wroteBack, wrote, flushStep, arrived, retired, emptied, used, heldCount, victim, evictItem, evictFor, makeRoom, writeBacks, flush, dropItem, step}, Figures.{Totals, Use, Standing, totalsOf, useOf, tenthsOf, took, closes, season, totalCost, leftSide, rightSide}, Plan.{Plan, Priced, costs, fault, unknownItem, retiredItem, notHeld, alreadyHeld, requestNotHeld, overCapacity, planUsed, owed, planActs, allActs, planServes, priceFrom, price}, Claims.loadCredits, Calls.{Call, stepCall, close, Log, noLog, refusalAt, refusalIn, joins, logOf, ruleOver, openingRefusal}}
 
 -- a rival of a row: its blocks, and its acts before step 0, 1, 2 and on; no acts after the last list
 pub record RowRival : Type 0 where
@@ -53,6 +55,8 @@ evictedItems (evicted i d ∷ es) = i ∷ evictedItems es
 evictedItems (wroteBack i ∷ es) = evictedItems es
 evictedItems (wrote i m ∷ es) = evictedItems es
 evictedItems (flushStep ∷ es) = evictedItems es
+evictedItems (arrived i ∷ es) = evictedItems es
+evictedItems (retired i ∷ es) = evictedItems es
 
 -- what the definitions give for a row
 unfoldable pub resultOf : BenchRow → RowResult
@@ -71,20 +75,34 @@ resultOf r =
 
 -- an item by its blocks, load cost and write cost
 abbrev item : ℕ → ℕ → ℕ → Item
-item b l w = record { blocks = b; load = l; write = w }
+item b l w = listed b l w
+
+-- a step's call by its first three numbers
+abbrev stepOfThree : ℕ → ℕ → ℕ → Call
+stepOfThree kind i minutes = stepCall (numbersFrom kind i minutes 0 0 0)
+
+-- totals with no arrival and no retirement
+abbrev counts : ℕ → ℕ → ℕ → ℕ → ℕ → ℕ → ℕ → ℕ → ℕ → Totals
+counts s h l lc e de w wc f = totalsOf s h l lc e de w wc f 0 0
 
 -- a rival by its blocks and its lists of acts
 abbrev rival : ℕ → List (List Act) → RowRival
 rival h acts = record { blocks = h; acts = acts }
 
 abbrev read : ℕ → Call
-read i = stepCall 82 i 0
+read i = stepOfThree 82 i 0
 
 abbrev write : ℕ → ℕ → Call
-write i minutes = stepCall 87 i minutes
+write i minutes = stepOfThree 87 i minutes
 
 abbrev flushCall : Call
-flushCall = stepCall 76 0 0
+flushCall = stepOfThree 76 0 0
+
+abbrev arrival : ℕ → ℕ → ℕ → ℕ → Call
+arrival i b l w = stepCall (numbersFrom 65 i 0 b l w)
+
+abbrev retirement : ℕ → Call
+retirement i = stepOfThree 81 i 0
 
 -- the catalog, the calls and the plan of paper 01's whole example
 abbrev three : Catalog
@@ -119,102 +137,109 @@ gives a n t u e s p = record { answers = a; total = n; totals = t; uses = u; evi
 abbrev wholeExample : BenchRow
 wholeExample =
     row 3 three (fourSteps ++ (flushCall ∷ close ∷ [])) (theRival ∷ [])
-    (gives (0 ∷ 0 ∷ 0 ∷ 0 ∷ 0 ∷ 0 ∷ []) 28 (totalsOf 5 1 3 13 1 0 2 15 1)
+    (gives (0 ∷ 0 ∷ 0 ∷ 0 ∷ 0 ∷ 0 ∷ []) 28 (counts 5 1 3 13 1 0 2 15 1)
     (useOf 90 1 1 ∷ useOf 0 1 0 ∷ useOf 45 1 1 ∷ []) (1 ∷ []) (clean 2882880 ∷ absent ∷ clean 2162160 ∷ []) (costs 32 ∷ []))
 
 -- an item written for 5 minutes twice, and then read by a call that names minutes: a read has none
 abbrev fiveTwice : BenchRow
 fiveTwice =
-    row 1 (item 1 4 6 ∷ []) (write 0 5 ∷ write 0 5 ∷ stepCall 82 0 7 ∷ []) []
-    (gives (0 ∷ 0 ∷ 0 ∷ []) 4 (totalsOf 3 2 1 4 0 0 0 0 0)
+    row 1 (item 1 4 6 ∷ []) (write 0 5 ∷ write 0 5 ∷ stepOfThree 82 0 7 ∷ []) []
+    (gives (0 ∷ 0 ∷ 0 ∷ []) 4 (counts 3 2 1 4 0 0 0 0 0)
     (useOf 10 1 0 ∷ []) [] (dirty 2882880 4324320 ∷ []) [])
 
--- The table. Totals are steps, hits, loads, load cost, evictions, dirty evictions, writebacks, write cost, flushes;
--- uses are minutes, loads, writebacks.
+-- an item that arrives in an empty catalog, is written and leaves
+abbrev comesAndGoes : BenchRow
+comesAndGoes =
+    row 2 [] (arrival 0 1 4 6 ∷ write 0 0 ∷ retirement 0 ∷ close ∷ []) (rival 1 ([] ∷ (Fetch 0 ∷ []) ∷ []) ∷ [])
+    (gives (0 ∷ 0 ∷ 0 ∷ 0 ∷ []) 10 (totalsOf 3 0 1 4 1 1 1 6 0 1 1)
+    (useOf 0 1 1 ∷ []) (0 ∷ []) (absent ∷ []) (costs 10 ∷ []))
+
+-- The table. Totals are steps, hits, loads, load cost, evictions, dirty evictions, writebacks, write cost, flushes, and for items that
+-- arrive and leave also arrivals and retirements; uses are minutes, loads, writebacks.
 abbrev pub benchRows : List BenchRow
 benchRows =
     -- the empty log
     row 1 (item 1 4 6 ∷ []) (close ∷ []) []
-    (gives (0 ∷ []) 0 (totalsOf 0 0 0 0 0 0 0 0 0)
+    (gives (0 ∷ []) 0 (counts 0 0 0 0 0 0 0 0 0)
     (useOf 0 0 0 ∷ []) [] (absent ∷ []) []) ∷
     -- one write: 10
     row 1 (item 1 4 6 ∷ []) (write 0 0 ∷ close ∷ []) []
-    (gives (0 ∷ 0 ∷ []) 10 (totalsOf 1 0 1 4 0 0 1 6 0)
+    (gives (0 ∷ 0 ∷ []) 10 (counts 1 0 1 4 0 0 1 6 0)
     (useOf 0 1 1 ∷ []) [] (clean 2882880 ∷ []) []) ∷
     -- two writes: 10 again
     row 1 (item 1 4 6 ∷ []) (write 0 0 ∷ write 0 0 ∷ close ∷ []) []
-    (gives (0 ∷ 0 ∷ 0 ∷ []) 10 (totalsOf 2 1 1 4 0 0 1 6 0)
+    (gives (0 ∷ 0 ∷ 0 ∷ []) 10 (counts 2 1 1 4 0 0 1 6 0)
     (useOf 0 1 1 ∷ []) [] (clean 2882880 ∷ []) []) ∷
     -- a dirty eviction: 13
     row 1 (item 1 4 6 ∷ item 1 3 9 ∷ []) (write 0 0 ∷ read 1 ∷ close ∷ []) []
-    (gives (0 ∷ 0 ∷ 0 ∷ []) 13 (totalsOf 2 0 2 7 1 1 1 6 0)
+    (gives (0 ∷ 0 ∷ 0 ∷ []) 13 (counts 2 0 2 7 1 1 1 6 0)
     (useOf 0 1 1 ∷ useOf 0 1 0 ∷ []) (0 ∷ []) (absent ∷ clean 2162160 ∷ []) []) ∷
     -- equal ranks go to the lowest number
     row 2 (item 1 5 0 ∷ item 1 5 0 ∷ item 1 5 0 ∷ []) (read 0 ∷ read 1 ∷ read 2 ∷ read 1 ∷ []) []
-    (gives (0 ∷ 0 ∷ 0 ∷ 0 ∷ []) 15 (totalsOf 4 1 3 15 1 0 0 0 0)
+    (gives (0 ∷ 0 ∷ 0 ∷ 0 ∷ []) 15 (counts 4 1 3 15 1 0 0 0 0)
     (useOf 0 1 0 ∷ useOf 0 1 0 ∷ useOf 0 1 0 ∷ []) (0 ∷ []) (absent ∷ clean 3603600 ∷ clean 3603600 ∷ []) []) ∷
     -- two evictions for one load: 12
     row 2 (item 1 2 0 ∷ item 1 3 0 ∷ item 2 7 0 ∷ []) (read 0 ∷ read 1 ∷ read 2 ∷ []) []
-    (gives (0 ∷ 0 ∷ 0 ∷ []) 12 (totalsOf 3 0 3 12 2 0 0 0 0)
+    (gives (0 ∷ 0 ∷ 0 ∷ []) 12 (counts 3 0 3 12 2 0 0 0 0)
     (useOf 0 1 0 ∷ useOf 0 1 0 ∷ useOf 0 1 0 ∷ []) (0 ∷ 1 ∷ []) (absent ∷ absent ∷ clean 5045040 ∷ []) []) ∷
     -- a cost spread over three blocks
     row 4 (item 3 1 0 ∷ item 1 1 0 ∷ item 1 1 0 ∷ []) (read 0 ∷ read 1 ∷ read 2 ∷ []) []
-    (gives (0 ∷ 0 ∷ 0 ∷ []) 3 (totalsOf 3 0 3 3 1 0 0 0 0)
+    (gives (0 ∷ 0 ∷ 0 ∷ []) 3 (counts 3 0 3 3 1 0 0 0 0)
     (useOf 0 1 0 ∷ useOf 0 1 0 ∷ useOf 0 1 0 ∷ []) (0 ∷ []) (absent ∷ clean 480480 ∷ clean 720720 ∷ []) []) ∷
     -- two landings running: the second writes nothing
     row 1 (item 1 4 6 ∷ []) (write 0 0 ∷ flushCall ∷ flushCall ∷ []) []
-    (gives (0 ∷ 0 ∷ 0 ∷ []) 10 (totalsOf 3 0 1 4 0 0 1 6 2)
+    (gives (0 ∷ 0 ∷ 0 ∷ []) 10 (counts 3 0 1 4 0 0 1 6 2)
     (useOf 0 1 1 ∷ []) [] (clean 2882880 ∷ []) []) ∷
     -- the whole example: 28 and 32
     wholeExample ∷
     -- the item of the larger credit and the smaller rank goes
     row 4 (item 3 2 0 ∷ item 1 1 0 ∷ item 1 1 0 ∷ []) (read 0 ∷ read 1 ∷ read 2 ∷ []) []
-    (gives (0 ∷ 0 ∷ 0 ∷ []) 4 (totalsOf 3 0 3 4 1 0 0 0 0)
+    (gives (0 ∷ 0 ∷ 0 ∷ []) 4 (counts 3 0 3 4 1 0 0 0 0)
     (useOf 0 1 0 ∷ useOf 0 1 0 ∷ useOf 0 1 0 ∷ []) (0 ∷ []) (absent ∷ clean 240240 ∷ clean 720720 ∷ []) []) ∷
     -- each eviction takes its own loss
     row 4 (item 1 1 0 ∷ item 1 2 0 ∷ item 1 9 0 ∷ item 3 1 0 ∷ []) (read 0 ∷ read 1 ∷ read 2 ∷ read 3 ∷ []) []
-    (gives (0 ∷ 0 ∷ 0 ∷ 0 ∷ []) 13 (totalsOf 4 0 4 13 2 0 0 0 0)
+    (gives (0 ∷ 0 ∷ 0 ∷ 0 ∷ []) 13 (counts 4 0 4 13 2 0 0 0 0)
     (useOf 0 1 0 ∷ useOf 0 1 0 ∷ useOf 0 1 0 ∷ useOf 0 1 0 ∷ []) (0 ∷ 1 ∷ []) (absent ∷ absent ∷ clean 5045040 ∷ clean 720720 ∷ []) []) ∷
     -- the whole example's first four steps: a read leaves a write credit that has lost some
     row 3 three fourSteps []
-    (gives (0 ∷ 0 ∷ 0 ∷ 0 ∷ []) 13 (totalsOf 4 1 3 13 1 0 0 0 0)
+    (gives (0 ∷ 0 ∷ 0 ∷ 0 ∷ []) 13 (counts 4 1 3 13 1 0 0 0 0)
     (useOf 90 1 0 ∷ useOf 0 1 0 ∷ useOf 45 1 0 ∷ []) (1 ∷ []) (dirty 2882880 2162160 ∷ absent ∷ dirty 2162160 6486480 ∷ []) []) ∷
     -- a dirty eviction of write cost 0
     row 1 (item 1 4 0 ∷ item 1 3 0 ∷ []) (write 0 0 ∷ read 1 ∷ []) []
-    (gives (0 ∷ 0 ∷ []) 7 (totalsOf 2 0 2 7 1 1 1 0 0)
+    (gives (0 ∷ 0 ∷ []) 7 (counts 2 0 2 7 1 1 1 0 0)
     (useOf 0 1 1 ∷ useOf 0 1 0 ∷ []) (0 ∷ []) (absent ∷ clean 2162160 ∷ []) []) ∷
     -- a dirty eviction of used-up write credit
     row 2 (item 1 1 1 ∷ item 1 1 0 ∷ item 1 1 0 ∷ []) (write 0 0 ∷ read 1 ∷ read 2 ∷ read 1 ∷ []) []
-    (gives (0 ∷ 0 ∷ 0 ∷ 0 ∷ []) 5 (totalsOf 4 0 4 4 2 1 1 1 0)
+    (gives (0 ∷ 0 ∷ 0 ∷ 0 ∷ []) 5 (counts 4 0 4 4 2 1 1 1 0)
     (useOf 0 1 1 ∷ useOf 0 2 0 ∷ useOf 0 1 0 ∷ []) (1 ∷ 0 ∷ []) (absent ∷ clean 720720 ∷ clean 0 ∷ []) []) ∷
     -- cache and plan level: 10 against 10
     row 1 (item 1 4 6 ∷ []) (write 0 0 ∷ close ∷ []) (rival 1 ((Fetch 0 ∷ []) ∷ []) ∷ [])
-    (gives (0 ∷ 0 ∷ []) 10 (totalsOf 1 0 1 4 0 0 1 6 0)
+    (gives (0 ∷ 0 ∷ []) 10 (counts 1 0 1 4 0 0 1 6 0)
     (useOf 0 1 1 ∷ []) [] (clean 2882880 ∷ []) (costs 10 ∷ [])) ∷
     -- 5 minutes twice
     fiveTwice ∷
     -- The two rules part: write-first evicts item 0 dirty, load-first evicts item 1 in its place; 25 by both.
     rowBy 2 WriteFirst four (sevenSteps ++ (close ∷ [])) []
-    (gives (0 ∷ 0 ∷ 0 ∷ 0 ∷ 0 ∷ 0 ∷ 0 ∷ 0 ∷ []) 25 (totalsOf 7 1 6 20 4 1 1 5 0)
+    (gives (0 ∷ 0 ∷ 0 ∷ 0 ∷ 0 ∷ 0 ∷ 0 ∷ 0 ∷ []) 25 (counts 7 1 6 20 4 1 1 5 0)
     (useOf 0 1 1 ∷ useOf 0 2 0 ∷ useOf 0 2 0 ∷ useOf 0 1 0 ∷ []) (1 ∷ 2 ∷ 3 ∷ 0 ∷ []) (absent ∷ clean 720720 ∷ clean 2882880 ∷ absent ∷ []) []) ∷
     rowBy 2 LoadFirst four (sevenSteps ++ (close ∷ [])) []
-    (gives (0 ∷ 0 ∷ 0 ∷ 0 ∷ 0 ∷ 0 ∷ 0 ∷ 0 ∷ []) 25 (totalsOf 7 1 6 20 4 0 1 5 0)
+    (gives (0 ∷ 0 ∷ 0 ∷ 0 ∷ 0 ∷ 0 ∷ 0 ∷ 0 ∷ []) 25 (counts 7 1 6 20 4 0 1 5 0)
     (useOf 0 1 1 ∷ useOf 0 2 0 ∷ useOf 0 2 0 ∷ useOf 0 1 0 ∷ []) (1 ∷ 2 ∷ 3 ∷ 1 ∷ []) (clean 0 ∷ absent ∷ clean 2882880 ∷ absent ∷ []) []) ∷
     -- their first three steps: of 10 the dirty item has lost 2, from its write credit or from its load credit
     rowBy 2 WriteFirst four (write 0 0 ∷ read 1 ∷ read 2 ∷ []) []
-    (gives (0 ∷ 0 ∷ 0 ∷ []) 11 (totalsOf 3 0 3 11 1 0 0 0 0)
+    (gives (0 ∷ 0 ∷ 0 ∷ []) 11 (counts 3 0 3 11 1 0 0 0 0)
     (useOf 0 1 0 ∷ useOf 0 1 0 ∷ useOf 0 1 0 ∷ useOf 0 0 0 ∷ []) (1 ∷ []) (dirty 3603600 2162160 ∷ absent ∷ clean 2882880 ∷ absent ∷ []) []) ∷
     rowBy 2 LoadFirst four (write 0 0 ∷ read 1 ∷ read 2 ∷ []) []
-    (gives (0 ∷ 0 ∷ 0 ∷ []) 11 (totalsOf 3 0 3 11 1 0 0 0 0)
+    (gives (0 ∷ 0 ∷ 0 ∷ []) 11 (counts 3 0 3 11 1 0 0 0 0)
     (useOf 0 1 0 ∷ useOf 0 1 0 ∷ useOf 0 1 0 ∷ useOf 0 0 0 ∷ []) (1 ∷ []) (dirty 2162160 3603600 ∷ absent ∷ clean 2882880 ∷ absent ∷ []) []) ∷
     -- load-first before the closing: the load credit is used up, and the write credit has borne the rest
     rowBy 2 LoadFirst four sevenSteps []
-    (gives (0 ∷ 0 ∷ 0 ∷ 0 ∷ 0 ∷ 0 ∷ 0 ∷ []) 20 (totalsOf 7 1 6 20 4 0 0 0 0)
+    (gives (0 ∷ 0 ∷ 0 ∷ 0 ∷ 0 ∷ 0 ∷ 0 ∷ []) 20 (counts 7 1 6 20 4 0 0 0 0)
     (useOf 0 1 0 ∷ useOf 0 2 0 ∷ useOf 0 2 0 ∷ useOf 0 1 0 ∷ []) (1 ∷ 2 ∷ 3 ∷ 1 ∷ []) (dirty 0 720720 ∷ absent ∷ clean 2882880 ∷ absent ∷ []) []) ∷
     -- Refusals, in the order of the calls: a kind that is none, item 256, 1,441 minutes, a stranger, too bulky, 1,441
     -- minutes for a stranger; values that a landing lacks; and every call after the closing.
-    row 2 (item 1 4 6 ∷ item 3 1 1 ∷ item 1 3 9 ∷ []) (stepCall 88 0 0 ∷ read 256 ∷ write 0 1441 ∷ read 3 ∷ read 1 ∷ write 3 1441 ∷ stepCall 76 999 9999 ∷ stepCall 82 2 9999 ∷ close ∷ read 0 ∷ close ∷ []) []
-    (gives (3 ∷ 3 ∷ 3 ∷ 6 ∷ 7 ∷ 3 ∷ 0 ∷ 0 ∷ 0 ∷ 9 ∷ 9 ∷ []) 3 (totalsOf 2 0 1 3 0 0 0 0 1)
+    row 2 (item 1 4 6 ∷ item 3 1 1 ∷ item 1 3 9 ∷ []) (stepOfThree 88 0 0 ∷ read 256 ∷ write 0 1441 ∷ read 3 ∷ read 1 ∷ write 3 1441 ∷ stepOfThree 76 999 9999 ∷ stepOfThree 82 2 9999 ∷ close ∷ read 0 ∷ close ∷ []) []
+    (gives (3 ∷ 3 ∷ 3 ∷ 6 ∷ 7 ∷ 3 ∷ 0 ∷ 0 ∷ 0 ∷ 9 ∷ 9 ∷ []) 3 (counts 2 0 1 3 0 0 0 0 1)
     (useOf 0 0 0 ∷ useOf 0 0 0 ∷ useOf 0 1 0 ∷ []) [] (absent ∷ absent ∷ clean 2162160 ∷ []) []) ∷
     -- Plans over R 0, R 1, L: overfull between two acts, and priced; then a fault of each kind; 14 before 13 where both
     -- fall due; and 13 at the landing.
@@ -227,7 +252,7 @@ benchRows =
     rival 1 ((Fetch 0 ∷ Fetch 1 ∷ []) ∷ []) ∷
     rival 1 ((Fetch 0 ∷ []) ∷ (Evict 0 ∷ Fetch 1 ∷ []) ∷ (Fetch 0 ∷ []) ∷ []) ∷
     [])
-    (gives (0 ∷ 0 ∷ 0 ∷ []) 7 (totalsOf 3 0 2 7 0 0 0 0 1)
+    (gives (0 ∷ 0 ∷ 0 ∷ []) 7 (counts 3 0 2 7 0 0 0 0 1)
     (useOf 0 1 0 ∷ useOf 0 1 0 ∷ useOf 0 0 0 ∷ []) [] (clean 2882880 ∷ clean 2162160 ∷ absent ∷ [])
     (costs 7 ∷
     fault (unknownItem 0 1 3) ∷
@@ -237,11 +262,50 @@ benchRows =
     fault (overCapacity 0) ∷
     fault (overCapacity 2) ∷
     [])) ∷
+    -- Item 1 is a stranger before its arrival, is written and leaves dirty, which pays; what has left is gone, and the next number goes
+    -- on; an item too bulky arrives and leaves. Plans: one that evicts it itself; one that loses its dirty copy with it, and pays.
+    row 2 (item 1 4 6 ∷ []) (read 1 ∷ arrival 0 1 3 9 ∷ arrival 2 1 3 9 ∷ arrival 1 1 3 9 ∷ write 1 6 ∷ read 0 ∷ retirement 1 ∷ read 1 ∷ retirement 1 ∷ retirement 2 ∷ arrival 1 1 1 1 ∷ arrival 2 16 1 1 ∷ read 2 ∷ retirement 2 ∷ close ∷ [])
+    (rival 1 ([] ∷ (Fetch 1 ∷ []) ∷ (Evict 1 ∷ Fetch 0 ∷ []) ∷ []) ∷
+    rival 2 ([] ∷ (Fetch 1 ∷ []) ∷ (Fetch 0 ∷ []) ∷ []) ∷
+    [])
+    (gives (6 ∷ 19 ∷ 19 ∷ 0 ∷ 0 ∷ 0 ∷ 0 ∷ 20 ∷ 20 ∷ 6 ∷ 19 ∷ 0 ∷ 7 ∷ 0 ∷ 0 ∷ []) 16 (totalsOf 6 0 2 7 1 1 1 9 0 2 2)
+    (useOf 0 1 0 ∷ useOf 6 1 1 ∷ useOf 0 0 0 ∷ []) (1 ∷ []) (clean 2882880 ∷ absent ∷ absent ∷ []) (costs 16 ∷ costs 16 ∷ [])) ∷
+    -- An item leaves clean, then one dirty, then one that is not held. An eviction before had cost item 4 two of its nine; what leaves
+    -- costs the others nothing. The plan has the same copies, and loses them with the items.
+    row 4 (item 1 4 6 ∷ item 1 3 9 ∷ item 1 2 0 ∷ item 1 7 0 ∷ item 1 9 1 ∷ []) (write 0 0 ∷ read 1 ∷ read 2 ∷ read 4 ∷ read 3 ∷ retirement 1 ∷ retirement 0 ∷ retirement 2 ∷ [])
+    (rival 4 ((Fetch 0 ∷ []) ∷ (Fetch 1 ∷ []) ∷ (Fetch 2 ∷ []) ∷ (Fetch 4 ∷ []) ∷ (Evict 2 ∷ Fetch 3 ∷ []) ∷ []) ∷ [])
+    (gives (0 ∷ 0 ∷ 0 ∷ 0 ∷ 0 ∷ 0 ∷ 0 ∷ 0 ∷ []) 31 (totalsOf 8 0 5 25 3 1 1 6 0 0 3)
+    (useOf 0 1 1 ∷ useOf 0 1 0 ∷ useOf 0 1 0 ∷ useOf 0 1 0 ∷ useOf 0 1 0 ∷ []) (2 ∷ 1 ∷ 0 ∷ []) (absent ∷ absent ∷ absent ∷ clean 5045040 ∷ clean 5045040 ∷ []) (costs 31 ∷ [])) ∷
+    -- Plans over A 2, Q 1, R 0. Item 2 is a stranger at its own arrival, and known at the next step; item 1 may still be named at its
+    -- own retirement, and is lost there, held or not; after it it is gone, which comes before 11 and 12. And 13 at A and at Q.
+    row 2 (item 1 4 6 ∷ item 2 7 0 ∷ []) (arrival 2 1 3 9 ∷ retirement 1 ∷ read 0 ∷ [])
+    (rival 1 ((Fetch 2 ∷ []) ∷ []) ∷
+    rival 1 ([] ∷ (Fetch 2 ∷ []) ∷ (Evict 2 ∷ Fetch 0 ∷ []) ∷ []) ∷
+    rival 2 ([] ∷ (Fetch 1 ∷ Evict 1 ∷ []) ∷ (Fetch 0 ∷ []) ∷ []) ∷
+    rival 2 ((Fetch 1 ∷ []) ∷ [] ∷ (Fetch 0 ∷ []) ∷ []) ∷
+    rival 2 ((Fetch 1 ∷ []) ∷ [] ∷ (Evict 1 ∷ []) ∷ []) ∷
+    rival 2 ([] ∷ [] ∷ (Fetch 1 ∷ []) ∷ []) ∷
+    rival 1 ((Fetch 1 ∷ []) ∷ []) ∷
+    rival 1 ([] ∷ (Fetch 1 ∷ []) ∷ []) ∷
+    [])
+    (gives (0 ∷ 0 ∷ 0 ∷ []) 4 (totalsOf 3 0 1 4 0 0 0 0 0 1 1)
+    (useOf 0 1 0 ∷ useOf 0 0 0 ∷ useOf 0 0 0 ∷ []) [] (clean 2882880 ∷ absent ∷ absent ∷ [])
+    (fault (unknownItem 0 0 2) ∷
+    costs 7 ∷
+    costs 11 ∷
+    costs 11 ∷
+    fault (retiredItem 2 0 1) ∷
+    fault (retiredItem 2 0 1) ∷
+    fault (overCapacity 0) ∷
+    fault (overCapacity 1) ∷
+    [])) ∷
+    -- level where the plan has one block: 10 against 10
+    comesAndGoes ∷
     []
 
 -- every row of the table is what the definitions give
 pub rows-right : map resultOf benchRows ≡ map (λ (r : BenchRow). r .expected) benchRows
-unfolding resultOf answers trace evictedItems sumTo tabFrom bestTo fold used heldCount victim evictItem evictFor makeRoom writeBacks flush step took closes stepOf refusalAt joins ruleOver planUsed owed planActs allActs planServes priceFrom
+unfolding resultOf answers trace evictedItems sumTo tabFrom bestTo fold used heldCount victim evictItem evictFor makeRoom writeBacks flush dropItem step took closes stepOf refusalAt joins ruleOver planUsed owed planActs allActs planServes priceFrom
 rows-right = refl
 
 -- the tenths that are printed for a row's items
@@ -251,6 +315,10 @@ tenthsIn r = map (λ (u : Use). tenthsOf (u .minutes)) (r .expected .uses)
 -- "In the whole example nothing moves; W 0 with 5 minutes twice now prints 1"
 pub tenths-right : (tenthsIn wholeExample ≡ 15 ∷ 0 ∷ 7 ∷ []) × (tenthsIn fiveTwice ≡ 1 ∷ [])
 tenths-right = (refl, refl)
+
+-- The bound is tight at h = 1, with an arrival and a retirement in the log: both sides are 20.
+pub tight-right : (leftSide 2 1 (comesAndGoes .expected .total) ≡ 20) × (rightSide 2 10 ≡ 20)
+tight-right = (refl, refl)
 
 -- the season of the whole example
 abbrev exampleEnd : Standing
@@ -263,7 +331,7 @@ pub example-right :
     × (leftSide 3 2 (totalCost (exampleEnd .figures)) ≡ 56)
     × (rightSide 3 32 ≡ 96)
     × ((2 - 1) * loadCredits (exampleEnd .state) ≡ 7 * unit)
-unfolding sumTo tabFrom bestTo fold used heldCount victim evictItem evictFor makeRoom writeBacks flush step took closes stepOf refusalAt joins
+unfolding sumTo tabFrom bestTo fold used heldCount victim evictItem evictFor makeRoom writeBacks flush dropItem step took closes stepOf refusalAt joins
 example-right = (refl, refl, refl, refl)
 
 -- The row '10 against 10': its season, and its rival as a plan.
@@ -281,7 +349,7 @@ pub stronger-false :
     ((k h : ℕ) (cat : Catalog) (steps : List Step) → 1 ≤ h → h ≤ k → (plan : Plan) (c : ℕ) → price cat h plan steps ≡ costs c →
     (k - h + 2) * totalCost (season writeFirst k cat steps .figures) ≤ k * c) →
     ⊥
-unfolding sumTo tabFrom bestTo fold used heldCount victim evictItem evictFor makeRoom writeBacks flush step took closes planUsed owed planActs allActs planServes priceFrom
+unfolding sumTo tabFrom bestTo fold used heldCount victim evictItem evictFor makeRoom writeBacks flush dropItem step took closes planUsed owed planActs allActs planServes priceFrom
 stronger-false claim =
     let l : 20 ≤ 10 = claim 1 1 oneItem oneWrite (omega arith) (omega arith) oneFetch 10 refl in
     omega arith
@@ -304,7 +372,17 @@ abbrev asks : ℕ → Bool → Call → ℕ → Question
 asks taken isClosed call n =
     record { k = 2; catalog = item 1 4 6 ∷ item 3 1 1 ∷ []; taken = taken; closed = isClosed; call = call; expected = n }
 
--- The table. A stranger has no blocks in the catalog, so 6 and 7 never meet.
+-- the same where item 1, the bulky one, has left
+abbrev asksGone : ℕ → Bool → Call → ℕ → Question
+asksGone taken isClosed call n =
+    record { k = 2; catalog = item 1 4 6 ∷ departed (item 3 1 1) ∷ []; taken = taken; closed = isClosed; call = call; expected = n }
+
+-- about an arrival in a catalog of n items
+abbrev asksRoom : ℕ → ℕ → ℕ → Question
+asksRoom n i answer =
+    record { k = 2; catalog = tab n (λ j. item 1 4 6); taken = 0; closed = false; call = arrival i 1 4 6; expected = answer }
+
+-- The table. A stranger has no blocks in the catalog, so 6 and 7 never meet; nor has it left, so 6 and 20 never meet.
 abbrev pub questions : List Question
 questions =
     -- the millionth step is taken, the next is not, and a closing is
@@ -317,12 +395,12 @@ questions =
     asks 1000000 false close 0 ∷
     -- 9 before 8, before 3, before 6 and before 7
     asks 1000000 true (read 0) 9 ∷
-    asks 0 true (stepCall 88 0 0) 9 ∷
+    asks 0 true (stepOfThree 88 0 0) 9 ∷
     asks 0 true (read 2) 9 ∷
     asks 0 true (read 1) 9 ∷
     asks 1000000 true close 9 ∷
     -- 8 before 3, before 6 and before 7
-    asks 1000000 false (stepCall 88 0 0) 8 ∷
+    asks 1000000 false (stepOfThree 88 0 0) 8 ∷
     asks 1000000 false (read 256) 8 ∷
     asks 1000000 false (write 0 1441) 8 ∷
     asks 1000000 false (read 2) 8 ∷
@@ -336,11 +414,47 @@ questions =
     asks 0 false (write 2 0) 6 ∷
     asks 0 false (read 1) 7 ∷
     asks 0 false (write 1 0) 7 ∷
+    -- an arrival: 9 before 8, before 3, before 19; never a stranger nor too bulky
+    asks 0 true (arrival 0 1 4 6) 9 ∷
+    asks 1000000 false (arrival 0 1 4 6) 8 ∷
+    asks 0 false (arrival 256 1 4 6) 3 ∷
+    asks 0 false (arrival 0 0 4 6) 3 ∷
+    asks 0 false (arrival 0 17 4 6) 3 ∷
+    asks 0 false (arrival 0 1 65536 6) 3 ∷
+    asks 0 false (arrival 0 1 4 65536) 3 ∷
+    asks 0 false (arrival 2 17 4 6) 3 ∷
+    asks 0 false (arrival 1 1 4 6) 19 ∷
+    asks 0 false (arrival 3 1 4 6) 19 ∷
+    asksGone 0 false (arrival 1 1 4 6) 19 ∷
+    asks 999999 false (arrival 2 16 65535 65535) 0 ∷
+    -- item 255 may arrive; the next number is none's
+    asksRoom 255 255 0 ∷
+    asksRoom 256 256 3 ∷
+    -- a retirement: 9 before 8, before 3, before 6; never too bulky
+    asks 0 true (retirement 2) 9 ∷
+    asks 1000000 false (retirement 2) 8 ∷
+    asks 0 false (retirement 256) 3 ∷
+    asks 0 false (retirement 2) 6 ∷
+    asks 999999 false (retirement 1) 0 ∷
+    -- what has left: 20 after 9, 8 and 3, and before 7
+    asksGone 0 true (read 1) 9 ∷
+    asksGone 1000000 false (retirement 1) 8 ∷
+    asksGone 0 false (write 1 1441) 3 ∷
+    asksGone 0 false (read 1) 20 ∷
+    asksGone 0 false (write 1 0) 20 ∷
+    asksGone 0 false (retirement 1) 20 ∷
+    asksGone 0 false (read 2) 6 ∷
+    asksGone 0 false (read 0) 0 ∷
+    -- values that a step lacks are not looked at
+    asks 0 false (stepCall (numbersFrom 82 0 1441 17 65536 65536)) 0 ∷
+    asks 0 false (stepCall (numbersFrom 87 0 0 17 65536 65536)) 0 ∷
+    asks 0 false (stepCall (numbersFrom 65 2 1441 1 4 6)) 0 ∷
+    asks 0 false (stepCall (numbersFrom 81 0 1441 17 65536 65536)) 0 ∷
     []
 
 -- every answer of the table is what the definition gives
 pub answers-right : map tableAnswer questions ≡ map (λ (q : Question). q .expected) questions
-unfolding stepOf refusalAt
+unfolding tabFrom stepOf refusalAt
 answers-right = refl
 
 -- a question to the table about an opening: the capacity, the number of the rule, the catalog; and the number that answers it
@@ -368,8 +482,10 @@ openingQuestions =
     -- 3 alone
     asksOpening 0 1 [] 3 ∷
     asksOpening 1 0 (item 0 0 0 ∷ []) 3 ∷
+    -- no item of an opening has left
+    asksOpening 1 0 (item 1 4 6 ∷ departed (item 1 4 6) ∷ []) 3 ∷
     []
 
 pub openings-right : map (λ (q : OpeningQuestion). openingRefusal (q .k) (q .rule) (q .catalog)) openingQuestions ≡ map (λ (q : OpeningQuestion). q .expected) openingQuestions
-unfolding openingRefusal catalogInRange allInRange
+unfolding openingRefusal catalogInRange allInRange noneLeft
 openings-right = refl

@@ -4,8 +4,8 @@
 use mathlib.Core.{Bool.{Bool, true, false, cond}, List.{List, [], _∷_, _++_}}
 use Prim.Native.Nat.{ℕ, zero, suc, _+_, _*_, _/_}
 use lib.{ListN.{length, getD, set}, Dec.{leb, ltb, eqb}}
-use Rattle.types.specs.declared.Step.{Step, the-variants.{Read, Write, Flush}}
-use Rattle.landlord.specs.{Fold.{sumTo, tab, bestTo}, Catalog.{Catalog, itemAt, full}, Slot.{Slot, absent, held, isDirty, loadCredit, writeCredit, Split, lose, brought, refilled, written, flushed}}
+use Rattle.types.specs.declared.Step.{Step, the-variants.{Read, Write, Flush, Arrive, Retire}}
+use Rattle.landlord.specs.{Fold.{sumTo, tab, bestTo}, Catalog.{Catalog, itemAt, catalogNext, full}, Slot.{Slot, absent, held, isDirty, loadCredit, writeCredit, Split, lose, brought, refilled, written, flushed}}
 
 -- the rule's state: the catalog, and a slot for each item of it
 pub record State : Type 0 where
@@ -36,6 +36,8 @@ pub data Event : Type 0 where
   wroteBack : (item : ℕ) → Event
   wrote : (item minutes : ℕ) → Event
   flushStep : Event
+  arrived : (item : ℕ) → Event
+  retired : (item : ℕ) → Event
 
 -- what a part of a step gives: the next state, and what happened, in order
 pub record Moved : Type 0 where
@@ -139,7 +141,24 @@ flush x =
       events = writeBacks (size x) (λ i. isDirty (slotAt x i));
     }
 
--- one step of the log: room is made, then the step is served
+-- an arrival: the catalog grows by the step's item, and its place is empty
+abbrev pub arrive : Step → ℕ → State → Moved
+arrive s i x =
+    record { state = record { catalog = catalogNext (x .catalog) s; slots = x .slots ++ (absent ∷ []) }; events = arrived i ∷ [] }
+
+-- "if held it is dropped, a dirty one pays, and other credits do not move"
+unfoldable pub dropItem : ℕ → State → Moved
+dropItem i x =
+    record {
+      state = putSlot x i absent;
+      events = cond (held (slotAt x i)) (evicted i (isDirty (slotAt x i)) ∷ []) [];
+    }
+
+-- the item's mark in the catalog is set
+abbrev pub leave : ℕ → State → Moved
+leave i x = record { state = record { catalog = catalogNext (x .catalog) (Retire i); slots = x .slots }; events = retired i ∷ [] }
+
+-- one step of the log: room is made, then the step is served; or the catalog changes
 unfoldable pub step : Split → ℕ → Step → State → Moved
 step split k (Read i) x =
     let room = makeRoom split k i x in
@@ -148,3 +167,7 @@ step split k (Write i minutes) x =
     let room = makeRoom split k i x in
     joined room (serveWrite i minutes (room .state))
 step split k Flush x = joined (record { state = x; events = flushStep ∷ [] }) (flush x)
+step split k (Arrive i b l w) x = arrive (Arrive i b l w) i x
+step split k (Retire i) x =
+    let dropped = dropItem i x in
+    joined dropped (leave i (dropped .state))

@@ -3,19 +3,27 @@
 use mathlib.Core.{Path._≡_, Bool.{true, false, cond}}
 use Prim.Native.Nat.{ℕ, _+_, _*_, _≤_, _<_}
 use lib.ListN.{length}
-use Rattle.landlord.specs.{Fold.sumTo, Catalog.CapacityOk, Slot.isDirty, Rule.{State, size, slotAt, heldCount}, Figures.{Standing, useAt}, Claims.Kept}
+use Rattle.landlord.specs.{Fold.sumTo, Catalog.{Catalog, CapacityOk, itemAt}, Slot.isDirty, Rule.{State, size, slotAt, heldCount}, Figures.{Standing, useAt}, Claims.Kept}
 
 -- how many items are dirty
 unfoldable pub dirtyCount : State → ℕ
 dirtyCount x = sumTo (size x) (λ i. cond (isDirty (slotAt x i)) 1 0)
+
+-- how many items have left
+unfoldable pub leftCount : Catalog → ℕ
+leftCount cat = sumTo (length cat) (λ i. cond (itemAt cat i .left) 1 0)
 
 -- what is not foul, wherever the rule stands
 pub record StandingOk (v : Standing) : Type 0 where
   -- "k and catalogue are in range; held blocks are at most k; credits are multiples of its blocks and at most cost × 720,720"
   pub capacity : CapacityOk (v .k)
   pub kept : Kept (v .k) (v .state)
-  -- "hits + loads + landings = steps, at most 1,000,000"
-  pub steps : v .figures .totals .hits + v .figures .totals .loads + v .figures .totals .flushes ≡ v .figures .totals .steps
+  -- "hits, loads, landings, arrivals and retirements add up to the steps", "at most 1,000,000"
+  pub steps :
+      v .figures .totals .hits + v .figures .totals .loads + v .figures .totals .flushes + v .figures .totals .arrivals + v .figures .totals .retirements
+      ≡ v .figures .totals .steps
+  -- "with retirements equal to left sails, none held"
+  pub retirements : v .figures .totals .retirements ≡ leftCount (v .state .catalog)
   pub taken : v .figures .totals .steps ≤ 1000000
   -- "drops + held sails = loads"
   pub evictions : v .figures .totals .evictions + heldCount (v .state) ≡ v .figures .totals .loads

@@ -3,8 +3,10 @@
 ghost use mathlib.Core.Path.{_≡_};
 ghost use Prim.Native.Nat.{ℕ};
 ghost use Rattle.landlord.specs.Calls.{inRange};
+ghost use Rattle.landlord.specs.Catalog.{listed, itemInRange};
 ghost use Rattle.landlord.specs.Slot.{splitOf};
 use types::Deduction;
+use types::Numbers;
 
 // The part of a loss that the write credit bears; the load credit bears the rest.
 pub fn split(rule: Deduction, loss: u64, load: u64, write: u64) -> u64
@@ -16,18 +18,40 @@ pub fn split(rule: Deduction, loss: u64, load: u64, write: u64) -> u64
     }
 }
 
-// Whether a step's kind is one of R, W and L, and the values that such a step has are in their ranges.
-pub fn in_range(kind: u32, item: u32, minutes: u32) -> bool
-    ensures { λ r. ⌜ r ≡ inRange kind item minutes ⌝ }
+// Whether an item's blocks and costs are in their ranges.
+pub fn item_in_range(blocks: u32, load: u32, write: u32) -> bool
+    ensures { λ r. ⌜ r ≡ itemInRange (listed blocks load write) ⌝ }
 {
-    if kind == 82 {
-        return item <= 255;
-    }
-    if kind == 87 {
-        if item <= 255 {
-            return minutes <= 1440;
-        }
+    if blocks < 1 {
         return false;
     }
-    kind == 76
+    if 16 < blocks {
+        return false;
+    }
+    if 65535 < load {
+        return false;
+    }
+    write <= 65535
+}
+
+// Whether a step's kind is one of R, W, L, A and Q, and the values that such a step has are in their ranges.
+pub fn in_range(n: Numbers) -> bool
+    ensures { λ r. ⌜ r ≡ inRange n ⌝ }
+{
+    if n.kind == 76 {
+        return true;
+    }
+    if 255 < n.item {
+        return false;
+    }
+    if n.kind == 82 {
+        return true;
+    }
+    if n.kind == 87 {
+        return n.minutes <= 1440;
+    }
+    if n.kind == 65 {
+        return item_in_range(n.blocks, n.load, n.write);
+    }
+    n.kind == 81
 }

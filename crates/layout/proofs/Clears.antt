@@ -13,8 +13,8 @@ use Rattle.fields.specs.LittleEndian.{unflags, le}
 use Rattle.fields.specs.Inner.{Below}
 use Rattle.fields.proofs.Laws.{length-le, un-front, below-append, below-drop, past, un-blank, unrun-blank, unflags-blank}
 use Rattle.types.specs.Types.{deductionOf}
-use Rattle.layout.specs.Layout.{stateBytes, format, numberAt, numbersAt, AllowedBytes}
-use Rattle.layout.specs.InnerRows.{atFormat, atCapacity, atCount, atClosed, atSteps, atHits, atLoads, atEvictions, atDirtyEvictions, atWritebacks, atFlushes, atLoadCost, atWriteCost, atDirty, atLoadCredits, atWriteCredits, atMinutes, atItemLoads, atItemWritebacks, atItemLoadCosts, atItemWriteCosts, atBlocks, atHeld, atRule}
+use Rattle.layout.specs.Layout.{stateBytes, format, numberAt, numberFar, numbersAt, AllowedBytes}
+use Rattle.layout.specs.InnerRows.{atFormat, atCapacity, atCount, atClosed, atSteps, atHits, atLoads, atEvictions, atDirtyEvictions, atWritebacks, atFlushes, atLoadCost, atWriteCost, atDirty, atLoadCredits, atWriteCredits, atMinutes, atItemLoads, atItemWritebacks, atItemLoadCosts, atItemWriteCosts, atBlocks, atHeld, atRule, atLeft, atArrivals, atRetirements}
 use Rattle.layout.specs.Inner.{Stands, cleared}
 
 -- the first i bytes are 0
@@ -61,6 +61,7 @@ module _ (left rest : List ℕ) (n : length left ≡ stateBytes) (e : left ≡ l
   }
 
   pub cleared-0 : Stands left cleared
+  unfolding numberFar
   cleared-0 = record {
     size = n;
     allowed = allowed-0;
@@ -89,6 +90,9 @@ module _ (left rest : List ℕ) (n : length left ≡ stateBytes) (e : left ≡ l
           blocks = numbers-0 1 256 atBlocks (omega arith) i;
           held = flags-0 256 atHeld (omega arith) i;
           rule = deductionOf (number-0 4 atRule (omega arith) i);
+          left = numbers-0 8 4 atLeft (omega arith) i;
+          arrivals = number-0 4 atArrivals (omega arith) i;
+          retirements = number-0 4 atRetirements (omega arith) i;
         };
   }
 

@@ -113,6 +113,8 @@ sizes c f =
       minutes = f .whole .minutes;
       loads = f .whole .itemloads;
       writebacks = f .whole .itemwritebacks;
+      left = f .whole .left;
+      leftWords = f .left;
     }
 
 pub becomes-one : (v : Standing) (b d : List ℕ) → Below 256 b → Below 256 d → BecomesAt v b → BecomesAt v d → b ≡ d

@@ -14,8 +14,8 @@ use Rattle.fields.proofs.Laws.{sets-all, length-unrun, length-unflags, un-front
 use Rattle.types.specs.Types.{deductionNumber, deductionOf}
 use Rattle.types.proofs.Deductions.{deduction-number, number-deduction, deduction-lt}
 use Rattle.cache_state.specs.Cache.{Cache}
-use Rattle.layout.specs.Layout.{stateBytes, format, numberAt, numbersAt, cacheOf, AllowedBytes}
-use Rattle.layout.specs.InnerRows.{atFormat, atCapacity, atCount, atClosed, atSteps, atHits, atLoads, atEvictions, atDirtyEvictions, atWritebacks, atFlushes, atLoadCost, atWriteCost, atDirty, atLoadCredits, atWriteCredits, atMinutes, atItemLoads, atItemWritebacks, atItemLoadCosts, atItemWriteCosts, atBlocks, atHeld, atRule, rowBytes, fieldRows, bytesOf, flag, WholeArrays, Fits}
+use Rattle.layout.specs.Layout.{stateBytes, format, numberAt, numberFar, numbersAt, cacheOf, AllowedBytes}
+use Rattle.layout.specs.InnerRows.{atFormat, atCapacity, atCount, atClosed, atSteps, atHits, atLoads, atEvictions, atDirtyEvictions, atWritebacks, atFlushes, atLoadCost, atWriteCost, atDirty, atLoadCredits, atWriteCredits, atMinutes, atItemLoads, atItemWritebacks, atItemLoadCosts, atItemWriteCosts, atBlocks, atHeld, atRule, atLeft, atArrivals, atRetirements, rowBytes, fieldRows, bytesOf, flag, WholeArrays, Fits}
 use Rattle.layout.proofs.Rows.{Packed, end, number-row, numbers-row, flags-row, packed-length, packed-below, stored, packed-stored, reach}
 
 -- the fields lie end to end
@@ -43,7 +43,10 @@ packed c w =
     (numbers-row 4 256 (c .itemwritebacks) (w .itemwritebacks)
     (numbers-row 2 256 (c .load) (w .load)
     (numbers-row 2 256 (c .write) (w .write)
-    (numbers-row 1 256 (c .blocks) (w .blocks) (flags-row 256 (c .held) (w .held) (number-row 4 (deductionNumber (c .rule)) end)))))))))))))))))))))))
+    (numbers-row 1 256 (c .blocks) (w .blocks)
+    (flags-row 256 (c .held) (w .held)
+    (number-row 4 (deductionNumber (c .rule))
+    (numbers-row 8 4 (c .left) (w .left) (number-row 4 (c .arrivals) (number-row 4 (c .retirements) end))))))))))))))))))))))))))
 
 -- so the bytes of a cache are all the bytes of the state
 pub length-whole : (c : Cache) → WholeArrays c → length (bytesOf c) ≡ stateBytes
@@ -86,7 +89,7 @@ flag-told false = refl
 
 module _ (c : Cache) (f : Fits c) where
   -- the field of row `n`
-  row-at : (n : ℕ) → n < 24 → drop (getD (fieldRows c) n (0, []) .0) (bytesOf c) ≡ getD (fieldRows c) n (0, []) .1 ++ rowBytes (drop (suc n) (fieldRows c))
+  row-at : (n : ℕ) → n < 27 → drop (getD (fieldRows c) n (0, []) .0) (bytesOf c) ≡ getD (fieldRows c) n (0, []) .1 ++ rowBytes (drop (suc n) (fieldRows c))
   unfolding bytesOf fieldRows
   row-at n l = reach (packed c (f .whole)) n (getD (fieldRows c) n (0, []) .0) l (omega arith)
 
@@ -102,7 +105,7 @@ module _ (c : Cache) (f : Fits c) where
 
   -- a cache that fits, stored and read back, is that cache
   pub round : cacheOf (bytesOf c) ≡ c
-  unfolding fieldRows
+  unfolding fieldRows numberFar
   round = λ i.
       record {
         k = number-found 4 (c .k) atCapacity (bytesOf c) _ (f .k) (row-at 1 (omega arith)) i;
@@ -128,6 +131,9 @@ module _ (c : Cache) (f : Fits c) where
         blocks = numbers-found 1 256 atBlocks (c .blocks) (bytesOf c) _ (f .whole .blocks) (f .blocks) (row-at 21 (omega arith)) i;
         held = flags-found 256 atHeld (c .held) (bytesOf c) _ (f .whole .held) (row-at 22 (omega arith)) i;
         rule = (ap deductionOf rule-at ∙ deduction-number (c .rule) .0) i;
+        left = numbers-found 8 4 atLeft (c .left) (bytesOf c) _ (f .whole .left) (f .left) (row-at 24 (omega arith)) i;
+        arrivals = number-found 4 (c .arrivals) atArrivals (bytesOf c) _ (f .arrivals) (row-at 25 (omega arith)) i;
+        retirements = number-found 4 (c .retirements) atRetirements (bytesOf c) _ (f .retirements) (row-at 26 (omega arith)) i;
       }
 
   -- the number of the layout stands at the head, and the flags are stored as 0 or 1
@@ -155,6 +161,7 @@ whole b = record {
   write = length-unrun 2 256 (drop atItemWriteCosts b);
   blocks = length-unrun 1 256 (drop atBlocks b);
   held = length-unflags 256 (drop atHeld b);
+  left = length-unrun 8 4 (drop atLeft b);
 }
 
 module _ (b : List ℕ) (h : Below 256 b) where
@@ -167,6 +174,7 @@ module _ (b : List ℕ) (h : Below 256 b) where
 
   -- what bytes stand for has room in the layout
   pub fits : Fits (cacheOf b)
+  unfolding numberFar
   fits = record {
     whole = whole b;
     k = number-fits 4 atCapacity;
@@ -189,6 +197,9 @@ module _ (b : List ℕ) (h : Below 256 b) where
     load = numbers-fit 2 256 atItemLoadCosts;
     write = numbers-fit 2 256 atItemWriteCosts;
     blocks = numbers-fit 1 256 atBlocks;
+    left = numbers-fit 8 4 atLeft;
+    arrivals = number-fits 4 atArrivals;
+    retirements = number-fits 4 atRetirements;
   }
 
 module _ (b : List ℕ) (e : length b ≡ stateBytes) (h : Below 256 b) where
@@ -210,14 +221,18 @@ module _ (b : List ℕ) (e : length b ≡ stateBytes) (h : Below 256 b) where
     held-back : (rest : List ℕ) → rest ≡ drop atRule b → flags (unflags 256 (drop atHeld b)) ++ rest ≡ drop atHeld b
     held-back rest r = rw (r, flags-back 256 atHeld b (omega arith) (g .held)) (rejoin b atHeld 256 atRule refl)
 
-    rule-back : le 4 (deductionNumber (deductionOf (numberAt b atRule 4))) ++ [] ≡ drop atRule b
-    rule-back =
-        rw (number-deduction (numberAt b atRule 4) (g .rule), append-nil, le-back 4 atRule b (omega arith) h)
-        (take-all 4 (drop atRule b) (omega (arith, length-drop atRule b)))
+    rule-back : (rest : List ℕ) → rest ≡ drop atLeft b → le 4 (deductionNumber (deductionOf (numberAt b atRule 4))) ++ rest ≡ drop atRule b
+    rule-back rest r = rw (number-deduction (numberAt b atRule 4) (g .rule)) (number-back 4 atRule rest (omega arith) r)
+
+    -- behind the last field there is nothing
+    last-back : le 4 (numberAt b atRetirements 4) ++ [] ≡ drop atRetirements b
+    last-back =
+        rw (append-nil, le-back 4 atRetirements b (omega arith) h)
+        (take-all 4 (drop atRetirements b) (omega (arith, length-drop atRetirements b)))
 
     -- bytes that the layout allows, read and stored again, are those bytes
     pub back : bytesOf (cacheOf b) ≡ b
-    unfolding bytesOf fieldRows
+    unfolding bytesOf fieldRows numberFar
     back =
         format-back _
         (number-back 4 atCapacity _ (omega arith)
@@ -240,4 +255,7 @@ module _ (b : List ℕ) (e : length b ≡ stateBytes) (h : Below 256 b) where
         (numbers-back 4 256 atItemWritebacks _ (omega arith)
         (numbers-back 2 256 atItemLoadCosts _ (omega arith)
         (numbers-back 2 256 atItemWriteCosts _ (omega arith)
-        (numbers-back 1 256 atBlocks _ (omega arith) (held-back _ rule-back))))))))))))))))))))))
+        (numbers-back 1 256 atBlocks _ (omega arith)
+        (held-back _
+        (rule-back _
+        (numbers-back 8 4 atLeft _ (omega arith) (number-back 4 atArrivals _ (omega arith) last-back)))))))))))))))))))))))))

@@ -17,11 +17,11 @@ use Rattle.fields.proofs.Laws.{length-le, length-run, length-flags, sets-all, r
 use Rattle.types.specs.declared.Deduction.{Deduction}
 use Rattle.types.specs.Types.{deductionNumber}
 use Rattle.cache_state.specs.Cache.{Cache}
-use Rattle.cache_state.specs.InnerWith.{withCapacity, withCount, withClosed, withRule, withSteps, withHits, withLoads, withEvictions, withDirtyEvictions, withWritebacks, withFlushes, withLoadCost, withWriteCost, withDirty, withLoadCredit, withWriteCredit, withMinutes, withItemLoads, withItemWritebacks, withItemLoadCost, withItemWriteCost, withBlocks, withHeld}
+use Rattle.cache_state.specs.InnerWith.{withCapacity, withCount, withClosed, withRule, withSteps, withHits, withLoads, withEvictions, withDirtyEvictions, withWritebacks, withFlushes, withLoadCost, withWriteCost, withDirty, withLoadCredit, withWriteCredit, withMinutes, withItemLoads, withItemWritebacks, withItemLoadCost, withItemWriteCost, withBlocks, withHeld, withLeft, withArrivals, withRetirements}
 use Rattle.layout.specs.Layout.{cacheOf}
-use Rattle.layout.specs.InnerRows.{atCapacity, atCount, atClosed, atSteps, atHits, atLoads, atEvictions, atDirtyEvictions, atWritebacks, atFlushes, atLoadCost, atWriteCost, atDirty, atLoadCredits, atWriteCredits, atMinutes, atItemLoads, atItemWritebacks, atItemLoadCosts, atItemWriteCosts, atBlocks, atHeld, atRule, FieldRow, rowBytes, fieldRows, bytesOf, flag, Fits}
+use Rattle.layout.specs.InnerRows.{atCapacity, atCount, atClosed, atSteps, atHits, atLoads, atEvictions, atDirtyEvictions, atWritebacks, atFlushes, atLoadCost, atWriteCost, atDirty, atLoadCredits, atWriteCredits, atMinutes, atItemLoads, atItemWritebacks, atItemLoadCosts, atItemWriteCosts, atBlocks, atHeld, atRule, atLeft, atArrivals, atRetirements, FieldRow, rowBytes, fieldRows, bytesOf, flag, Fits}
 use Rattle.layout.specs.Inner.{Stands, Readable}
-use Rattle.layout.proofs.Rows.{end, number-row, stored, packed-stored, replaced, sets-row}
+use Rattle.layout.proofs.Rows.{Packed, end, number-row, stored, packed-stored, replaced, sets-row}
 use Rattle.layout.proofs.Rounds.{packed, fits}
 use Rattle.layout.proofs.Places.{stands, encoded}
 
@@ -58,11 +58,15 @@ run-four (x ∷ y ∷ z ∷ []) e = absurd (omega arith)
 run-four (x ∷ y ∷ z ∷ v ∷ []) e = refl
 run-four (x ∷ y ∷ z ∷ v ∷ u ∷ us) e = absurd (omega arith)
 
--- the dirty marks, stored one by one
-pub store-four : (b xs : List ℕ) → length xs ≡ 4 → stored b ((atDirty, le 8 (getD xs 0 0)) ∷ (atDirty + 8, le 8 (getD xs 1 0)) ∷ (atDirty + 16, le 8 (getD xs 2 0)) ∷ (atDirty + 24, le 8 (getD xs 3 0)) ∷ []) ≡ sets b atDirty (runOf 8 xs)
-store-four b xs e =
-    packed-stored (number-row {at = atDirty} 8 (getD xs 0 0) (number-row 8 (getD xs 1 0) (number-row 8 (getD xs 2 0) (number-row 8 (getD xs 3 0) end)))) b
-    ∙ rw (run-four xs e)
+-- the words of marks, stored one by one
+pub store-four : (at : ℕ) (b xs : List ℕ) → length xs ≡ 4 → stored b ((at, le 8 (getD xs 0 0)) ∷ (at + 8, le 8 (getD xs 1 0)) ∷ (at + 16, le 8 (getD xs 2 0)) ∷ (at + 24, le 8 (getD xs 3 0)) ∷ []) ≡ sets b at (runOf 8 xs)
+store-four at b xs e = packed-stored (four (getD xs 0 0) (getD xs 1 0) (getD xs 2 0) (getD xs 3 0)) b ∙ rw (run-four xs e)
+  where
+    four : (x y z v : ℕ) → Packed at ((at, le 8 x) ∷ (at + 8, le 8 y) ∷ (at + 16, le 8 z) ∷ (at + 24, le 8 v) ∷ []) (at + 24 + 8)
+    four x y z v =
+        let p : at + 8 + 8 ≡ at + 16 = omega arith in
+        let q : at + 16 + 8 ≡ at + 24 = omega arith in
+        number-row 8 x (number-row 8 y (rw p (number-row 8 z (rw q (number-row 8 v end)))))
 
 -- bytes of a cache that fits
 pub record Coded (b : List ℕ) (c : Cache) : Type 0 where
@@ -79,7 +83,7 @@ module _ {b : List ℕ} {c : Cache} (s : Coded b c) where
   -- `off` bytes into row `n`, which stands at the place `at`: d is the cache that has the row so
   row-stored :
       (n at off : ℕ) (x y : List ℕ) (d : Cache) →
-      n < 24 →
+      n < 27 →
       getD (fieldRows c) n (0, []) .0 ≡ at →
       off + length x ≤ length (getD (fieldRows c) n (0, []) .1) →
       sets (getD (fieldRows c) n (0, []) .1) off x ≡ y →
@@ -99,7 +103,7 @@ module _ {b : List ℕ} {c : Cache} (s : Coded b c) where
   -- a number over a number, and a number of a run
   number-stored :
       (n at w u v : ℕ) (d : Cache) →
-      n < 24 →
+      n < 27 →
       getD (fieldRows c) n (0, []) ≡ (at, le w u) →
       rowBytes (replaced (fieldRows c) n (le w v)) ≡ bytesOf d →
       Fits d →
@@ -112,7 +116,7 @@ module _ {b : List ℕ} {c : Cache} (s : Coded b c) where
 
   entry-stored :
       (n at w : ℕ) (xs : List ℕ) (i v : ℕ) (d : Cache) →
-      n < 24 →
+      n < 27 →
       getD (fieldRows c) n (0, []) ≡ (at, runOf w xs) →
       i < length xs →
       rowBytes (replaced (fieldRows c) n (runOf w (set xs i v))) ≡ bytesOf d →
@@ -241,3 +245,17 @@ module _ {b : List ℕ} {c : Cache} (s : Coded b c) where
   rule-stored r e is =
       number-stored 23 atRule 4 (deductionNumber (c .rule)) (deductionNumber r) (withRule c r) (omega arith) refl refl (search needs)
       (is ∙ ap (λ (v : ℕ). sets b atRule (le 4 v)) e)
+
+  pub left-stored : (ws : List ℕ) → length ws ≡ 4 → Below (2 ^ 64) ws → {left : List ℕ} → left ≡ sets b atLeft (runOf 8 ws) → Stands left (withLeft c ws)
+  unfolding bytesOf fieldRows
+  left-stored ws l z is =
+      let e : length (runOf 8 ws) ≡ length (runOf 8 (c .left)) = omega (arith, length-run 8 ws, length-run 8 (c .left), s .fits .whole .left) in
+      row-stored 24 atLeft 0 (runOf 8 ws) (runOf 8 ws) (withLeft c ws) (omega arith) refl (omega arith) (sets-all (runOf 8 (c .left)) (runOf 8 ws) e) refl (search needs) is
+
+  pub arrivals-stored : (v : ℕ) → v < 2 ^ 32 → {left : List ℕ} → left ≡ sets b atArrivals (le 4 v) → Stands left (withArrivals c v)
+  unfolding bytesOf fieldRows
+  arrivals-stored v z is = number-stored 25 atArrivals 4 (c .arrivals) v (withArrivals c v) (omega arith) refl refl (search needs) is
+
+  pub retirements-stored : (v : ℕ) → v < 2 ^ 32 → {left : List ℕ} → left ≡ sets b atRetirements (le 4 v) → Stands left (withRetirements c v)
+  unfolding bytesOf fieldRows
+  retirements-stored v z is = number-stored 26 atRetirements 4 (c .retirements) v (withRetirements c v) (omega arith) refl refl (search needs) is

@@ -54,6 +54,9 @@ cleared =
       flushes = 0;
       closed = false;
       rule = WriteFirst;
+      left = replicate 4 0;
+      arrivals = 0;
+      retirements = 0;
     }
 
 -- the bytes from one place to another are flags

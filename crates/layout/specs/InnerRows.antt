@@ -83,6 +83,15 @@ atHeld = 8536
 abbrev pub atRule : ℕ
 atRule = 8792
 
+abbrev pub atLeft : ℕ
+atLeft = 8796
+
+abbrev pub atArrivals : ℕ
+atArrivals = 8828
+
+abbrev pub atRetirements : ℕ
+atRetirements = 8832
+
 -- ---- the rows
 
 -- a yes or no as a number
@@ -124,6 +133,9 @@ fieldRows c =
     ∷ (atBlocks, runOf 1 (c .blocks))
     ∷ (atHeld, flags (c .held))
     ∷ (atRule, le 4 (deductionNumber (c .rule)))
+    ∷ (atLeft, runOf 8 (c .left))
+    ∷ (atArrivals, le 4 (c .arrivals))
+    ∷ (atRetirements, le 4 (c .retirements))
     ∷ []
 
 -- the bytes of a cache
@@ -142,6 +154,7 @@ pub record WholeArrays (c : Cache) : Type 0 where
   pub write : length (c .write) ≡ 256
   pub blocks : length (c .blocks) ≡ 256
   pub held : length (c .held) ≡ 256
+  pub left : length (c .left) ≡ 4
 
 -- and every number has room in its bytes
 pub record Fits (c : Cache) : Type 0 where
@@ -166,3 +179,6 @@ pub record Fits (c : Cache) : Type 0 where
   pub load : Below (2 ^ 16) (c .load)
   pub write : Below (2 ^ 16) (c .write)
   pub blocks : Below (2 ^ 8) (c .blocks)
+  pub left : Below (2 ^ 64) (c .left)
+  pub arrivals : c .arrivals < 2 ^ 32
+  pub retirements : c .retirements < 2 ^ 32

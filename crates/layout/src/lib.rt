@@ -4,19 +4,21 @@
 ghost use mathlib.Core.Path.{_≡_};
 ghost use Prim.Native.Nat.{_+_, _*_, _<_, _≤_};
 ghost use lib.ListN.{length, getD};
+ghost use lib.Seq.{sets};
 ghost use mathlib.Core.Bool.{false};
-ghost use Rattle.cache_state.specs.Cache.{dirtyAt};
-ghost use Rattle.cache_state.specs.InnerWith.{withCapacity, withCount, withClosed, withRule, withSteps, withHits, withLoads, withEvictions, withDirtyEvictions, withWritebacks, withFlushes, withLoadCost, withWriteCost, withDirty, withLoadCredit, withWriteCredit, withMinutes, withItemLoads, withItemWritebacks, withItemLoadCost, withItemWriteCost, withBlocks, withHeld};
+ghost use Rattle.fields.specs.Inner.{runOf};
+ghost use Rattle.marks.specs.Marks.{marked};
+ghost use Rattle.cache_state.specs.Cache.{dirtyAt, leftAt};
+ghost use Rattle.cache_state.specs.InnerWith.{withCapacity, withCount, withClosed, withRule, withSteps, withHits, withLoads, withEvictions, withDirtyEvictions, withWritebacks, withFlushes, withLoadCost, withWriteCost, withDirty, withLoadCredit, withWriteCredit, withMinutes, withItemLoads, withItemWritebacks, withItemLoadCost, withItemWriteCost, withBlocks, withHeld, withLeft, withArrivals, withRetirements};
 ghost use Rattle.cache_state.specs.InnerBecomes.{Decided};
-ghost use Rattle.layout.specs.Layout.{stateBytes, numberAt, cacheOf, AllowedBytes};
-ghost use Rattle.layout.specs.InnerRows.{atDirty};
+ghost use Rattle.layout.specs.Layout.{stateBytes, numberAt, numbersAt, cacheOf, AllowedBytes};
 ghost use Rattle.layout.specs.Inner.{Stands, Readable, FlagsWithin, cleared};
 use types::Deduction;
 
 // The bytes of a state, and the number of this layout.
-pub const STATE_BYTES: usize = 8796;
+pub const STATE_BYTES: usize = 8836;
 
-pub const FORMAT: u64 = 3;
+pub const FORMAT: u64 = 4;
 
 // Where each field stands.
 pub const AT_FORMAT: usize = 0;
@@ -66,6 +68,12 @@ pub const AT_BLOCKS: usize = 8280;
 pub const AT_HELD: usize = 8536;
 
 pub const AT_RULE: usize = 8792;
+
+pub const AT_LEFT: usize = 8796;
+
+pub const AT_ARRIVALS: usize = 8828;
+
+pub const AT_RETIREMENTS: usize = 8832;
 
 // ---- the capacity, the count of items and the totals
 
@@ -197,6 +205,34 @@ pub fn put_flushes(b: &mut [u8], v: u32)
     fields::put(b, AT_FLUSHES, 4, v as u64);
 }
 
+pub fn arrivals(b: &[u8]) -> u32
+    requires { ⌜ length (now b) ≡ stateBytes ⌝ }
+    ensures { λ r. ⌜ r ≡ cacheOf (now (b .entry)) .arrivals ⌝ }
+{
+    fields::get(b, AT_ARRIVALS, 4) as u32
+}
+
+pub fn put_arrivals(b: &mut [u8], v: u32)
+    requires { ⌜ Readable (now b) ⌝ }
+    ensures { λ _. ⌜ Stands (now (b .exit)) (withArrivals (cacheOf (now (b .entry))) v) ⌝ }
+{
+    fields::put(b, AT_ARRIVALS, 4, v as u64);
+}
+
+pub fn retirements(b: &[u8]) -> u32
+    requires { ⌜ length (now b) ≡ stateBytes ⌝ }
+    ensures { λ r. ⌜ r ≡ cacheOf (now (b .entry)) .retirements ⌝ }
+{
+    fields::get(b, AT_RETIREMENTS, 4) as u32
+}
+
+pub fn put_retirements(b: &mut [u8], v: u32)
+    requires { ⌜ Readable (now b) ⌝ }
+    ensures { λ _. ⌜ Stands (now (b .exit)) (withRetirements (cacheOf (now (b .entry))) v) ⌝ }
+{
+    fields::put(b, AT_RETIREMENTS, 4, v as u64);
+}
+
 // The load costs paid.
 pub fn load_cost(b: &[u8]) -> u64
     requires { ⌜ length (now b) ≡ stateBytes ⌝ }
@@ -257,39 +293,88 @@ pub fn put_rule(b: &mut [u8], rule: Deduction)
     fields::put(b, AT_RULE, 4, rule.number() as u64);
 }
 
-// ---- the dirty marks, in four words
+// ---- marks in four words: of the dirty items, and of those that have left
 
-// Word `j` of them. As a function of its own its eight bytes are read as one number.
-fn word(b: &[u8], j: usize) -> u64
-    requires { ⌜ (length (now b) ≡ stateBytes) × (j < 4) ⌝ }
-    ensures { λ r. ⌜ r ≡ numberAt (now (b .entry)) (atDirty + j * 8) 8 ⌝ }
+// Word `j` of those at the place `at`. As a function of its own its eight bytes are read as one number.
+fn word(b: &[u8], at: usize, j: usize) -> u64
+    requires { ⌜ (at + 32 ≤ length (now b)) × (j < 4) ⌝ }
+    ensures { λ r. ⌜ r ≡ numberAt (now (b .entry)) (at + j * 8) 8 ⌝ }
 {
-    fields::get(b, AT_DIRTY + j * 8, 8)
+    fields::get(b, at + j * 8, 8)
 }
 
-// Whether item `i` is marked.
+// Whether mark `i` of them is set.
+fn is_marked(b: &[u8], at: usize, i: usize) -> bool
+    requires { ⌜ (at + 32 ≤ length (now b)) × (i < 256) ⌝ }
+    ensures { λ r. ⌜ r ≡ marked (numbersAt (now (b .entry)) at 4 8) i ⌝ }
+{
+    (word(b, at, i / 64) >> (i % 64)) % 2 == 1
+}
+
+fn words(b: &[u8], at: usize) -> [u64; 4]
+    requires { ⌜ at + 32 ≤ length (now b) ⌝ }
+    ensures { λ r. ⌜ r ≡ numbersAt (now (b .entry)) at 4 8 ⌝ }
+{
+    [
+        word(b, at, 0),
+        word(b, at, 1),
+        word(b, at, 2),
+        word(b, at, 3),
+    ]
+}
+
+pub fn put_words(b: &mut [u8], at: usize, words: [u64; 4])
+    requires { ⌜ at + 32 ≤ length (now b) ⌝ }
+    ensures { λ _. ⌜ now (b .exit) ≡ sets (now (b .entry)) at (runOf 8 words) ⌝ }
+{
+    fields::put(b, at, 8, words[0]);
+    fields::put(b, at + 8, 8, words[1]);
+    fields::put(b, at + 16, 8, words[2]);
+    fields::put(b, at + 24, 8, words[3]);
+}
+
+// Whether item `i` is dirty.
 pub fn is_dirty(b: &[u8], i: usize) -> bool
     requires { ⌜ (length (now b) ≡ stateBytes) × (i < 256) ⌝ }
     ensures { λ r. ⌜ r ≡ dirtyAt (cacheOf (now (b .entry))) i ⌝ }
 {
-    (word(b, i / 64) >> (i % 64)) % 2 == 1
+    is_marked(b, AT_DIRTY, i)
 }
 
 pub fn dirty(b: &[u8]) -> [u64; 4]
     requires { ⌜ length (now b) ≡ stateBytes ⌝ }
     ensures { λ r. ⌜ r ≡ cacheOf (now (b .entry)) .dirty ⌝ }
 {
-    [word(b, 0), word(b, 1), word(b, 2), word(b, 3)]
+    words(b, AT_DIRTY)
 }
 
 pub fn put_dirty(b: &mut [u8], words: [u64; 4])
     requires { ⌜ Readable (now b) ⌝ }
     ensures { λ _. ⌜ Stands (now (b .exit)) (withDirty (cacheOf (now (b .entry))) words) ⌝ }
 {
-    fields::put(b, AT_DIRTY, 8, words[0]);
-    fields::put(b, AT_DIRTY + 8, 8, words[1]);
-    fields::put(b, AT_DIRTY + 16, 8, words[2]);
-    fields::put(b, AT_DIRTY + 24, 8, words[3]);
+    put_words(b, AT_DIRTY, words);
+}
+
+// Whether item `i` has left.
+pub fn is_left(b: &[u8], i: usize) -> bool
+    requires { ⌜ (length (now b) ≡ stateBytes) × (i < 256) ⌝ }
+    ensures { λ r. ⌜ r ≡ leftAt (cacheOf (now (b .entry))) i ⌝ }
+{
+    is_marked(b, AT_LEFT, i)
+}
+
+pub fn left(b: &[u8]) -> [u64; 4]
+    requires { ⌜ length (now b) ≡ stateBytes ⌝ }
+    ensures { λ r. ⌜ r ≡ cacheOf (now (b .entry)) .left ⌝ }
+{
+    words(b, AT_LEFT)
+}
+
+pub fn put_left(b: &mut [u8], words: [u64; 4])
+    requires { ⌜ Readable (now b) ⌝ }
+    ensures { λ _. ⌜ Stands (now (b .exit)) (withLeft (cacheOf (now (b .entry))) words) ⌝ }
+{
+    put_words(b, AT_LEFT, words);
 }
 
 // ---- an item's fields

@@ -1,7 +1,7 @@
 -- The laws of a step that a text begins with: digits found one after another, the number that they are the text of, and texts that stand
 -- one behind the other. Assumes nothing.
-use mathlib.Core.Path.{_≡_, refl, sym, ap, _∙_}
-use mathlib.Core.Bool.{Bool, true, false, cond, not, false≢true}
+use mathlib.Core.Path.{_≡_, refl, sym, ap, subst, _∙_}
+use mathlib.Core.Bool.{Bool, true, false, cond, not, _||_, false≢true}
 use mathlib.Core.List.{List, [], _∷_, _++_}
 use Prim.Native.Nat.{ℕ, suc, _+_, _*_, _-_, _≤_, _<_}
 use native.Mathlib.Nat.{add-zero}
@@ -14,9 +14,14 @@ use Rattle.decimal.specs.Decimal.{textOf, sameText, allDigits, shaped, valueOf,
 use Rattle.decimal.proofs.Laws.{value-snoc, is-digit, all-snoc, all-at, digits-value, shape-one, shape-more}
 use Rattle.decimal.proofs.Texts.{same-true}
 use Rattle.types.specs.declared.Step.the-variants.{Read, Write, Flush}
-use Rattle.season_log.specs.Log.{stepText}
+use Rattle.types.specs.declared.Numbers.{Numbers}
+use Rattle.types.specs.Types.{numbersOf}
+use Rattle.landlord.specs.Calls.{inRange}
+use Rattle.season_lines.specs.Lines.{numbersUnder}
+use Rattle.season_log.specs.Log.{noValues, stepText}
+use Rattle.season_log.proofs.Writing.{under-same, old-kind, end-new, end-old}
 use Rattle.log_reader.specs.declared.Found.{Found}
-use Rattle.log_reader.specs.Inner.{part, DigitsAt, NumberAt, Begins, FoundIn}
+use Rattle.log_reader.specs.Inner.{part, DigitsAt, NumberAt, Stands, EndAt, Begins, FoundStep, FoundIn}
 
 -- ## Digits found
 
@@ -112,11 +117,7 @@ module _ {text : List ℕ} {from v end : ℕ} (d : DigitsAt text from v end) whe
 
 -- ## Texts that stand one behind the other
 
--- the text t stands at a place
-abbrev pub Stands : List ℕ → ℕ → List ℕ → Type 0
-Stands text at t = take (length t) (drop at text) ≡ t
-
--- and u behind it
+-- the text t stands at a place, and u behind it
 stands-then :
     (text : List ℕ) (at next : ℕ) (t u : List ℕ) → Stands text at t → at + length t ≡ next → Stands text next u → Stands text at (t ++ u)
 stands-then text at next t u h e k =
@@ -150,61 +151,109 @@ module _ {text : List ℕ} {from v end : ℕ} (n : NumberAt text from v end) (so
       let e : length (digitsOf v) ≡ end - from = omega (arith, digits-count) in
       ap (λ (k : ℕ). take k (drop from text)) e ∙ n .number some
 
+-- ## The end of a line
+
+pub no-end : (form : ℕ) (text : List ℕ) (at : ℕ) → EndAt form text at 0
+no-end form text at = λ some. absurd (omega arith)
+
+pub end-feed : (form : ℕ) (text : List ℕ) (at : ℕ) → (form ≡ 1 → ⊥) → Stands text at (textOf "\n") → EndAt form text at (at + 1)
+end-feed form text at n h =
+    λ some.
+    let e = sym (end-old form n) in
+    (ap (λ (t : List ℕ). at + length t) e, subst (Stands text at) e h)
+
+pub end-dashes :
+    (form : ℕ) (text : List ℕ) (at : ℕ) → form ≡ 1 → sameText (part at (at + 7) text) (textOf " - - -\n") ≡ true → EndAt form text at (at + 7)
+end-dashes form text at f h =
+    λ some.
+    let e = sym (end-new form f) in
+    let seven : at + 7 - at ≡ 7 = omega arith in
+    let here : Stands text at (textOf " - - -\n") =
+    ap (λ (n : ℕ). take n (drop at text)) (sym seven) ∙ same-true (part at (at + 7) text) (textOf " - - -\n") h in
+    (ap (λ (t : List ℕ). at + length t) e, subst (Stands text at) e here)
+
 -- ## A line found
 
-pub none-in : (text : List ℕ) (r : Found) → r .bytes ≡ 0 → FoundIn text r
-none-in text r e = λ some. absurd (omega arith)
+pub none-in : (form : ℕ) (text : List ℕ) (r : Found) → r .bytes ≡ 0 → FoundIn form text r
+none-in form text r e = λ some. absurd (omega arith)
 
-pub read-begins :
-    (text : List ℕ) (v end : ℕ) →
-    take 2 text ≡ textOf "R " →
-    NumberAt text 2 v end →
-    2 < end →
-    v ≤ 255 →
-    Stands text end (32 ∷ []) →
-    Stands text (end + 1) (45 ∷ []) →
-    Stands text (end + 2) (10 ∷ []) →
-    Begins text (Read v) (end + 3)
-unfolding stepText
-read-begins text v end kind item some small space dash feed =
-    let close : Stands text end (textOf " -\n") =
-    stands-then text end (end + 1) (32 ∷ []) (45 ∷ 10 ∷ []) space refl
-    (stands-then text (end + 1) (end + 2) (45 ∷ []) (10 ∷ []) dash (omega arith) feed) in
-    let line : Stands text 0 (stepText (Read v)) =
-    stands-then text 0 2 (textOf "R ") (digitsOf v ++ textOf " -\n") kind refl
-    (stands-then text 2 end (digitsOf v) (textOf " -\n") (stands-number item some) (digits-count item some) close) in
-    let count : end + 3 ≡ length (stepText (Read v)) =
-    omega (arith, digits-count item some, length-append (digitsOf v) (textOf " -\n")) in
-    record { count = count; line = ap (λ (n : ℕ). take n text) count ∙ line; ranged = le-leb v 255 small }
+-- a step that every heading has
+ranged-under : (form : ℕ) (n : Numbers) → (eqb (n .kind) 65 || eqb (n .kind) 81) ≡ false → inRange n ≡ true → inRange (numbersUnder form n) ≡ true
+ranged-under form n e r = ap inRange (under-same form n (old-kind form (n .kind) e)) ∙ r
 
-pub write-begins :
-    (text : List ℕ) (v space m end : ℕ) →
-    take 2 text ≡ textOf "W " →
-    NumberAt text 2 v space →
-    2 < space →
-    v ≤ 255 →
-    Stands text space (32 ∷ []) →
-    NumberAt text (space + 1) m end →
-    space + 1 < end →
-    m ≤ 1440 →
-    Stands text end (10 ∷ []) →
-    Begins text (Write v m) (end + 1)
-unfolding stepText
-write-begins text v space m end kind item some small between minutes more few feed =
-    let last : List ℕ = digitsOf m ++ textOf "\n" in
-    let close : Stands text (space + 1) last =
-    stands-then text (space + 1) end (digitsOf m) (textOf "\n") (stands-number minutes more) (digits-count minutes more) feed in
-    let line : Stands text 0 (stepText (Write v m)) =
-    stands-then text 0 2 (textOf "W ") (digitsOf v ++ (textOf " " ++ last)) kind refl
-    (stands-then text 2 space (digitsOf v) (textOf " " ++ last) (stands-number item some) (digits-count item some)
-    (stands-then text space (space + 1) (textOf " ") last between refl close)) in
-    let count : end + 1 ≡ length (stepText (Write v m)) =
-    omega (arith, digits-count item some, digits-count minutes more, length-append (digitsOf v) (textOf " " ++ last), length-append (digitsOf m) (textOf "\n")) in
-    record { count = count; line = ap (λ (n : ℕ). take n text) count ∙ line; ranged = rw (le-leb v 255 small) (le-leb m 1440 few) }
+module _ (form : ℕ) (text : List ℕ) where
+  pub read-begins :
+      (v end bytes : ℕ) →
+      take 2 text ≡ textOf "R " →
+      NumberAt text 2 v end →
+      2 < end →
+      v ≤ 255 →
+      Stands text end (32 ∷ []) →
+      Stands text (end + 1) (45 ∷ []) →
+      EndAt form text (end + 2) bytes →
+      0 < bytes →
+      Begins form text (Read v) bytes
+  unfolding stepText
+  read-begins v end bytes kind item some small space dash ends more =
+      let feed = ends more in
+      let last : List ℕ = textOf " -" ++ noValues form in
+      let close : Stands text end last =
+      stands-then text end (end + 1) (32 ∷ []) (45 ∷ noValues form) space refl
+      (stands-then text (end + 1) (end + 2) (45 ∷ []) (noValues form) dash (omega arith) (feed .1)) in
+      let line : Stands text 0 (stepText form (Read v)) =
+      stands-then text 0 2 (textOf "R ") (digitsOf v ++ last) kind refl
+      (stands-then text 2 end (digitsOf v) last (stands-number item some) (digits-count item some) close) in
+      let count : bytes ≡ length (stepText form (Read v)) =
+      omega (arith, feed .0, digits-count item some, length-append (digitsOf v) last) in
+      record {
+        count = count;
+        line = ap (λ (n : ℕ). take n text) count ∙ line;
+        ranged = ranged-under form (numbersOf (Read v)) refl (le-leb v 255 small);
+      }
 
-pub flush-begins : (text : List ℕ) → sameText (take 6 text) (textOf "L - -\n") ≡ true → Begins text Flush 6
-unfolding stepText
-flush-begins text h = record { count = refl; line = same-true (take 6 text) (textOf "L - -\n") h; ranged = refl }
+  pub write-begins :
+      (v space m end bytes : ℕ) →
+      take 2 text ≡ textOf "W " →
+      NumberAt text 2 v space →
+      2 < space →
+      v ≤ 255 →
+      Stands text space (32 ∷ []) →
+      NumberAt text (space + 1) m end →
+      space + 1 < end →
+      m ≤ 1440 →
+      EndAt form text end bytes →
+      0 < bytes →
+      Begins form text (Write v m) bytes
+  unfolding stepText
+  write-begins v space m end bytes kind item some small between minutes more few ends all =
+      let feed = ends all in
+      let last : List ℕ = digitsOf m ++ noValues form in
+      let close : Stands text (space + 1) last =
+      stands-then text (space + 1) end (digitsOf m) (noValues form) (stands-number minutes more) (digits-count minutes more) (feed .1) in
+      let line : Stands text 0 (stepText form (Write v m)) =
+      stands-then text 0 2 (textOf "W ") (digitsOf v ++ (textOf " " ++ last)) kind refl
+      (stands-then text 2 space (digitsOf v) (textOf " " ++ last) (stands-number item some) (digits-count item some)
+      (stands-then text space (space + 1) (textOf " ") last between refl close)) in
+      let count : bytes ≡ length (stepText form (Write v m)) =
+      omega (arith, feed .0, digits-count item some, digits-count minutes more, length-append (digitsOf v) (textOf " " ++ last), length-append (digitsOf m) (noValues form)) in
+      record {
+        count = count;
+        line = ap (λ (n : ℕ). take n text) count ∙ line;
+        ranged = ranged-under form (numbersOf (Write v m)) refl (rw (le-leb v 255 small) (le-leb m 1440 few));
+      }
+
+  pub flush-begins : (bytes : ℕ) → sameText (take 5 text) (textOf "L - -") ≡ true → EndAt form text 5 bytes → 0 < bytes → Begins form text Flush bytes
+  unfolding stepText
+  flush-begins bytes h ends all =
+      let feed = ends all in
+      let line : Stands text 0 (stepText form Flush) =
+      stands-then text 0 5 (textOf "L - -") (noValues form) (same-true (take 5 text) (textOf "L - -") h) refl (feed .1) in
+      let count : bytes ≡ length (stepText form Flush) = omega (arith, feed .0) in
+      record {
+        count = count;
+        line = ap (λ (n : ℕ). take n text) count ∙ line;
+        ranged = ranged-under form (numbersOf Flush) refl refl;
+      }
 
 -- the two bytes that a line of a read or a write begins with
 pub two-bytes : (text : List ℕ) (a b : ℕ) → 2 ≤ length text → getD text 0 0 ≡ a → getD text 1 0 ≡ b → take 2 text ≡ a ∷ b ∷ []

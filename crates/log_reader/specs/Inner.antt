@@ -1,17 +1,18 @@
 -- What the inner functions of `log_reader` ask and give. Assumes nothing.
-use mathlib.Core.{Path._≡_, Bool.{true, cond}, List.List}
-use Prim.Native.Nat.{ℕ, _+_, _-_, _≤_, _<_}
+use mathlib.Core.{Path._≡_, Bool.{true, cond}, List.{List, _++_}}
+use Prim.Native.Nat.{ℕ, _+_, _*_, _-_, _≤_, _<_}
 use lib.{ListN.{length, take, drop}, Dec.ltb}
 use Rattle.decimal.specs.{Decimal.{allDigits, valueOf, digitsOf}, InnerPages.textOver}
+use Rattle.fields.specs.LittleEndian.{le}
 use Rattle.types.specs.declared.{Step.Step, Refusal.{Refusal, the-variants.Malformed}}
-use Rattle.types.specs.Types.{stepKind, stepItem, stepMinutes}
+use Rattle.types.specs.Types.{numbersFrom, numbersOf}
 use Rattle.landlord.specs.Calls.{inRange}
+use Rattle.line_fields.specs.{Fields.{split, fieldsOf}, Inner.before}
 use Rattle.season_lines.specs.declared.Line.{Line, the-variants.{Sizes, Item as ItemLine, Step as StepLine, Act as ActLine, Refused}}
-use Rattle.season_lines.specs.Lines.{lineIn}
-use Rattle.line_fields.specs.{Fields.fieldsOf, Inner.before}
-use Rattle.season_log.specs.declared.LogAnswer.{LogAnswer, the-variants.{Count, Refused as Not}}
-use Rattle.season_log.specs.Log.{Logged, steps, fault, stepText, listOf, follows}
-use Rattle.log_reader.specs.declared.{Found.Found, Next.{Next, the-variants.{Step as NextStep, Refused as NextRefused}}}
+use Rattle.season_lines.specs.Lines.{numbersUnder, lineIn}
+use Rattle.season_log.specs.Log.{Logged, steps, fault, noValues, stepText, listOf, follows, readLines}
+use Rattle.season_log.specs.Inner.{onward}
+use Rattle.log_reader.specs.declared.{Found.Found, Next.{Next, the-variants.{Step as NextStep, Refused as NextRefused}}, ReadAnswer.{ReadAnswer, the-variants.{Steps, Refused as Not}}}
 
 -- a part of a text
 abbrev pub part : ℕ → ℕ → List ℕ → List ℕ
@@ -31,15 +32,29 @@ pub record NumberAt (text : List ℕ) (from value end : ℕ) : Type 0 where
   pub within : end ≤ length text
   pub number : from < end → part from end text ≡ digitsOf value
 
+-- the text t stands at a place
+abbrev pub Stands : List ℕ → ℕ → List ℕ → Type 0
+Stands text at t = take (length t) (drop at text) ≡ t
+
+-- the end of a line that has none of the three last values, up to a place, unless that is 0
+abbrev pub EndAt : ℕ → List ℕ → ℕ → ℕ → Type 0
+EndAt form text at end = 0 < end → (end ≡ at + length (noValues form)) × Stands text at (noValues form)
+
 -- a text begins with the line that the writer writes of a step in range
-pub record Begins (text : List ℕ) (s : Step) (bytes : ℕ) : Type 0 where
-  pub count : bytes ≡ length (stepText s)
-  pub line : take bytes text ≡ stepText s
-  pub ranged : inRange (stepKind s) (stepItem s) (stepMinutes s) ≡ true
+pub record Begins (form : ℕ) (text : List ℕ) (s : Step) (bytes : ℕ) : Type 0 where
+  pub count : bytes ≡ length (stepText form s)
+  pub line : take bytes text ≡ stepText form s
+  pub ranged : inRange (numbersUnder form (numbersOf s)) ≡ true
+
+-- a step by its numbers that a text begins with
+pub record FoundStep (form : ℕ) (text : List ℕ) (r : Found) : Type 0 where
+  pub step : Step
+  pub numbers : numbersFrom (r .kind) (r .item) (r .minutes) 0 0 0 ≡ numbersOf step
+  pub begins : Begins form text step (r .bytes)
 
 -- if so many bytes were found, and not none
-abbrev pub FoundIn : List ℕ → Found → Type 0
-FoundIn text r = 0 < r .bytes → Begins text (r .step) (r .bytes)
+abbrev pub FoundIn : ℕ → List ℕ → Found → Type 0
+FoundIn form text r = 0 < r .bytes → FoundStep form text r
 
 -- what a line that is no step is refused with
 abbrev pub lineRefusal : Line → Refusal
@@ -50,14 +65,38 @@ lineRefusal (ItemLine i b l w) = Malformed 0
 lineRefusal (ActLine place act) = Malformed 0
 
 -- what the first line of a text says on line n
-unfoldable pub firstLine : ℕ → List ℕ → Line
-firstLine n s =
-    cond (ltb (length (before 10 s)) (length s)) (lineIn 2 0 (fieldsOf (before 10 s)) n) (Refused (Malformed n))
+unfoldable pub firstLine : ℕ → ℕ → List ℕ → Line
+firstLine form n s =
+    cond (ltb (length (before 10 s)) (length s)) (lineIn 2 form (fieldsOf (before 10 s)) n) (Refused (Malformed n))
 
 -- a step and the bytes of its line, or the refusal that follows
 abbrev pub FirstIs : Line → List ℕ → Next → Type 0
 FirstIs line s (NextStep step bytes) = (line ≡ StepLine step) × (bytes ≡ length (before 10 s) + 1)
 FirstIs line s (NextRefused r) = (rest : Logged) → follows line rest ≡ fault r
+
+-- three numbers as bytes
+abbrev pub threeNumbers : ℕ → ℕ → ℕ → List ℕ
+threeNumbers a b c = le 4 a ++ (le 4 b ++ le 4 c)
+
+-- Where a line begins: so many steps that were read stand at the start of the list, which was `old`, and what is left of the text follows
+-- them. A step took at least six bytes.
+pub record ReadSoFar (form : ℕ) (text old : List ℕ) (at count : ℕ) (list : List ℕ) : Type 0 where
+  pub read : List Step
+  pub left : onward read (readLines form (count + 2) (split 10 (drop at text))) ≡ readLines form 2 (split 10 text)
+  pub stored : list ≡ textOver (listOf read) old
+  pub long : length list ≡ length old
+  pub counted : count ≡ length read
+  pub spent : 6 * count ≤ at
+  pub within : at ≤ length text
+
+-- a text that is not too long, a place in it, and a list that has room for the steps of any such text
+abbrev pub Roomy : List ℕ → ℕ → ℕ → List ℕ → Type 0
+Roomy text at count list = (length text ≤ 65536) × (262128 ≤ length list) × (6 * count ≤ at) × (at ≤ length text)
+
+-- whoever has read so far has then read further
+abbrev pub ReadsOn : ℕ → List ℕ → ℕ → ℕ → List ℕ → ℕ → ℕ → List ℕ → Type 0
+ReadsOn form text at count list later more after =
+    (old : List ℕ) → ReadSoFar form text old at count list → ReadSoFar form text old later more after
 
 -- the steps that were read stand at the start of a list that has room for them
 pub record StepsIn (ss : List Step) (before : List ℕ) (n : ℕ) (after : List ℕ) : Type 0 where
@@ -65,8 +104,8 @@ pub record StepsIn (ss : List Step) (before : List ℕ) (n : ℕ) (after : List 
   pub few : n ≤ 10922
   pub list : after ≡ textOver (listOf ss) before
 
-abbrev pub ReadInto : Logged → List ℕ → LogAnswer → List ℕ → Type 0
-ReadInto (steps ss) before (Count n) after = StepsIn ss before n after
-ReadInto (steps ss) before (Not r) after = ⊥
-ReadInto (fault r) before (Count n) after = ⊥
+abbrev pub ReadInto : Logged → List ℕ → ReadAnswer → List ℕ → Type 0
+ReadInto (steps form ss) before (Steps heading n) after = (heading ≡ form) × StepsIn ss before n after
+ReadInto (steps form ss) before (Not r) after = ⊥
+ReadInto (fault r) before (Steps heading n) after = ⊥
 ReadInto (fault r) before (Not q) after = q ≡ r

@@ -11,19 +11,20 @@ use Rattle.season_log.specs.Log.{listed, writeAnswer, writtenPage}
 use Rattle.recorder.specs.Reports.{bothHalves, lengthTold, LoggedLent}
 
 module _
+    (heading : ℕ)
     (list before after : List ℕ)
     (was : ℕ)
     (w : LogAnswer)
-    (is : w ≡ writeAnswer (listed list) before)
-    (page : after ≡ writtenPage (listed list) before)
+    (is : w ≡ writeAnswer (listed heading list) before)
+    (page : after ≡ writtenPage (listed heading list) before)
   where
     -- an answer that is known to be z
-    lent : (z : LogAnswer) → w ≡ z → LoggedLent list before was (bothHalves z) after (lengthTold z was)
+    lent : (z : LogAnswer) → w ≡ z → LoggedLent heading list before was (bothHalves z) after (lengthTold z was)
     lent z e =
-        let same : z ≡ writeAnswer (listed list) before = sym e ∙ is in
+        let same : z ≡ writeAnswer (listed heading list) before = sym e ∙ is in
         record { tells = ap bothHalves same; page = page; size = ap (λ (x : LogAnswer). lengthTold x was) same }
 
-    pub lent-text : (n : ℕ) → w ≡ Count n → LoggedLent list before was 0 after n
+    pub lent-text : (n : ℕ) → w ≡ Count n → LoggedLent heading list before was 0 after n
     lent-text n e = lent (Count n) e
 
     -- both halves as they are computed
@@ -32,7 +33,7 @@ module _
         w ≡ Refused r →
         number ≡ refusalNumber r →
         line ≡ refusalLine r →
-        LoggedLent list before was (number + line * 4294967296) after was
+        LoggedLent heading list before was (number + line * 4294967296) after was
     lent-refusal r number line e n l =
         let sum : bothHalves (Refused r) ≡ number + line * 4294967296 = omega (arith, n, l) in
-        subst (λ (x : ℕ). LoggedLent list before was x after was) sum (lent (Refused r) e)
+        subst (λ (x : ℕ). LoggedLent heading list before was x after was) sum (lent (Refused r) e)

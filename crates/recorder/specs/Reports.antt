@@ -37,8 +37,8 @@ abbrev pub lengthTold : LogAnswer → ℕ → ℕ
 lengthTold (Count n) was = n
 lengthTold (Refused r) was = was
 
--- the log of a list of steps: "off the tape", then "the short page", with the line, else the text
-pub record LoggedLent (list before : List ℕ) (was answer : ℕ) (after : List ℕ) (told : ℕ) : Type 0 where
-  pub tells : answer ≡ bothHalves (writeAnswer (listed list) before)
-  pub page : after ≡ writtenPage (listed list) before
-  pub size : told ≡ lengthTold (writeAnswer (listed list) before) was
+-- the log of a list of steps under a heading: "off the tape", then "the short page", with the line, else the text
+pub record LoggedLent (heading : ℕ) (list before : List ℕ) (was answer : ℕ) (after : List ℕ) (told : ℕ) : Type 0 where
+  pub tells : answer ≡ bothHalves (writeAnswer (listed heading list) before)
+  pub page : after ≡ writtenPage (listed heading list) before
+  pub size : told ≡ lengthTold (writeAnswer (listed heading list) before) was

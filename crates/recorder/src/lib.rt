@@ -1,5 +1,6 @@
 // The functions that the firmware calls from C, on lent bytes. Each answers 0 or the refusal's number, the log's with its line; refused,
 // every lent byte is as before. Nothing is asked of the caller: any bytes, any lengths and any numbers are answered.
+ghost use Rattle.types.specs.Types.{numbersFrom};
 ghost use Rattle.landlord.specs.Calls.{stepCall, close};
 ghost use Rattle.cache_open.specs.Opening.{OpenedLent};
 ghost use Rattle.cache.specs.Contract.{lent, Called};
@@ -7,6 +8,7 @@ ghost use Rattle.recorder.specs.Reports.{ReportedLent, SaidLent, LoggedL
 use report::Written;
 use report_lines::Rival;
 use season_log::LogAnswer;
+use types::Numbers;
 
 // Opens the state for a cache of `k` blocks, a rule of deduction, 0 for write-first and 1 for load-first, and the items of the catalog,
 // five bytes each.
@@ -17,12 +19,28 @@ pub extern "C" fn recorder_open(state: &mut [u8], k: u32, rule: u32, catalog: &[
     cache_open::open(state, k, rule, catalog)
 }
 
-// Takes one step: `kind` is the code of its letter, 82 for R, 87 for W, 76 for L.
+// Takes one step by its numbers: `kind` is the code of its letter, 82 for R, 87 for W, 76 for L, 65 for A, 81 for Q.
 #[no_mangle]
-pub extern "C" fn recorder_step(state: &mut [u8], kind: u32, item: u32, minutes: u32) -> u32
-    ensures { λ r. ⌜ Called lent (now (state .entry)) (stepCall kind item minutes) r (now (state .exit)) ⌝ }
+pub extern "C" fn recorder_step(
+    state: &mut [u8],
+    kind: u32,
+    item: u32,
+    minutes: u32,
+    blocks: u32,
+    load: u32,
+    write: u32,
+) -> u32
+    ensures { λ r. ⌜ Called lent (now (state .entry)) (stepCall (numbersFrom kind item minutes blocks load write)) r (now (state .exit)) ⌝ }
 {
-    cache::step(state, kind, item, minutes)
+    let n = Numbers {
+        kind: kind,
+        item: item,
+        minutes: minutes,
+        blocks: blocks,
+        load: load,
+        write: write,
+    };
+    cache::step(state, n)
 }
 
 // Closes the log.
@@ -71,13 +89,14 @@ pub extern "C" fn recorder_sentence(
     0
 }
 
-// Writes the log of a list of steps on the page, 12 bytes a step, and how long it is in the length's place. Refused, nothing is written, so
-// the line comes back in the answer: the number in its low half, the line in its high half.
+// Writes the log of a list of steps on the page, under a heading, 0 for three names and 1 for six, 24 bytes a step, and how long it is in
+// the length's place. Refused, nothing is written, so the line comes back in the answer: the number in its low half, the line in its high
+// half.
 #[no_mangle]
-pub extern "C" fn recorder_log(list: &[u8], page: &mut [u8], told: &mut usize) -> u64
-    ensures { λ r. ⌜ LoggedLent (now (list .entry)) (now (page .entry)) (now (told .entry)) r (now (page .exit)) (now (told .exit)) ⌝ }
+pub extern "C" fn recorder_log(heading: u32, list: &[u8], page: &mut [u8], told: &mut usize) -> u64
+    ensures { λ r. ⌜ LoggedLent heading (now (list .entry)) (now (page .entry)) (now (told .entry)) r (now (page .exit)) (now (told .exit)) ⌝ }
 {
-    match season_log::write_log(list, page) {
+    match season_log::write_log(heading, list, page) {
         LogAnswer::Count(length) => {
             *told = length;
             0

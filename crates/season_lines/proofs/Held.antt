@@ -1,28 +1,30 @@
 -- A field as the program holds it makes the line that the field itself makes: each range ends far below `beyond`, so every test gives
 -- the same, and a line in range has the same numbers. Assumes nothing.
 use mathlib.Core.Path.{_≡_, refl, ap}
-use mathlib.Core.Bool.{Bool, true, false, cond, false≢true}
+use mathlib.Core.Bool.{Bool, true, false, cond, _&&_}
 use mathlib.Core.List.{List, map}
 use Prim.Native.Nat.{ℕ}
 use native.Mathlib.Omega.{arith}
 use borrow.Author.Tests.{leb-true}
 use lib.Dec.{leb, eqb}
 use lib.ListN.{length-map}
-use Rattle.types.specs.declared.Step.the-variants.{Read, Write, Flush}
+use Rattle.types.specs.declared.Numbers.{Numbers}
+use Rattle.types.specs.declared.Step.the-variants.{Read, Write, Flush, Arrive, Retire}
 use Rattle.types.specs.declared.Deduction.the-variants.{WriteFirst}
 use Rattle.types.specs.declared.Refusal.the-variants.{UnknownRule}
-use Rattle.landlord.specs.Calls.{inRange, stepOf}
-use Rattle.landlord.specs.Catalog.{itemInRange}
+use Rattle.types.specs.Types.{numbersFrom, stepOf}
+use Rattle.landlord.specs.Calls.{isItemNumber, inRange}
+use Rattle.landlord.specs.Catalog.{listed, itemInRange}
 use Rattle.line_fields.specs.declared.Field.{Field}
-use Rattle.line_fields.specs.declared.Field.the-variants.{Rule}
+use Rattle.line_fields.specs.declared.Field.the-variants.{Number, Letter, Dash, Word, Empty, Rule}
 use Rattle.line_fields.specs.Fields.{fieldAt, isRule, valueIn, ruleIn}
 use Rattle.line_fields.specs.Inner.{heldField}
 use Rattle.line_fields.proofs.Laws.{and-parts}
 use Rattle.line_fields.proofs.Held.{held-number, held-dash, held-letter, held-rule, held-rule-in, held-most, held-least, held-is, held-same, at-held, none-held}
 use Rattle.season_lines.specs.declared.Line.{Line}
 use Rattle.season_lines.specs.declared.Line.the-variants.{Sizes, Item as ItemLine, Step, Act as Placed, Refused}
-use Rattle.season_lines.specs.Lines.{shapeThenRange, sizesLine, ruleField, itemFrom, itemLine, stepShape, stepLine, actOf, actLine, valuesIn, lineIn}
-use Rattle.season_lines.proofs.Laws.{item-bounds, sizesShape, itemShape, stepsShape, actsShape, sizesRange, itemsRange, actsRange}
+use Rattle.season_lines.specs.Lines.{shapeThenRange, sizesLine, ruleField, itemLine, kindUnder, valueField, stepShape, stepLine, actOf, actLine, valuesIn, lineIn}
+use Rattle.season_lines.proofs.Laws.{item-bounds, sizesShape, itemShape, actsShape, sizesRange, itemsRange, actsRange}
 use Rattle.season_lines.proofs.Pieces.{sizes-bounds, acts-bounds}
 
 -- ## The line of each table
@@ -99,7 +101,7 @@ held-item i b l w n = same-judged _ _ _ _ _ _ n shape range says
         ItemLine (valueIn (heldField i)) (valueIn (heldField b)) (valueIn (heldField l)) (valueIn (heldField w))
         ≡ ItemLine (valueIn i) (valueIn b) (valueIn l) (valueIn w)
     says e =
-        let both = and-parts (leb (valueIn i) 255) (itemInRange (itemFrom (valueIn b) (valueIn l) (valueIn w))) e in
+        let both = and-parts (leb (valueIn i) 255) (itemInRange (listed (valueIn b) (valueIn l) (valueIn w))) e in
         let d = item-bounds (valueIn b) (valueIn l) (valueIn w) (both .1) in
         rw (
           held-same i 255 (omega arith) (leb-true (valueIn i) 255 (both .0)),
@@ -108,82 +110,90 @@ held-item i b l w n = same-judged _ _ _ _ _ _ n shape range says
           held-same w 65535 (omega arith) (d .3),
         )
 
-held-shape :
-    (kind item minutes : Field) →
-    stepShape (valueIn (heldField kind)) (heldField item) (heldField minutes) ≡ stepShape (valueIn kind) item minutes
-unfolding stepShape
-held-shape kind item minutes =
-    rw (
-      held-is kind 82 (omega arith),
-      held-is kind 87 (omega arith),
-      held-is kind 76 (omega arith),
-      held-number item,
-      held-dash item,
-      held-number minutes,
-      held-dash minutes,
-    )
+-- behind one letter
+module _ (letter : ℕ) (item minutes blocks load write : Field) where
+  abbrev numbers : Numbers
+  numbers = numbersFrom letter (valueIn item) (valueIn minutes) (valueIn blocks) (valueIn load) (valueIn write)
 
-both-yes : (p q : Bool) → cond p q false ≡ true → (p ≡ true) × (q ≡ true)
-both-yes true q e = (refl, e)
-both-yes false q e = absurd (false≢true e)
+  abbrev heldNumbers : Numbers
+  heldNumbers =
+      numbersFrom letter (valueIn (heldField item)) (valueIn (heldField minutes)) (valueIn (heldField blocks)) (valueIn (heldField load)) (valueIn (heldField write))
 
-held-step-of :
-    (kind item minutes : Field) →
-    inRange (valueIn kind) (valueIn item) (valueIn minutes) ≡ true →
-    stepOf (valueIn (heldField kind)) (valueIn (heldField item)) (valueIn (heldField minutes))
-    ≡ stepOf (valueIn kind) (valueIn item) (valueIn minutes)
-unfolding stepOf
-held-step-of kind item minutes e =
-    rw (held-is kind 82 (omega arith), held-is kind 87 (omega arith))
-    (go (eqb (valueIn kind) 82) (eqb (valueIn kind) 87) (eqb (valueIn kind) 76) e)
-  where
-    i : ℕ
-    i = valueIn item
+  held-shape :
+      stepShape letter (heldField item) (heldField minutes) (heldField blocks) (heldField load) (heldField write)
+      ≡ stepShape letter item minutes blocks load write
+  unfolding stepShape
+  held-shape = rw (held-number item, held-dash item, held-number minutes, held-dash minutes, held-number blocks, held-dash blocks, held-number load, held-dash load, held-number write, held-dash write)
 
-    m : ℕ
-    m = valueIn minutes
+  held-range : inRange heldNumbers ≡ inRange numbers
+  held-range =
+      rw (
+        held-most item 255 (omega arith),
+        held-most minutes 1440 (omega arith),
+        held-least blocks 1 (omega arith),
+        held-most blocks 16 (omega arith),
+        held-most load 65535 (omega arith),
+        held-most write 65535 (omega arith),
+      )
 
-    go :
-        (p q r : Bool) →
-        cond p (leb i 255) (cond q (cond (leb i 255) (leb m 1440) false) r) ≡ true →
-        cond p (Read (valueIn (heldField item)))
-        (cond q (Write (valueIn (heldField item)) (valueIn (heldField minutes))) Flush)
-        ≡ cond p (Read i) (cond q (Write i m) Flush)
-    go true q r e = ap Read (held-same item 255 (omega arith) (leb-true i 255 e))
-    go false true r e =
-        let both = both-yes (leb i 255) (leb m 1440) e in
-        rw
-        (held-same item 255 (omega arith) (leb-true i 255 (both .0)), held-same minutes 1440 (omega arith) (leb-true m 1440 (both .1)))
-    go false false r e = refl
+  held-step-of : inRange numbers ≡ true → stepOf heldNumbers ≡ stepOf numbers
+  unfolding stepOf
+  held-step-of e = go (eqb letter 82) (eqb letter 87) (eqb letter 65) (eqb letter 81) e
+    where
+      i : ℕ
+      i = valueIn item
 
+      m : ℕ
+      m = valueIn minutes
+
+      values : Bool
+      values = itemInRange (listed (valueIn blocks) (valueIn load) (valueIn write))
+
+      same-item : isItemNumber i ≡ true → valueIn (heldField item) ≡ i
+      same-item e = held-same item 255 (omega arith) (leb-true i 255 e)
+
+      go :
+          (p q r t : Bool) →
+          cond p (isItemNumber i)
+          (cond q (isItemNumber i && leb m 1440)
+          (cond r (isItemNumber i && values) (cond t (isItemNumber i) (eqb letter 76)))) ≡ true →
+          cond p (Read (heldNumbers .item))
+          (cond q (Write (heldNumbers .item) (heldNumbers .minutes))
+          (cond r (Arrive (heldNumbers .item) (heldNumbers .blocks) (heldNumbers .load) (heldNumbers .write))
+          (cond t (Retire (heldNumbers .item)) Flush)))
+          ≡ cond p (Read i)
+          (cond q (Write i m) (cond r (Arrive i (valueIn blocks) (valueIn load) (valueIn write)) (cond t (Retire i) Flush)))
+      go true q r t e = ap Read (same-item e)
+      go false true r t e =
+          let both = and-parts (isItemNumber i) (leb m 1440) e in
+          rw (same-item (both .0), held-same minutes 1440 (omega arith) (leb-true m 1440 (both .1)))
+      go false false true t e =
+          let both = and-parts (isItemNumber i) values e in
+          let d = item-bounds (valueIn blocks) (valueIn load) (valueIn write) (both .1) in
+          rw (
+            same-item (both .0),
+            held-same blocks 16 (omega arith) (d .1),
+            held-same load 65535 (omega arith) (d .2),
+            held-same write 65535 (omega arith) (d .3),
+          )
+      go false false false true e = ap Retire (same-item e)
+      go false false false false e = refl
+
+-- a letter is held as it is, and behind another field there is no step
 held-step :
-    (kind item minutes : Field) (n : ℕ) →
-    stepLine (heldField kind) (heldField item) (heldField minutes) n ≡ stepLine kind item minutes n
+    (form : ℕ) (kind item minutes blocks load write : Field) (n : ℕ) →
+    stepLine form (heldField kind) (heldField item) (heldField minutes) (heldField blocks) (heldField load) (heldField write) n
+    ≡ stepLine form kind item minutes blocks load write n
 unfolding stepLine
-held-step kind item minutes n = same-judged _ _ _ _ _ _ n shape range says
-  where
-    shape :
-        stepsShape (heldField kind) (valueIn (heldField kind)) (heldField item) (heldField minutes)
-        ≡ stepsShape kind (valueIn kind) item minutes
-    shape = rw (held-letter kind, held-shape kind item minutes)
-
-    range :
-        inRange (valueIn (heldField kind)) (valueIn (heldField item)) (valueIn (heldField minutes))
-        ≡ inRange (valueIn kind) (valueIn item) (valueIn minutes)
-    range =
-        rw (
-          held-is kind 82 (omega arith),
-          held-is kind 87 (omega arith),
-          held-is kind 76 (omega arith),
-          held-most item 255 (omega arith),
-          held-most minutes 1440 (omega arith),
-        )
-
-    says :
-        inRange (valueIn kind) (valueIn item) (valueIn minutes) ≡ true →
-        Step (stepOf (valueIn (heldField kind)) (valueIn (heldField item)) (valueIn (heldField minutes)))
-        ≡ Step (stepOf (valueIn kind) (valueIn item) (valueIn minutes))
-    says e = ap Step (held-step-of kind item minutes e)
+held-step form (Letter b) item minutes blocks load write n =
+    let letter = kindUnder form b in
+    same-judged _ _ _ _ _ _ n (held-shape letter item minutes blocks load write)
+    (held-range letter item minutes blocks load write) (λ e. ap Step (held-step-of letter item minutes blocks load write e))
+held-step form (Number v) item minutes blocks load write n = refl
+held-step form Dash item minutes blocks load write n = refl
+held-step form Word item minutes blocks load write n = refl
+held-step form Empty item minutes blocks load write n = refl
+held-step form (Rule r) item minutes blocks load write n = refl
 
 held-act :
     (place kind item : Field) (n : ℕ) →
@@ -236,6 +246,13 @@ rule-held form f = go (eqb form 1)
     go true = refl
     go false = refl
 
+value-held : (form : ℕ) (f : Field) → valueField form (heldField f) ≡ heldField (valueField form f)
+value-held form f = go (eqb form 1)
+  where
+    go : (t : Bool) → cond t (heldField f) Dash ≡ heldField (cond t f Dash)
+    go true = refl
+    go false = refl
+
 values-held : (table form : ℕ) (fs : List Field) (n : ℕ) → valuesIn table form (map heldField fs) n ≡ valuesIn table form fs n
 unfolding valuesIn
 values-held table form fs n =
@@ -244,10 +261,15 @@ values-held table form fs n =
       at-held fs 1,
       at-held fs 2,
       at-held fs 3,
+      at-held fs 4,
+      at-held fs 5,
       rule-held form (fieldAt fs 2),
+      value-held form (fieldAt fs 3),
+      value-held form (fieldAt fs 4),
+      value-held form (fieldAt fs 5),
       held-sizes (fieldAt fs 0) (fieldAt fs 1) (ruleField form (fieldAt fs 2)) n,
       held-item (fieldAt fs 0) (fieldAt fs 1) (fieldAt fs 2) (fieldAt fs 3) n,
-      held-step (fieldAt fs 0) (fieldAt fs 1) (fieldAt fs 2) n,
+      held-step form (fieldAt fs 0) (fieldAt fs 1) (fieldAt fs 2) (valueField form (fieldAt fs 3)) (valueField form (fieldAt fs 4)) (valueField form (fieldAt fs 5)) n,
       held-act (fieldAt fs 0) (fieldAt fs 1) (fieldAt fs 2) n,
     )
 

@@ -1,6 +1,6 @@
 -- The laws that the proofs of the functions cite: what each test that comes out so says of a line. Those that a scan over lines
 -- cites are in proofs/Pieces.antt, and those of fields alone in the crate `line_fields`. Assumes nothing.
-use mathlib.Core.Path.{_≡_, refl, sym, _∙_}
+use mathlib.Core.Path.{_≡_, refl, sym, ap, _∙_}
 use mathlib.Core.Bool.{Bool, true, false, cond, not, _&&_, false≢true}
 use mathlib.Core.List.{List, [], _∷_}
 use mathlib.Core.Logic.{_⊎_, ⊎-elim}
@@ -11,19 +11,20 @@ use lib.Dec.{leb, eqb}
 use lib.ListN.{length, getD, take}
 use lib.Seq.{length-take-le}
 use Rattle.decimal.specs.Decimal.{textOf, sameText}
-use Rattle.types.specs.declared.Step.the-variants.{Read, Write, Flush}
+use Rattle.types.specs.declared.Numbers.{Numbers}
 use Rattle.types.specs.declared.Act.the-variants.{Evict, Fetch}
 use Rattle.types.specs.declared.Deduction.{Deduction}
 use Rattle.types.specs.declared.Deduction.the-variants.{WriteFirst}
 use Rattle.types.specs.declared.Refusal.the-variants.{Malformed, OutOfRange, UnknownRule}
-use Rattle.landlord.specs.Calls.{inRange, stepOf}
-use Rattle.landlord.specs.Catalog.{capacityInRange, itemInRange}
+use Rattle.types.specs.Types.{numbersFrom, stepOf}
+use Rattle.landlord.specs.Calls.{inRange}
+use Rattle.landlord.specs.Catalog.{listed, capacityInRange, itemInRange}
 use Rattle.line_fields.specs.declared.Field.{Field}
-use Rattle.line_fields.specs.declared.Field.the-variants.{Number, Rule}
-use Rattle.line_fields.specs.Fields.{split, fieldAt, isNumber, isDash, isLetter, isRule, valueIn, ruleIn, noneEmpty, isEither}
+use Rattle.line_fields.specs.declared.Field.the-variants.{Number, Dash, Rule}
+use Rattle.line_fields.specs.Fields.{split, fieldAt, isNumber, isLetter, isRule, valueIn, ruleIn, noneEmpty, isEither}
 use Rattle.season_lines.specs.declared.Names.the-variants.{Form, Unknown}
 use Rattle.season_lines.specs.declared.Line.the-variants.{Sizes, Item as ItemLine, Step, Act as Placed, Refused}
-use Rattle.season_lines.specs.Lines.{headings, namesIn, formAmong, formOf, sizesLine, ruleField, itemFrom, itemLine, stepShape, stepLine, isActKind, actOf, actLine, valuesIn, lineIn}
+use Rattle.season_lines.specs.Lines.{headings, namesIn, formAmong, formOf, sizesLine, ruleField, itemLine, kindUnder, valueField, isDue, isStepKind, stepShape, stepLine, isActKind, actOf, actLine, valuesIn, lineIn}
 use Rattle.landlord.proofs.Ranges.{item-facts}
 
 -- ## Tests
@@ -48,6 +49,11 @@ one-of-4 : (p q r s : Bool) → (p ≡ false) ⊎ (q ≡ false) ⊎ (r ≡ false
 one-of-4 true q r s e = ⊎-elim (λ f. absurd (false≢true (sym f))) (λ f. one-of-3 q r s f) e
 one-of-4 false q r s e = refl
 
+one-of-5 :
+    (p q r s t : Bool) → (p ≡ false) ⊎ (q ≡ false) ⊎ (r ≡ false) ⊎ (s ≡ false) ⊎ (t ≡ false) → (p && q && r && s && t) ≡ false
+one-of-5 true q r s t e = ⊎-elim (λ f. absurd (false≢true (sym f))) (λ f. one-of-4 q r s t f) e
+one-of-5 false q r s t e = refl
+
 pub both-yes : (p q : Bool) → p ≡ true → q ≡ true → (p && q) ≡ true
 both-yes p q e h = rw (e, h)
 
@@ -66,18 +72,6 @@ told-yes r t e h = sym e ∙ not-false r h
 
 -- ## Kinds
 
-pub step-read : (kind i m : ℕ) → kind ≡ 82 → Read i ≡ stepOf kind i m
-unfolding stepOf
-step-read kind i m e = rw (eq-eqb kind 82 e)
-
-pub step-write : (kind i m : ℕ) → (kind ≡ 82 → ⊥) → kind ≡ 87 → Write i m ≡ stepOf kind i m
-unfolding stepOf
-step-write kind i m n e = rw (ne-eqb kind 82 n, eq-eqb kind 87 e)
-
-pub step-flush : (kind i m : ℕ) → (kind ≡ 82 → ⊥) → (kind ≡ 87 → ⊥) → Flush ≡ stepOf kind i m
-unfolding stepOf
-step-flush kind i m n k = rw (ne-eqb kind 82 n, ne-eqb kind 87 k)
-
 pub act-evict : (kind i : ℕ) → kind ≡ 68 → Evict i ≡ actOf kind i
 act-evict kind i e = rw (eq-eqb kind 68 e)
 
@@ -90,32 +84,65 @@ act-first kind e = rw (eq-eqb kind 68 e)
 pub act-second : (kind : ℕ) → (kind ≡ 68 → ⊥) → eqb kind 70 ≡ isActKind kind
 act-second kind n = rw (ne-eqb kind 68 n)
 
-module _ (kind : ℕ) (item minutes : Field) where
-  pub shape-read : kind ≡ 82 → (isNumber item && isDash minutes) ≡ stepShape kind item minutes
-  unfolding stepShape
-  shape-read e = rw (eq-eqb kind 82 e)
+pub kind-known :
+    (kind : ℕ) →
+    (kind ≡ 82) ⊎ (eqb kind 87 ≡ true) ⊎ (eqb kind 76 ≡ true) ⊎ (eqb kind 65 ≡ true) ⊎ (eqb kind 81 ≡ true) →
+    true ≡ isStepKind kind
+kind-known kind e =
+    ⊎-elim (λ f. rw f)
+    (⊎-elim (λ f. is 87 f refl) (⊎-elim (λ f. is 76 f refl) (⊎-elim (λ f. is 65 f refl) (λ f. is 81 f refl)))) e
+  where
+    is : (k : ℕ) → eqb kind k ≡ true → true ≡ isStepKind k → true ≡ isStepKind kind
+    is k f g = g ∙ ap isStepKind (sym (eqb-true kind k f))
 
-  pub shape-write : (kind ≡ 82 → ⊥) → kind ≡ 87 → (isNumber item && isNumber minutes) ≡ stepShape kind item minutes
-  unfolding stepShape
-  shape-write n e = rw (ne-eqb kind 82 n, eq-eqb kind 87 e)
+pub kind-none :
+    (kind : ℕ) →
+    (kind ≡ 82 → ⊥) →
+    eqb kind 87 ≡ false →
+    eqb kind 76 ≡ false →
+    eqb kind 65 ≡ false →
+    eqb kind 81 ≡ false →
+    false ≡ isStepKind kind
+kind-none kind r w l a q = rw (ne-eqb kind 82 r, w, l, a, q)
 
-  pub shape-flush :
-      (kind ≡ 82 → ⊥) → (kind ≡ 87 → ⊥) → kind ≡ 76 → (isDash item && isDash minutes) ≡ stepShape kind item minutes
-  unfolding stepShape
-  shape-flush n k e = rw (ne-eqb kind 82 n, ne-eqb kind 87 k, eq-eqb kind 76 e)
+-- a kind under a heading
+pub kind-gone : (form kind : ℕ) → (form ≡ 1 → ⊥) → (kind ≡ 65) ⊎ (eqb kind 81 ≡ true) → 0 ≡ kindUnder form kind
+kind-gone form kind n e = rw (ne-eqb form 1 n) (⊎-elim (λ f. rw f) (λ f. let q = eqb-true kind 81 f in rw q) e)
 
-  pub shape-unknown :
-      (kind ≡ 82 → ⊥) → (kind ≡ 87 → ⊥) → (kind ≡ 76 → ⊥) → (isEither item && isEither minutes) ≡ stepShape kind item minutes
+pub kind-old : (form kind : ℕ) → (form ≡ 1 → ⊥) → (kind ≡ 65 → ⊥) → eqb kind 81 ≡ false → kind ≡ kindUnder form kind
+kind-old form kind n a q = rw (ne-eqb form 1 n, ne-eqb kind 65 a, q)
+
+pub kind-new : (form kind : ℕ) → form ≡ 1 → kind ≡ kindUnder form kind
+kind-new form kind e = rw e
+
+module _ (kind : ℕ) (known : Bool) (e : known ≡ isStepKind kind) (item minutes blocks load write : Field) where
+  pub shape-no :
+      (isDue known (not (eqb kind 76)) item ≡ false)
+      ⊎ (isDue known (eqb kind 87) minutes ≡ false)
+      ⊎ (isDue known (eqb kind 65) blocks ≡ false)
+      ⊎ (isDue known (eqb kind 65) load ≡ false)
+      ⊎ (isDue known (eqb kind 65) write ≡ false) →
+      false ≡ stepShape kind item minutes blocks load write
   unfolding stepShape
-  shape-unknown n k l = rw (ne-eqb kind 82 n, ne-eqb kind 87 k, ne-eqb kind 76 l)
+  shape-no f = rw (← e) (sym (one-of-5 _ _ _ _ _ f))
+
+  pub shape-yes :
+      isDue known (not (eqb kind 76)) item ≡ true →
+      isDue known (eqb kind 87) minutes ≡ true →
+      isDue known (eqb kind 65) blocks ≡ true →
+      isDue known (eqb kind 65) load ≡ true →
+      isDue known (eqb kind 65) write ≡ true →
+      true ≡ stepShape kind item minutes blocks load write
+  unfolding stepShape
+  shape-yes a b c d f = rw (← e) (sym (both-yes _ _ (both-yes _ _ (both-yes _ _ (both-yes _ _ a b) c) d) f))
 
 -- ## Lines
 
 -- an item in range, number by number
 pub item-bounds :
-    (b l w : ℕ) → itemInRange (itemFrom b l w) ≡ true → (1 ≤ b) × (b ≤ 16) × (l ≤ 65535) × (w ≤ 65535)
+    (b l w : ℕ) → itemInRange (listed b l w) ≡ true → (1 ≤ b) × (b ≤ 16) × (l ≤ 65535) × (w ≤ 65535)
 item-bounds b l w e =
-    let f = item-facts (itemFrom b l w) e in
+    let f = item-facts (listed b l w) e in
     (f .some, f .small, f .load, f .write)
 
 -- the shape of each table's line, from its fields; a letter's code stands beside it
@@ -125,8 +152,8 @@ sizesShape k h = isNumber k && isNumber h
 abbrev pub itemShape : Field → Field → Field → Field → Bool
 itemShape i b l w = isNumber i && isNumber b && isNumber l && isNumber w
 
-abbrev pub stepsShape : Field → ℕ → Field → Field → Bool
-stepsShape kind letter item minutes = isLetter kind && stepShape letter item minutes
+abbrev pub stepsShape : Field → ℕ → Field → Field → Field → Field → Field → Bool
+stepsShape kind letter item minutes blocks load write = isLetter kind && stepShape letter item minutes blocks load write
 
 abbrev pub actShape : ℕ → Field → Bool
 actShape kind item = cond (isActKind kind) (isNumber item) (isEither item)
@@ -139,7 +166,7 @@ abbrev pub sizesRange : ℕ → ℕ → Bool
 sizesRange k h = capacityInRange k && capacityInRange h
 
 abbrev pub itemsRange : ℕ → ℕ → ℕ → ℕ → Bool
-itemsRange i b l w = leb i 255 && itemInRange (itemFrom b l w)
+itemsRange i b l w = leb i 255 && itemInRange (listed b l w)
 
 abbrev pub actsRange : ℕ → ℕ → ℕ → Bool
 actsRange place kind item = leb place 999999 && isActKind kind && leb item 255
@@ -181,28 +208,35 @@ module _ (i b l w : Field) (n : ℕ) where
       (s : itemShape i b l w ≡ true)
     where
       pub item-far :
-          (leb vi 255 ≡ false) ⊎ (itemInRange (itemFrom vb vl vw) ≡ false) → Refused (OutOfRange n) ≡ itemLine i b l w n
+          (leb vi 255 ≡ false) ⊎ (itemInRange (listed vb vl vw) ≡ false) → Refused (OutOfRange n) ≡ itemLine i b l w n
       unfolding itemLine
-      item-far r = rw (s, ← ei, ← eb, ← el, ← ew, one-of-2 (leb vi 255) (itemInRange (itemFrom vb vl vw)) r)
+      item-far r = rw (s, ← ei, ← eb, ← el, ← ew, one-of-2 (leb vi 255) (itemInRange (listed vb vl vw)) r)
 
       pub item-good : itemsRange vi vb vl vw ≡ true → ItemLine vi vb vl vw ≡ itemLine i b l w n
       unfolding itemLine
       item-good r = rw (s, ← ei, ← eb, ← el, ← ew, r)
 
-module _ (kind item minutes : Field) (n letter : ℕ) (ek : letter ≡ valueIn kind) where
+module _ (form : ℕ) (kind item minutes blocks load write : Field) (n letter : ℕ) (ek : letter ≡ kindUnder form (valueIn kind)) where
   pub step-malformed :
-      (isLetter kind ≡ false) ⊎ (stepShape letter item minutes ≡ false) → Refused (Malformed n) ≡ stepLine kind item minutes n
+      (isLetter kind ≡ false) ⊎ (stepShape letter item minutes blocks load write ≡ false) →
+      Refused (Malformed n) ≡ stepLine form kind item minutes blocks load write n
   unfolding stepLine
-  step-malformed e = rw (← ek, one-of-2 (isLetter kind) (stepShape letter item minutes) e)
+  step-malformed e = rw (← ek, one-of-2 (isLetter kind) (stepShape letter item minutes blocks load write) e)
 
-  module _ (i m : ℕ) (ei : i ≡ valueIn item) (em : m ≡ valueIn minutes) (s : stepsShape kind letter item minutes ≡ true) where
-    pub step-far : inRange letter i m ≡ false → Refused (OutOfRange n) ≡ stepLine kind item minutes n
-    unfolding stepLine
-    step-far r = rw (← ek, ← ei, ← em, s, r)
+  module _
+      (x : Numbers)
+      (ex : x ≡ numbersFrom letter (valueIn item) (valueIn minutes) (valueIn blocks) (valueIn load) (valueIn write))
+      (s : stepsShape kind letter item minutes blocks load write ≡ true)
+    where
+      pub step-far : inRange x ≡ false → Refused (OutOfRange n) ≡ stepLine form kind item minutes blocks load write n
+      unfolding stepLine
+      step-far r = let far = ap inRange (sym ex) ∙ r in rw (← ek, s, far)
 
-    pub step-good : inRange letter i m ≡ true → Step (stepOf letter i m) ≡ stepLine kind item minutes n
-    unfolding stepLine
-    step-good r = rw (← ek, ← ei, ← em, s, r)
+      pub step-good : inRange x ≡ true → Step (stepOf x) ≡ stepLine form kind item minutes blocks load write n
+      unfolding stepLine
+      step-good r =
+          let near = ap inRange (sym ex) ∙ r in
+          ap (λ (y : Numbers). Step (stepOf y)) ex ∙ (rw (← ek, s, near))
 
 module _ (place kind item : Field) (n letter : ℕ) (ek : letter ≡ valueIn kind) where
   pub act-malformed :
@@ -233,28 +267,42 @@ only-names table form names e = rw (e, only form)
     only zero = refl
     only (suc form) = refl
 
--- how many they are in each table; the sizes have a third name under their second heading
+-- of one that has two, under its second heading and under any other
+second-names : (table : ℕ) (first second : List ℕ) → headings table ≡ first ∷ second ∷ [] → namesIn table 1 ≡ length (split 32 second)
+unfolding namesIn
+second-names table first second e = rw e
+
+first-names :
+    (table form : ℕ) (first second : List ℕ) → headings table ≡ first ∷ second ∷ [] → (form ≡ 1 → ⊥) → namesIn table form ≡ length (split 32 first)
+unfolding namesIn
+first-names table form first second e n = rw e (go form n)
+  where
+    go : (form : ℕ) → (form ≡ 1 → ⊥) → length (split 32 (getD (first ∷ second ∷ []) form first)) ≡ length (split 32 first)
+    go zero n = refl
+    go (suc zero) n = absurd (n refl)
+    go (suc (suc form)) n = refl
+
+-- how many they are in each table; the sizes have a third name under their second heading, and the steps six
 module _ (table form : ℕ) where
   pub names-0 : table ≡ 0 → (form ≡ 1 → ⊥) → namesIn table form ≡ 2
-  unfolding namesIn headings split
-  names-0 e n = rw e (go form n)
-    where
-      go : (form : ℕ) → (form ≡ 1 → ⊥) → namesIn 0 form ≡ 2
-      go zero n = refl
-      go (suc zero) n = absurd (n refl)
-      go (suc (suc form)) n = refl
+  unfolding headings split
+  names-0 e n = first-names table form (textOf "locker rival") (textOf "locker rival rule") (rw e) n
 
   pub names-rule : table ≡ 0 → form ≡ 1 → namesIn table form ≡ 3
-  unfolding namesIn headings split
-  names-rule e f = rw (e, f)
+  unfolding headings split
+  names-rule e f = rw f (second-names table (textOf "locker rival") (textOf "locker rival rule") (rw e))
 
   pub names-1 : table ≡ 1 → namesIn table form ≡ 4
   unfolding headings split
   names-1 e = only-names table form (textOf "sail blocks load write") (rw e)
 
-  pub names-2 : table ≡ 2 → namesIn table form ≡ 3
+  pub names-2 : table ≡ 2 → (form ≡ 1 → ⊥) → namesIn table form ≡ 3
   unfolding headings split
-  names-2 e = only-names table form (textOf "step sail minutes") (rw e)
+  names-2 e n = first-names table form (textOf "step sail minutes") (textOf "step sail minutes blocks load write") (rw e) n
+
+  pub names-values : table ≡ 2 → form ≡ 1 → namesIn table form ≡ 6
+  unfolding headings split
+  names-values e f = rw f (second-names table (textOf "step sail minutes") (textOf "step sail minutes blocks load write") (rw e))
 
   pub names-3 : (table ≡ 0 → ⊥) → (table ≡ 1 → ⊥) → (table ≡ 2 → ⊥) → namesIn table form ≡ 3
   unfolding headings split
@@ -269,37 +317,46 @@ names-some table form e = go (eqb form 1) refl
     go true w = omega (arith, names-rule table form e (eqb-true form 1 w))
     go false w = omega (arith, names-0 table form e (eqb-false form 1 w))
 
--- steps and acts have three
-pub names-later : (table form : ℕ) → (table ≡ 0 → ⊥) → (table ≡ 1 → ⊥) → namesIn table form ≡ 3
-names-later table form a b = go (eqb table 2) refl
+-- and the steps three or more
+pub names-three : (table form : ℕ) → table ≡ 2 → 3 ≤ namesIn table form
+names-three table form e = go (eqb form 1) refl
   where
-    go : (t : Bool) → eqb table 2 ≡ t → namesIn table form ≡ 3
-    go true e = names-2 table form (eqb-true table 2 e)
-    go false e = names-3 table form a b (eqb-false table 2 e)
+    go : (t : Bool) → eqb form 1 ≡ t → 3 ≤ namesIn table form
+    go true w = omega (arith, names-values table form e (eqb-true form 1 w))
+    go false w = omega (arith, names-2 table form e (eqb-false form 1 w))
 
--- a line compared with the two headings of the sizes
-module _ (line : List ℕ) where
-  pub form-old : sameText line (textOf "locker rival") ≡ true → Form 0 ≡ formOf 0 line
-  unfolding headings formAmong formOf
-  form-old e = rw e
+-- a line compared with two headings
+module _ (line first second : List ℕ) where
+  pub form-first : sameText line first ≡ true → Form 0 ≡ formAmong 0 (first ∷ second ∷ []) line
+  unfolding formAmong
+  form-first e = rw e
 
-  pub form-rule : sameText line (textOf "locker rival") ≡ false → sameText line (textOf "locker rival rule") ≡ true → Form 1 ≡ formOf 0 line
-  unfolding headings formAmong formOf
-  form-rule e h = rw (e, h)
+  pub form-second : sameText line first ≡ false → sameText line second ≡ true → Form 1 ≡ formAmong 0 (first ∷ second ∷ []) line
+  unfolding formAmong
+  form-second e h = rw (e, h)
 
-  pub form-none : sameText line (textOf "locker rival") ≡ false → sameText line (textOf "locker rival rule") ≡ false → Unknown ≡ formOf 0 line
-  unfolding headings formAmong formOf
+  pub form-none : sameText line first ≡ false → sameText line second ≡ false → Unknown ≡ formAmong 0 (first ∷ second ∷ []) line
+  unfolding formAmong
   form-none e h = rw (e, h)
+
+-- with the two of the sizes, and of the steps
+pub form-0 :
+    (table : ℕ) (line : List ℕ) → table ≡ 0 → formAmong 0 (textOf "locker rival" ∷ textOf "locker rival rule" ∷ []) line ≡ formOf table line
+unfolding headings formOf
+form-0 table line e = rw e
+
+pub form-2 :
+    (table : ℕ) (line : List ℕ) →
+    table ≡ 2 →
+    formAmong 0 (textOf "step sail minutes" ∷ textOf "step sail minutes blocks load write" ∷ []) line ≡ formOf table line
+unfolding headings formOf
+form-2 table line e = rw e
 
 -- and with the one heading of each other table
 module _ (table : ℕ) (line : List ℕ) (right : Bool) where
   pub form-1 : table ≡ 1 → right ≡ sameText line (textOf "sail blocks load write") → cond right (Form 0) Unknown ≡ formOf table line
   unfolding headings formAmong formOf
   form-1 e h = rw (e, h)
-
-  pub form-2 : table ≡ 2 → right ≡ sameText line (textOf "step sail minutes") → cond right (Form 0) Unknown ≡ formOf table line
-  unfolding headings formAmong formOf
-  form-2 e h = rw (e, h)
 
   pub form-3 :
       (table ≡ 0 → ⊥) →
@@ -362,12 +419,39 @@ module _ (table form : ℕ) (fields : List Field) (count n : ℕ) (few : count �
         let k = names-1 table form e in
         rw (as-due, e, at 0 (omega arith), at 1 (omega arith), at 2 (omega arith), at 3 (omega arith))
 
+    -- the three last stand behind the minutes, if the heading has them
+    values-at : table ≡ 2 → (j : ℕ) → j < 6 → valueField form (fieldAt (take count fields) j) ≡ valueField form (slot fields j)
+    values-at e j h = go (eqb form 1) refl
+      where
+        go : (t : Bool) → eqb form 1 ≡ t → cond t (fieldAt (take count fields) j) Dash ≡ cond t (slot fields j) Dash
+        go true w = at j (omega (arith, names-values table form e (eqb-true form 1 w)))
+        go false w = refl
+
     pub line-2 :
-        table ≡ 2 → stepLine (slot fields 0) (slot fields 1) (slot fields 2) n ≡ lineIn table form (take count fields) n
+        table ≡ 2 →
+        (b l w : Field) →
+        b ≡ valueField form (slot fields 3) →
+        l ≡ valueField form (slot fields 4) →
+        w ≡ valueField form (slot fields 5) →
+        stepLine form (slot fields 0) (slot fields 1) (slot fields 2) b l w n ≡ lineIn table form (take count fields) n
     unfolding lineIn valuesIn
-    line-2 e =
-        let k = names-2 table form e in
-        rw (as-due, e, at 0 (omega arith), at 1 (omega arith), at 2 (omega arith))
+    line-2 e b l w eb el ew =
+        let k = names-three table form e in
+        rw (
+          as-due,
+          eq-eqb table 2 e,
+          ne-eqb table 0 (λ z. omega arith),
+          ne-eqb table 1 (λ z. omega arith),
+          at 0 (omega arith),
+          at 1 (omega arith),
+          at 2 (omega arith),
+          values-at e 3 (omega arith),
+          values-at e 4 (omega arith),
+          values-at e 5 (omega arith),
+          eb,
+          el,
+          ew,
+        )
 
     pub line-3 :
         (table ≡ 0 → ⊥) →

@@ -10,18 +10,19 @@ use borrow.Author.Tests.{leb-true, eqb-true, eqb-false, ne-eqb}
 use lib.Dec.{leb, eqb}
 use lib.ListN.{length}
 use Rattle.types.specs.declared.Refusal.the-variants.{Malformed, OutOfRange, UnknownRule}
-use Rattle.types.specs.declared.Step.the-variants.{Read, Write, Flush}
-use Rattle.types.specs.Types.{stepKind, stepItem, stepMinutes}
-use Rattle.landlord.specs.Calls.{inRange, stepOf}
-use Rattle.landlord.specs.Catalog.{capacityInRange, itemInRange}
+use Rattle.types.specs.declared.Numbers.{Numbers}
+use Rattle.types.specs.declared.Step.the-variants.{Read, Write, Flush, Arrive, Retire}
+use Rattle.types.specs.Types.{numbersFrom, numbersOf, stepOf}
+use Rattle.landlord.specs.Calls.{isItemNumber, inRange}
+use Rattle.landlord.specs.Catalog.{listed, capacityInRange, itemInRange}
 use Rattle.line_fields.specs.declared.Field.{Field}
 use Rattle.line_fields.specs.Fields.{fieldAt, isRule, valueIn, ruleIn, isEmpty, noneEmpty}
 use Rattle.line_fields.proofs.Laws.{and-parts}
 use Rattle.line_fields.proofs.Pieces.{one-empty}
 use Rattle.season_lines.specs.declared.Line.{Line}
 use Rattle.season_lines.specs.declared.Line.the-variants.{Sizes, Item as ItemLine, Step, Act as Placed, Refused}
-use Rattle.season_lines.specs.Lines.{namesIn, shapeThenRange, sizesLine, ruleField, itemFrom, itemLine, stepLine, isActKind, actOf, actLine, valuesIn, lineIn}
-use Rattle.season_lines.proofs.Laws.{sizesShape, itemShape, stepsShape, actsShape, sizesRange, itemsRange, actsRange, names-2, names-3}
+use Rattle.season_lines.specs.Lines.{namesIn, shapeThenRange, sizesLine, ruleField, itemLine, kindUnder, valueField, stepLine, isActKind, actOf, actLine, valuesIn, lineIn}
+use Rattle.season_lines.proofs.Laws.{sizesShape, itemShape, stepsShape, actsShape, sizesRange, itemsRange, actsRange, names-three, names-3}
 
 -- ## Lines that are torn whatever their heading
 
@@ -42,8 +43,8 @@ module _ (table form : ℕ) (fs : List Field) (n : ℕ) where
 -- this line.
 abbrev pub Says : ℕ → ℕ → ℕ → Line → Type 0
 Says table fields n (Sizes k h r) = (table ≡ 0) × (1 ≤ k) × (k ≤ 4096) × (1 ≤ h)
-Says table fields n (ItemLine i b l w) = (table ≡ 1) × (i ≤ 255) × (itemInRange (itemFrom b l w) ≡ true)
-Says table fields n (Step s) = (table ≡ 2) × (3 ≤ fields) × (inRange (stepKind s) (stepItem s) (stepMinutes s) ≡ true)
+Says table fields n (ItemLine i b l w) = (table ≡ 1) × (i ≤ 255) × (itemInRange (listed b l w) ≡ true)
+Says table fields n (Step s) = (table ≡ 2) × (3 ≤ fields) × (inRange (numbersOf s) ≡ true)
 Says table fields n (Placed place act) = (3 ≤ table) × (3 ≤ fields)
 Says table fields n (Refused r) = (r ≡ Malformed n) ⊎ (r ≡ OutOfRange n) ⊎ (r ≡ UnknownRule n)
 
@@ -68,21 +69,31 @@ acts-bounds p kind i e =
     let both = and-parts (leb p 999999 && isActKind kind) (leb i 255) e in
     (leb-true p 999999 (and-parts (leb p 999999) (isActKind kind) (both .0) .0), leb-true i 255 (both .1))
 
--- a step made of values in range is in range as a call
-pub step-range :
-    (kind i m : ℕ) →
-    inRange kind i m ≡ true →
-    (let s = stepOf kind i m in inRange (stepKind s) (stepItem s) (stepMinutes s) ≡ true)
+-- a step made of numbers in range is in range as a call
+pub step-range : (n : Numbers) → inRange n ≡ true → inRange (numbersOf (stepOf n)) ≡ true
 unfolding stepOf
-step-range kind i m e = go (eqb kind 82) (eqb kind 87) (eqb kind 76) e
+step-range n e = go (eqb (n .kind) 82) (eqb (n .kind) 87) (eqb (n .kind) 65) (eqb (n .kind) 81) e
   where
+    item : Bool
+    item = isItemNumber (n .item)
+
     go :
-        (p q r : Bool) →
-        cond p (leb i 255) (cond q (cond (leb i 255) (leb m 1440) false) r) ≡ true →
-        (let s = cond p (Read i) (cond q (Write i m) Flush) in inRange (stepKind s) (stepItem s) (stepMinutes s) ≡ true)
-    go true q r e = e
-    go false true r e = e
-    go false false r e = refl
+        (p q r t : Bool) →
+        cond p item
+        (cond q (item && leb (n .minutes) 1440)
+        (cond r (item && itemInRange (listed (n .blocks) (n .load) (n .write)))
+        (cond t item (eqb (n .kind) 76)))) ≡ true →
+        inRange
+        (numbersOf
+        (cond p (Read (n .item))
+        (cond q (Write (n .item) (n .minutes))
+        (cond r (Arrive (n .item) (n .blocks) (n .load) (n .write))
+        (cond t (Retire (n .item)) Flush))))) ≡ true
+    go true q r t e = e
+    go false true r t e = e
+    go false false true t e = e
+    go false false false true e = e
+    go false false false false e = refl
 
 -- the line of each table
 module _ (table fields n : ℕ) where
@@ -106,15 +117,23 @@ module _ (table fields n : ℕ) where
       judged-says table fields (itemShape i b l w)
       (itemsRange (valueIn i) (valueIn b) (valueIn l) (valueIn w)) (ItemLine (valueIn i) (valueIn b) (valueIn l) (valueIn w)) n
       (λ r.
-      let both = and-parts (leb (valueIn i) 255) (itemInRange (itemFrom (valueIn b) (valueIn l) (valueIn w))) r in
+      let both = and-parts (leb (valueIn i) 255) (itemInRange (listed (valueIn b) (valueIn l) (valueIn w))) r in
       (e, leb-true (valueIn i) 255 (both .0), both .1))
 
-  step-says : (kind item minutes : Field) → table ≡ 2 → 3 ≤ fields → Says table fields n (stepLine kind item minutes n)
+  step-says :
+      (form : ℕ) (kind item minutes blocks load write : Field) →
+      table ≡ 2 →
+      3 ≤ fields →
+      Says table fields n (stepLine form kind item minutes blocks load write n)
   unfolding stepLine
-  step-says kind item minutes e f =
-      judged-says table fields (stepsShape kind (valueIn kind) item minutes)
-      (inRange (valueIn kind) (valueIn item) (valueIn minutes)) (Step (stepOf (valueIn kind) (valueIn item) (valueIn minutes))) n
-      (λ r. (e, f, step-range (valueIn kind) (valueIn item) (valueIn minutes) r))
+  step-says form kind item minutes blocks load write e f =
+      judged-says table fields (stepsShape kind letter item minutes blocks load write) (inRange x) (Step (stepOf x)) n (λ r. (e, f, step-range x r))
+    where
+      letter : ℕ
+      letter = kindUnder form (valueIn kind)
+
+      x : Numbers
+      x = numbersFrom letter (valueIn item) (valueIn minutes) (valueIn blocks) (valueIn load) (valueIn write)
 
   act-says : (place kind item : Field) → 3 ≤ table → 3 ≤ fields → Says table fields n (actLine place kind item n)
   unfolding actLine
@@ -143,7 +162,8 @@ line-says table form fs n = go asDue (eqb table 0) (eqb table 1) (eqb table 2) r
         (cond w
         (cond p (sizesLine (fieldAt fs 0) (fieldAt fs 1) (ruleField form (fieldAt fs 2)) n)
         (cond q (itemLine (fieldAt fs 0) (fieldAt fs 1) (fieldAt fs 2) (fieldAt fs 3) n)
-        (cond r (stepLine (fieldAt fs 0) (fieldAt fs 1) (fieldAt fs 2) n)
+        (cond r
+        (stepLine form (fieldAt fs 0) (fieldAt fs 1) (fieldAt fs 2) (valueField form (fieldAt fs 3)) (valueField form (fieldAt fs 4)) (valueField form (fieldAt fs 5)) n)
         (actLine (fieldAt fs 0) (fieldAt fs 1) (fieldAt fs 2) n))))
         (Refused (Malformed n)))
     go false p q r ew ep eq er = inl refl
@@ -151,7 +171,7 @@ line-says table form fs n = go asDue (eqb table 0) (eqb table 1) (eqb table 2) r
     go true false true r ew ep eq er = item-says table (length fs) n _ _ _ _ (eqb-true table 1 eq)
     go true false false true ew ep eq er =
         let t = eqb-true table 2 er in
-        step-says table (length fs) n _ _ _ t (omega (arith, counted ew, names-2 table form t))
+        step-says table (length fs) n form _ _ _ _ _ _ t (omega (arith, counted ew, names-three table form t))
     go true false false false ew ep eq er =
         let x = eqb-false table 0 ep in
         let y = eqb-false table 1 eq in

@@ -1,14 +1,15 @@
 -- The headings of the tables, and a value line under each heading judged by its fields alone; what a field is, and how a line falls
 -- into fields, is in crates/line_fields/specs/Fields.antt. Nothing here knows a catalogue, a capacity or a place among the tables.
--- Paper 01, 'The text input' and 'When the library says no'. Assumes nothing.
-use mathlib.Core.{Bool.{Bool, cond, _&&_, _||_}, List.{List, [], _∷_}}
+-- Paper 01, 'The text input' and 'When the library says no', and paper 02, 'Three' and 'Six'. Assumes nothing.
+use mathlib.Core.{Bool.{Bool, cond, not, _&&_, _||_}, List.{List, [], _∷_}}
 use Prim.Native.Nat.{ℕ, suc}
 use lib.{ListN.{length, getD}, Dec.{leb, eqb}}
 use Rattle.decimal.specs.Decimal.{textOf, sameText}
-use Rattle.line_fields.specs.{declared.Field.{Field, the-variants.Rule}, Fields.{split, fieldAt, isNumber, isLetter, isDash, isRule, valueIn, ruleIn, isEither, noneEmpty}}
+use Rattle.line_fields.specs.{declared.Field.{Field, the-variants.{Dash, Rule}}, Fields.{split, fieldAt, isNumber, isLetter, isDash, isRule, valueIn, ruleIn, isEither, noneEmpty}}
 use Rattle.season_lines.specs.declared.{Names.{Names, the-variants.{Form, Unknown}}, Line.{Line, the-variants.{Sizes, Item as ItemLine, Step, Act as Placed, Refused}}}
-use Rattle.types.specs.declared.{Act.{Act, the-variants.{Evict, Fetch}}, Deduction.the-variants.WriteFirst, Refusal.the-variants.{Malformed, OutOfRange, UnknownRule}}
-use Rattle.landlord.specs.{Catalog.{Item, itemInRange, capacityInRange}, Calls.{inRange, stepOf}}
+use Rattle.types.specs.declared.{Numbers.Numbers, Act.{Act, the-variants.{Evict, Fetch}}, Deduction.the-variants.WriteFirst, Refusal.the-variants.{Malformed, OutOfRange, UnknownRule}}
+use Rattle.types.specs.Types.{numbersFrom, stepOf}
+use Rattle.landlord.specs.{Catalog.{listed, itemInRange, capacityInRange}, Calls.inRange}
 
 -- ## The headings: "A table is a line of names"
 
@@ -17,7 +18,7 @@ unfoldable pub headings : ℕ → List (List ℕ)
 headings table =
     cond (eqb table 0) (textOf "locker rival" ∷ textOf "locker rival rule" ∷ [])
     (cond (eqb table 1) (textOf "sail blocks load write" ∷ [])
-    (cond (eqb table 2) (textOf "step sail minutes" ∷ [])
+    (cond (eqb table 2) (textOf "step sail minutes" ∷ textOf "step sail minutes blocks load write" ∷ [])
     (textOf "at act sail" ∷ [])))
 
 -- heading `form` of a table, its headings counted from 0; the first one if there is no such heading
@@ -54,30 +55,47 @@ sizesLine k h rule n =
 abbrev pub ruleField : ℕ → Field → Field
 ruleField form f = cond (eqb form 1) f (Rule WriteFirst)
 
-abbrev pub itemFrom : ℕ → ℕ → ℕ → Item
-itemFrom blocks load write = record { blocks = blocks; load = load; write = write }
-
 -- `sail blocks load write`: the sail's number 0 to 255, and an item in range
 unfoldable pub itemLine : Field → Field → Field → Field → ℕ → Line
 itemLine i b l w n =
     shapeThenRange (isNumber i && isNumber b && isNumber l && isNumber w)
-    (leb (valueIn i) 255 && itemInRange (itemFrom (valueIn b) (valueIn l) (valueIn w)))
+    (leb (valueIn i) 255 && itemInRange (listed (valueIn b) (valueIn l) (valueIn w)))
     (ItemLine (valueIn i) (valueIn b) (valueIn l) (valueIn w)) n
 
--- "Minutes is `-` for R; sail and minutes are `-` for L. Nothing else may be `-`."
-unfoldable pub stepShape : ℕ → Field → Field → Bool
-stepShape kind item minutes =
-    cond (eqb kind 82) (isNumber item && isDash minutes)
-    (cond (eqb kind 87) (isNumber item && isNumber minutes)
-    (cond (eqb kind 76) (isDash item && isDash minutes)
-    (isEither item && isEither minutes)))
+-- A kind as the heading takes it: heading 1 has "step A" and "step Q"; "A and Q under the old one are off the tape", and 0 is no kind.
+abbrev pub kindUnder : ℕ → ℕ → ℕ
+kindUnder form kind = cond (eqb form 1) kind (cond (eqb kind 65 || eqb kind 81) 0 kind)
 
--- `step sail minutes`; the ranges are those of a call
-unfoldable pub stepLine : Field → Field → Field → ℕ → Line
-stepLine kind item minutes n =
-    shapeThenRange (isLetter kind && stepShape (valueIn kind) item minutes)
-    (inRange (valueIn kind) (valueIn item) (valueIn minutes))
-    (Step (stepOf (valueIn kind) (valueIn item) (valueIn minutes))) n
+-- a step's numbers as the heading takes them
+abbrev pub numbersUnder : ℕ → Numbers → Numbers
+numbersUnder form n = numbersFrom (kindUnder form (n .kind)) (n .item) (n .minutes) (n .blocks) (n .load) (n .write)
+
+-- one of the three fields behind the minutes: only heading 1 has them, and under the old one there is nothing in them
+abbrev pub valueField : ℕ → Field → Field
+valueField form f = cond (eqb form 1) f Dash
+
+-- R, W, L, A or Q
+abbrev pub isStepKind : ℕ → Bool
+isStepKind kind = eqb kind 82 || eqb kind 87 || eqb kind 76 || eqb kind 65 || eqb kind 81
+
+-- behind a known kind what the step has is a number, and what it lacks is `-`; "after an unknown one each field may be a number or `-`"
+abbrev pub isDue : Bool → Bool → Field → Bool
+isDue known has f = cond known (cond has (isNumber f) (isDash f)) (isEither f)
+
+-- "Minutes is `-` for R; sail and minutes are `-` for L. Nothing else may be `-`", and of the three last only A has any: every step but L
+-- has a sail, W alone has minutes, A alone has the three values.
+unfoldable pub stepShape : ℕ → Field → Field → Field → Field → Field → Bool
+stepShape kind item minutes blocks load write =
+    let known = isStepKind kind in
+    isDue known (not (eqb kind 76)) item && isDue known (eqb kind 87) minutes
+    && isDue known (eqb kind 65) blocks && isDue known (eqb kind 65) load && isDue known (eqb kind 65) write
+
+-- `step sail minutes blocks load write`; the ranges are those of a call
+unfoldable pub stepLine : ℕ → Field → Field → Field → Field → Field → Field → ℕ → Line
+stepLine form kind item minutes blocks load write n =
+    let letter = kindUnder form (valueIn kind) in
+    let numbers = numbersFrom letter (valueIn item) (valueIn minutes) (valueIn blocks) (valueIn load) (valueIn write) in
+    shapeThenRange (isLetter kind && stepShape letter item minutes blocks load write) (inRange numbers) (Step (stepOf numbers)) n
 
 -- D or F
 abbrev pub isActKind : ℕ → Bool
@@ -101,7 +119,7 @@ valuesIn table form fs n =
     let c = fieldAt fs 2 in
     cond (eqb table 0) (sizesLine a b (ruleField form c) n)
     (cond (eqb table 1) (itemLine a b c (fieldAt fs 3) n)
-    (cond (eqb table 2) (stepLine a b c n)
+    (cond (eqb table 2) (stepLine form a b c (valueField form (fieldAt fs 3)) (valueField form (fieldAt fs 4)) (valueField form (fieldAt fs 5)) n)
     (actLine a b c n)))
 
 -- "lines of values in that order, split by single spaces": as many fields as the heading has names, none of them empty; then its own rules

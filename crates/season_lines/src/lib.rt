@@ -2,17 +2,18 @@
 // knows a catalogue or a place among the tables.
 ghost use mathlib.Core.Path.{_≡_};
 ghost use mathlib.Core.Bool.{cond, _&&_};
+ghost use mathlib.Core.List.{[], _∷_};
 ghost use Prim.Native.Nat.{_≤_};
 ghost use lib.ListN.{take};
-ghost use Rattle.landlord.specs.Catalog.{itemInRange, capacityInRange};
-ghost use Rattle.landlord.specs.Calls.{stepOf};
+ghost use Rattle.landlord.specs.Catalog.{capacityInRange};
 ghost use Rattle.line_fields.specs.Fields.{isNumber, isEither};
 ghost use Rattle.season_lines.specs.declared.Names.the-variants.{Form, Unknown};
-ghost use Rattle.season_lines.specs.Lines.{ruleField, namesIn, formOf, itemFrom, stepShape, isActKind, actOf, sizesLine, itemLine, stepLine, actLine, lineIn};
+ghost use Rattle.season_lines.specs.Lines.{ruleField, valueField, namesIn, formAmong, formOf, kindUnder, isStepKind, isDue, stepShape, isActKind, actOf, sizesLine, itemLine, stepLine, actLine, lineIn};
 ghost use Rattle.season_lines.specs.Inner.{Judgeable};
 use line_fields::Field;
 use types::Act;
 use types::Deduction;
+use types::Numbers;
 use types::Refusal;
 use types::Step;
 
@@ -66,11 +67,11 @@ fn sizes_line(k: Field, h: Field, rule: Field, line: u32) -> Line
     let a = line_fields::value_in(k);
     let b = line_fields::value_in(h);
     let sized = are_sizes(a, b);
-    let known = line_fields::is_rule(rule);
+    let worded = line_fields::is_rule(rule);
     if !sized {
         return Line::Refused(Refusal::OutOfRange { line: line });
     }
-    if !known {
+    if !worded {
         return Line::Refused(Refusal::UnknownRule { line: line });
     }
     Line::Sizes {
@@ -78,13 +79,6 @@ fn sizes_line(k: Field, h: Field, rule: Field, line: u32) -> Line
         h: b,
         rule: line_fields::rule_in(rule),
     }
-}
-
-// Whether an item's blocks and costs are in their ranges.
-fn is_item(blocks: u32, load: u32, write: u32) -> bool
-    ensures { λ r. ⌜ r ≡ itemInRange (itemFrom blocks load write) ⌝ }
-{
-    1 <= blocks && blocks <= 16 && load <= 65535 && write <= 65535
 }
 
 // A line of `sail blocks load write`.
@@ -102,7 +96,7 @@ fn item_line(number: Field, blocks: Field, load: Field, write: Field, line: u32)
     let b = line_fields::value_in(blocks);
     let l = line_fields::value_in(load);
     let w = line_fields::value_in(write);
-    if 255 < i || !is_item(b, l, w) {
+    if 255 < i || !landlord::item_in_range(b, l, w) {
         return Line::Refused(Refusal::OutOfRange { line: line });
     }
     Line::Item {
@@ -113,52 +107,92 @@ fn item_line(number: Field, blocks: Field, load: Field, write: Field, line: u32)
     }
 }
 
+// A step's kind as a heading takes it: under the old heading A and Q are no kinds.
+pub fn kind_under(form: u32, kind: u32) -> u32
+    ensures { λ r. ⌜ r ≡ kindUnder form kind ⌝ }
+{
+    if form != 1 {
+        if kind == 65 || kind == 81 {
+            return 0;
+        }
+    }
+    kind
+}
+
+fn is_step(kind: u32) -> bool
+    ensures { λ r. ⌜ r ≡ isStepKind kind ⌝ }
+{
+    if kind == 82 || kind == 87 || kind == 76 || kind == 65 || kind == 81 {
+        return true;
+    }
+    false
+}
+
+// Whether a field is as it is due: behind a known kind a number where the step has one and else `-`, behind another a number or `-`.
+fn is_due(known: bool, has: bool, f: Field) -> bool
+    ensures { λ r. ⌜ r ≡ isDue known has f ⌝ }
+{
+    if !known {
+        return line_fields::is_either(f);
+    }
+    if has {
+        return line_fields::is_number(f);
+    }
+    line_fields::is_dash(f)
+}
+
 // Whether the fields behind a step's kind are numbers and `-` where they are due.
-fn step_shaped(kind: u32, item: Field, minutes: Field) -> bool
-    ensures { λ r. ⌜ r ≡ stepShape kind item minutes ⌝ }
+fn step_shaped(
+    kind: u32,
+    item: Field,
+    minutes: Field,
+    blocks: Field,
+    load: Field,
+    write: Field,
+) -> bool
+    ensures { λ r. ⌜ r ≡ stepShape kind item minutes blocks load write ⌝ }
 {
-    if kind == 82 {
-        return line_fields::is_number(item) && line_fields::is_dash(minutes);
+    let known = is_step(kind);
+    if !is_due(known, kind != 76, item)
+        || !is_due(known, kind == 87, minutes)
+        || !is_due(known, kind == 65, blocks)
+        || !is_due(known, kind == 65, load)
+        || !is_due(known, kind == 65, write)
+    {
+        return false;
     }
-    if kind == 87 {
-        return line_fields::is_number(item) && line_fields::is_number(minutes);
-    }
-    if kind == 76 {
-        return line_fields::is_dash(item) && line_fields::is_dash(minutes);
-    }
-    line_fields::is_either(item) && line_fields::is_either(minutes)
+    true
 }
 
-// The step of a kind that is in range; values that it lacks are not looked at.
-fn step_of(kind: u32, item: u32, minutes: u32) -> Step
-    ensures { λ r. ⌜ r ≡ stepOf kind item minutes ⌝ }
+// A line of `step sail minutes blocks load write`, or of the old heading, which has nothing behind the minutes.
+fn step_line(
+    form: u32,
+    kind: Field,
+    item: Field,
+    minutes: Field,
+    blocks: Field,
+    load: Field,
+    write: Field,
+    line: u32,
+) -> Line
+    ensures { λ r. ⌜ r ≡ stepLine form kind item minutes blocks load write line ⌝ }
 {
-    if kind == 82 {
-        return Step::Read { item: item };
-    }
-    if kind == 87 {
-        return Step::Write {
-            item: item,
-            minutes: minutes,
-        };
-    }
-    Step::Flush
-}
-
-// A line of `step sail minutes`.
-pub fn step_line(kind: Field, item: Field, minutes: Field, line: u32) -> Line
-    ensures { λ r. ⌜ r ≡ stepLine kind item minutes line ⌝ }
-{
-    let letter = line_fields::value_in(kind);
-    if !line_fields::is_letter(kind) || !step_shaped(letter, item, minutes) {
+    let letter = kind_under(form, line_fields::value_in(kind));
+    if !line_fields::is_letter(kind) || !step_shaped(letter, item, minutes, blocks, load, write) {
         return Line::Refused(Refusal::Malformed { line: line });
     }
-    let i = line_fields::value_in(item);
-    let m = line_fields::value_in(minutes);
-    if !landlord::in_range(letter, i, m) {
+    let n = Numbers {
+        kind: letter,
+        item: line_fields::value_in(item),
+        minutes: line_fields::value_in(minutes),
+        blocks: line_fields::value_in(blocks),
+        load: line_fields::value_in(load),
+        write: line_fields::value_in(write),
+    };
+    if !landlord::in_range(n) {
         return Line::Refused(Refusal::OutOfRange { line: line });
     }
-    Line::Step(step_of(letter, i, m))
+    Line::Step(types::step_of(n))
 }
 
 fn is_act(kind: u32) -> bool
@@ -218,14 +252,14 @@ fn the_form(right: bool) -> Names
     Names::Unknown
 }
 
-// Which of the first table's two headings a line is.
-fn sizes_form(line: &[u8]) -> Names
-    ensures { λ r. ⌜ r ≡ formOf 0 (now (line .entry)) ⌝ }
+// Which of a table's two headings a line is.
+fn two_forms(line: &[u8], first: &[u8], second: &[u8]) -> Names
+    ensures { λ r. ⌜ r ≡ formAmong 0 (now (first .entry) ∷ now (second .entry) ∷ []) (now (line .entry)) ⌝ }
 {
-    if decimal::same(line, b"locker rival") {
+    if decimal::same(line, first) {
         return Names::Form(0);
     }
-    if decimal::same(line, b"locker rival rule") {
+    if decimal::same(line, second) {
         return Names::Form(1);
     }
     Names::Unknown
@@ -236,13 +270,17 @@ pub fn form_of(table: u32, line: &[u8]) -> Names
     ensures { λ r. ⌜ r ≡ formOf table (now (line .entry)) ⌝ }
 {
     if table == 0 {
-        return sizes_form(line);
+        return two_forms(line, b"locker rival", b"locker rival rule");
     }
     if table == 1 {
         return the_form(decimal::same(line, b"sail blocks load write"));
     }
     if table == 2 {
-        return the_form(decimal::same(line, b"step sail minutes"));
+        return two_forms(
+            line,
+            b"step sail minutes",
+            b"step sail minutes blocks load write",
+        );
     }
     the_form(decimal::same(line, b"at act sail"))
 }
@@ -250,7 +288,7 @@ pub fn form_of(table: u32, line: &[u8]) -> Names
 // How many names a heading of a table has.
 pub fn names_in(table: u32, form: u32) -> usize
     ensures { λ r. ⌜ r ≡ namesIn table form ⌝ }
-    ensures { λ r. ⌜ r ≤ 4 ⌝ }
+    ensures { λ r. ⌜ r ≤ 6 ⌝ }
 {
     if table == 0 {
         if form == 1 {
@@ -260,6 +298,11 @@ pub fn names_in(table: u32, form: u32) -> usize
     }
     if table == 1 {
         return 4;
+    }
+    if table == 2 {
+        if form == 1 {
+            return 6;
+        }
     }
     3
 }
@@ -274,8 +317,18 @@ fn rule_field(form: u32, f: Field) -> Field
     Field::Rule(Deduction::WriteFirst)
 }
 
+// One of the three fields behind a step's minutes: the old heading has none of them, and without it `-` is meant.
+fn value_field(form: u32, f: Field) -> Field
+    ensures { λ r. ⌜ r ≡ valueField form f ⌝ }
+{
+    if form == 1 {
+        return f;
+    }
+    Field::Dash
+}
+
 // A value line under a heading of a table: as many fields as names, then its shape, then its ranges.
-pub fn line_in(table: u32, form: u32, fields: [Field; 4], count: usize, line: u32) -> Line
+pub fn line_in(table: u32, form: u32, fields: [Field; 6], count: usize, line: u32) -> Line
     requires { ⌜ Judgeable fields count ⌝ }
     ensures { λ r. ⌜ r ≡ lineIn table form (take count fields) line ⌝ }
 {
@@ -292,7 +345,10 @@ pub fn line_in(table: u32, form: u32, fields: [Field; 4], count: usize, line: u3
         return item_line(a, b, c, fields[3], line);
     }
     if table == 2 {
-        return step_line(a, b, c, line);
+        let blocks = value_field(form, fields[3]);
+        let load = value_field(form, fields[4]);
+        let write = value_field(form, fields[5]);
+        return step_line(form, a, b, c, blocks, load, write, line);
     }
     act_line(a, b, c, line)
 }

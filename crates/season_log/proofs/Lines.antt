@@ -6,7 +6,7 @@ use mathlib.Core.Bool.{Bool, true, false, cond, not, _&&_, _||_, false≢true}
 use mathlib.Core.List.{List, [], _∷_, _++_, map, append-assoc, append-cancel-right}
 use Prim.Native.Nat.{ℕ, _≤_, _<_}
 use native.Mathlib.Omega.{arith}
-use borrow.Author.Tests.{leb-true, eqb-true, eq-eqb, ne-eqb, not-true}
+use borrow.Author.Tests.{leb-true, eqb-true, eqb-false, eq-eqb, ne-eqb, not-true}
 use lib.Dec.{leb, eqb}
 use lib.ListN.{length, getD}
 use Rattle.decimal.specs.Decimal.{sameText, allDigits, leadingZero, shaped, valueOf, digitsOf}
@@ -15,18 +15,20 @@ use Rattle.types.specs.declared.Deduction.the-variants.{WriteFirst, LoadFirst}
 use Rattle.types.specs.declared.Refusal.{Refusal}
 use Rattle.types.specs.declared.Refusal.the-variants.{Malformed}
 use Rattle.types.specs.declared.Step.{Step}
-use Rattle.types.specs.declared.Step.the-variants.{Read, Write, Flush}
-use Rattle.types.specs.Types.{stepKind, stepItem, stepMinutes}
-use Rattle.landlord.specs.Calls.{inRange, stepOf}
+use Rattle.types.specs.declared.Step.the-variants.{Read, Write, Flush, Arrive, Retire}
+use Rattle.types.specs.declared.Numbers.{Numbers}
+use Rattle.types.specs.Types.{numbersFrom, numbersOf, stepOf}
+use Rattle.landlord.specs.Catalog.{listed, itemInRange}
+use Rattle.landlord.specs.Calls.{isItemNumber, inRange}
 use Rattle.line_fields.specs.declared.Field.{Field}
 use Rattle.line_fields.specs.declared.Field.the-variants.{Number, Letter, Dash, Word, Empty, Rule}
 use Rattle.season_lines.specs.declared.Line.the-variants.{Step as StepLine, Refused}
-use Rattle.line_fields.specs.Fields.{onto, split, markOf, ruleWord, ruleOrWord, fieldOf, allFields, fieldsOf, fieldAt, isNumber, isLetter, isDash, valueIn, noneEmpty, isEither}
-use Rattle.season_lines.specs.Lines.{namesIn, shapeThenRange, stepShape, stepLine, valuesIn, lineIn}
+use Rattle.line_fields.specs.Fields.{onto, split, markOf, ruleWord, ruleOrWord, fieldOf, allFields, fieldsOf, fieldAt, isNumber, isLetter, isDash, valueIn, noneEmpty}
+use Rattle.season_lines.specs.Lines.{namesIn, shapeThenRange, kindUnder, numbersUnder, valueField, isStepKind, isDue, stepShape, stepLine, valuesIn, lineIn}
 use Rattle.line_fields.proofs.Laws.{and-parts}
-use Rattle.season_lines.proofs.Laws.{names-2}
+use Rattle.season_lines.proofs.Laws.{names-2, names-values}
 use Rattle.line_fields.proofs.Pieces.{split-some}
-use Rattle.season_lines.proofs.Pieces.{line-says}
+use Rattle.season_lines.proofs.Pieces.{step-range}
 use Rattle.season_log.specs.Log.{stepText}
 
 -- ## Texts joined, and a text split
@@ -191,23 +193,53 @@ dash-field = refl
 
 -- ## A step's fields, and its line
 
-abbrev pub ranged : Step → Bool
-ranged s = inRange (stepKind s) (stepItem s) (stepMinutes s)
+-- whether a step may be in a log under a heading
+abbrev pub ranged : ℕ → Step → Bool
+ranged form s = inRange (numbersUnder form (numbersOf s))
 
-abbrev stepFields : Step → List Field
-stepFields (Read i) = Letter 82 ∷ Number i ∷ Dash ∷ []
-stepFields (Write i m) = Letter 87 ∷ Number i ∷ Number m ∷ []
-stepFields Flush = Letter 76 ∷ Dash ∷ Dash ∷ []
+-- a value that a step has, or `-`
+abbrev shown : Bool → ℕ → Field
+shown has v = cond has (Number v) Dash
+
+-- the three last fields, if the heading has them
+abbrev lastFields : Bool → Field → Field → Field → List Field
+lastFields true b l w = b ∷ l ∷ w ∷ []
+lastFields false b l w = []
+
+-- the fields that a step's numbers make
+abbrev fieldsUnder : Bool → Numbers → List Field
+fieldsUnder t n =
+    let arrives = eqb (n .kind) 65 in
+    Letter (n .kind) ∷ shown (not (eqb (n .kind) 76)) (n .item) ∷ shown (eqb (n .kind) 87) (n .minutes)
+    ∷ lastFields t (shown arrives (n .blocks)) (shown arrives (n .load)) (shown arrives (n .write))
+
+abbrev stepFields : ℕ → Step → List Field
+stepFields form s = fieldsUnder (eqb form 1) (numbersOf s)
 
 -- a step's line without its line feed
-abbrev pub lineOf : Step → List ℕ
-lineOf s = joined 32 (map fieldText (stepFields s))
+abbrev pub lineOf : ℕ → Step → List ℕ
+lineOf form s = joined 32 (map fieldText (stepFields form s))
 
-pub step-line : (s : Step) → stepText s ≡ lineOf s ++ (10 ∷ [])
+pub step-line : (form : ℕ) (s : Step) → ranged form s ≡ true → stepText form s ≡ lineOf form s ++ (10 ∷ [])
 unfolding stepText joined
-step-line (Read i) = ap (λ (l : List ℕ). 82 ∷ 32 ∷ l) (sym (append-assoc (digitsOf i) (32 ∷ 45 ∷ []) (10 ∷ [])))
-step-line (Write i m) = ap (λ (l : List ℕ). 87 ∷ 32 ∷ l) (sym (append-assoc (digitsOf i) (32 ∷ digitsOf m) (10 ∷ [])))
-step-line Flush = refl
+step-line form s r = go (eqb form 1) refl s r
+  where
+    go :
+        (t : Bool) →
+        eqb form 1 ≡ t →
+        (s : Step) →
+        ranged form s ≡ true →
+        stepText form s ≡ joined 32 (map fieldText (fieldsUnder t (numbersOf s))) ++ (10 ∷ [])
+    go true e (Read i) r = rw e (simp append-assoc)
+    go true e (Write i m) r = rw e (simp append-assoc)
+    go true e Flush r = rw e
+    go true e (Arrive i b l w) r = simp append-assoc
+    go true e (Retire i) r = rw e (simp append-assoc)
+    go false e (Read i) r = rw e (simp append-assoc)
+    go false e (Write i m) r = rw e (simp append-assoc)
+    go false e Flush r = rw e
+    go false e (Arrive i b l w) r = absurd (false≢true (rw e at r))
+    go false e (Retire i) r = absurd (false≢true (rw e at r))
 
 -- neither a space nor a line feed is in its texts
 digits-lack : (b : ℕ) (s : List ℕ) → b < 48 → allDigits s ≡ true → lacks b s ≡ true
@@ -225,50 +257,91 @@ byte-lacks : (b x : ℕ) → b < x → lacks b (x ∷ []) ≡ true
 unfolding lacks
 byte-lacks b x h = rw (ne-eqb x b (λ q. omega arith))
 
-texts-lack : (b : ℕ) (s : Step) → b < 45 → allLack b (map fieldText (stepFields s)) ≡ true
-unfolding allLack
-texts-lack b (Read i) h = rw (byte-lacks b 82 (omega arith), number-lacks b i h, byte-lacks b 45 h)
-texts-lack b (Write i m) h = rw (byte-lacks b 87 (omega arith), number-lacks b i h, number-lacks b m h)
-texts-lack b Flush h = rw (byte-lacks b 76 (omega arith), byte-lacks b 45 h)
+shown-lacks : (b : ℕ) (has : Bool) (v : ℕ) → b < 45 → lacks b (fieldText (shown has v)) ≡ true
+shown-lacks b true v h = number-lacks b v h
+shown-lacks b false v h = byte-lacks b 45 h
 
-pub line-lacks : (s : Step) → lacks 10 (lineOf s) ≡ true
-line-lacks s = lacks-joined 10 32 (map fieldText (stepFields s)) (λ e. omega arith) (texts-lack 10 s (omega arith))
+-- a step's letter is a capital one
+kind-large : (s : Step) → 65 ≤ numbersOf s .kind
+kind-large (Read i) = omega arith
+kind-large (Write i m) = omega arith
+kind-large Flush = omega arith
+kind-large (Arrive i b l w) = omega arith
+kind-large (Retire i) = omega arith
+
+texts-lack : (b : ℕ) (t : Bool) (n : Numbers) → b < 45 → 65 ≤ n .kind → allLack b (map fieldText (fieldsUnder t n)) ≡ true
+unfolding allLack
+texts-lack b true n h k =
+    rw (
+      byte-lacks b (n .kind) (omega arith),
+      shown-lacks b (not (eqb (n .kind) 76)) (n .item) h,
+      shown-lacks b (eqb (n .kind) 87) (n .minutes) h,
+      shown-lacks b (eqb (n .kind) 65) (n .blocks) h,
+      shown-lacks b (eqb (n .kind) 65) (n .load) h,
+      shown-lacks b (eqb (n .kind) 65) (n .write) h,
+    )
+texts-lack b false n h k =
+    rw (
+      byte-lacks b (n .kind) (omega arith),
+      shown-lacks b (not (eqb (n .kind) 76)) (n .item) h,
+      shown-lacks b (eqb (n .kind) 87) (n .minutes) h,
+    )
+
+pub line-lacks : (form : ℕ) (s : Step) → lacks 10 (lineOf form s) ≡ true
+line-lacks form s =
+    lacks-joined 10 32 (map fieldText (stepFields form s)) (λ e. omega arith) (texts-lack 10 (eqb form 1) (numbersOf s) (omega arith) (kind-large s))
 
 -- the fields of its line are those of the step
-kind-field : (s : Step) → fieldOf (stepKind s ∷ []) ≡ Letter (stepKind s)
+kind-field : (s : Step) → fieldOf (numbersOf s .kind ∷ []) ≡ Letter (numbersOf s .kind)
 unfolding fieldOf shaped allDigits leadingZero
 kind-field (Read i) = refl
 kind-field (Write i m) = refl
 kind-field Flush = refl
+kind-field (Arrive i b l w) = refl
+kind-field (Retire i) = refl
 
-texts-fields : (s : Step) → allFields (map fieldText (stepFields s)) ≡ stepFields s
+shown-field : (has : Bool) (v : ℕ) → fieldOf (fieldText (shown has v)) ≡ shown has v
+shown-field true v = number-field v
+shown-field false v = dash-field
+
+texts-fields :
+    (t : Bool) (n : Numbers) → fieldOf (n .kind ∷ []) ≡ Letter (n .kind) → allFields (map fieldText (fieldsUnder t n)) ≡ fieldsUnder t n
 unfolding allFields
-texts-fields (Read i) = rw (kind-field (Read i), number-field i, dash-field)
-texts-fields (Write i m) = rw (kind-field (Write i m), number-field i, number-field m)
-texts-fields Flush = rw (kind-field Flush, dash-field)
+texts-fields true n k = rw k (simp shown-field)
+texts-fields false n k = rw k (simp shown-field)
 
-line-fields : (s : Step) → fieldsOf (lineOf s) ≡ stepFields s
-line-fields s =
-    ap allFields (split-joined 32 (map fieldText (stepFields s)) (some s) (texts-lack 32 s (omega arith))) ∙ texts-fields s
-  where
-    some : (s : Step) → 1 ≤ length (map fieldText (stepFields s))
-    some (Read i) = omega arith
-    some (Write i m) = omega arith
-    some Flush = omega arith
+line-fields : (form : ℕ) (s : Step) → fieldsOf (lineOf form s) ≡ stepFields form s
+line-fields form s =
+    ap allFields
+    (split-joined 32 (map fieldText (stepFields form s)) (omega arith) (texts-lack 32 (eqb form 1) (numbersOf s) (omega arith) (kind-large s)))
+    ∙ texts-fields (eqb form 1) (numbersOf s) (kind-field s)
 
-step-plain : (s : Step) → allPlain (stepFields s) ≡ true
+shown-plain : (has : Bool) (v : ℕ) → plain (shown has v) ≡ true
+shown-plain true v = refl
+shown-plain false v = refl
+
+fields-plain : (t : Bool) (n : Numbers) → allPlain (fieldsUnder t n) ≡ true
 unfolding allPlain
-step-plain (Read i) = refl
-step-plain (Write i m) = refl
-step-plain Flush = refl
+fields-plain true n = simp shown-plain
+fields-plain false n = simp shown-plain
 
 -- ## A line of a step's fields
 
-fields-step : (s : Step) (n : ℕ) → ranged s ≡ true → lineIn 2 0 (stepFields s) n ≡ StepLine s
+fields-step : (form : ℕ) (s : Step) (n : ℕ) → ranged form s ≡ true → lineIn 2 form (stepFields form s) n ≡ StepLine s
 unfolding lineIn valuesIn noneEmpty stepLine stepShape stepOf
-fields-step (Read i) n r = rw (names-2 2 0 refl, r)
-fields-step (Write i m) n r = rw (names-2 2 0 refl, r)
-fields-step Flush n r = rw (names-2 2 0 refl)
+fields-step form s n r = go (eqb form 1) refl s r
+  where
+    go : (t : Bool) → eqb form 1 ≡ t → (s : Step) → ranged form s ≡ true → lineIn 2 form (fieldsUnder t (numbersOf s)) n ≡ StepLine s
+    go true e (Read i) r = rw (names-values 2 form refl (eqb-true form 1 e), e, rw e at r)
+    go true e (Write i m) r = rw (names-values 2 form refl (eqb-true form 1 e), e, rw e at r)
+    go true e Flush r = rw (names-values 2 form refl (eqb-true form 1 e), e)
+    go true e (Arrive i b l w) r = rw (names-values 2 form refl (eqb-true form 1 e), e, rw e at r)
+    go true e (Retire i) r = rw (names-values 2 form refl (eqb-true form 1 e), e, rw e at r)
+    go false e (Read i) r = rw (names-2 2 form refl (eqb-false form 1 e), e, rw e at r)
+    go false e (Write i m) r = rw (names-2 2 form refl (eqb-false form 1 e), e, rw e at r)
+    go false e Flush r = rw (names-2 2 form refl (eqb-false form 1 e), e)
+    go false e (Arrive i b l w) r = absurd (false≢true (rw e at r))
+    go false e (Retire i) r = absurd (false≢true (rw e at r))
 
 -- and a line that is a step has that step's fields
 letter-is : (f : Field) → isLetter f ≡ true → f ≡ Letter (valueIn f)
@@ -279,76 +352,156 @@ letter-is Word h = absurd (false≢true h)
 letter-is Empty h = absurd (false≢true h)
 letter-is (Rule r) h = absurd (false≢true h)
 
-number-is : (f : Field) → isNumber f ≡ true → f ≡ Number (valueIn f)
-number-is (Number v) h = refl
-number-is (Letter b) h = absurd (false≢true h)
-number-is Dash h = absurd (false≢true h)
-number-is Word h = absurd (false≢true h)
-number-is Empty h = absurd (false≢true h)
-number-is (Rule r) h = absurd (false≢true h)
+due-shown : (has : Bool) (f : Field) → isDue true has f ≡ true → f ≡ shown has (valueIn f)
+due-shown true (Number v) h = refl
+due-shown true (Letter b) h = absurd (false≢true h)
+due-shown true Dash h = absurd (false≢true h)
+due-shown true Word h = absurd (false≢true h)
+due-shown true Empty h = absurd (false≢true h)
+due-shown true (Rule r) h = absurd (false≢true h)
+due-shown false (Number v) h = absurd (false≢true h)
+due-shown false (Letter b) h = absurd (false≢true h)
+due-shown false Dash h = refl
+due-shown false Word h = absurd (false≢true h)
+due-shown false Empty h = absurd (false≢true h)
+due-shown false (Rule r) h = absurd (false≢true h)
 
-dash-is : (f : Field) → isDash f ≡ true → f ≡ Dash
-dash-is (Number v) h = absurd (false≢true h)
-dash-is (Letter b) h = absurd (false≢true h)
-dash-is Dash h = refl
-dash-is Word h = absurd (false≢true h)
-dash-is Empty h = absurd (false≢true h)
-dash-is (Rule r) h = absurd (false≢true h)
+-- what numbers in range are: one of five kinds
+module _ (P : Numbers → Type 0) where
+  pub by-kind :
+      (n : Numbers) →
+      inRange n ≡ true →
+      (n .kind ≡ 82 → P n) →
+      (n .kind ≡ 87 → P n) →
+      (n .kind ≡ 65 → P n) →
+      (n .kind ≡ 81 → P n) →
+      (n .kind ≡ 76 → P n) →
+      P n
+  by-kind n e r w a q l = go (eqb (n .kind) 82) (eqb (n .kind) 87) (eqb (n .kind) 65) (eqb (n .kind) 81) refl refl refl refl e
+    where
+      item : Bool
+      item = isItemNumber (n .item)
 
--- by its kind
-kind-fields :
-    (b : ℕ) (f g : Field) →
-    stepShape b f g ≡ true →
-    inRange b (valueIn f) (valueIn g) ≡ true →
-    Letter b ∷ f ∷ g ∷ [] ≡ stepFields (stepOf b (valueIn f) (valueIn g))
-unfolding stepShape stepOf
-kind-fields b f g h r = go (eqb b 82) (eqb b 87) (eqb b 76) refl refl refl h r
+      go :
+          (p q' r' t : Bool) →
+          eqb (n .kind) 82 ≡ p →
+          eqb (n .kind) 87 ≡ q' →
+          eqb (n .kind) 65 ≡ r' →
+          eqb (n .kind) 81 ≡ t →
+          cond p item
+          (cond q' (item && leb (n .minutes) 1440)
+          (cond r' (item && itemInRange (listed (n .blocks) (n .load) (n .write)))
+          (cond t item (eqb (n .kind) 76)))) ≡ true →
+          P n
+      go true q' r' t ep eq er et e = r (eqb-true (n .kind) 82 ep)
+      go false true r' t ep eq er et e = w (eqb-true (n .kind) 87 eq)
+      go false false true t ep eq er et e = a (eqb-true (n .kind) 65 er)
+      go false false false true ep eq er et e = q (eqb-true (n .kind) 81 et)
+      go false false false false ep eq er et e = l (eqb-true (n .kind) 76 e)
+
+range-known : (n : Numbers) → inRange n ≡ true → isStepKind (n .kind) ≡ true
+range-known n e = by-kind (λ m. isStepKind (m .kind) ≡ true) n e (λ k. rw k) (λ k. rw k) (λ k. rw k) (λ k. rw k) (λ k. rw k)
+
+-- the step that they mean has the same fields
+same-fields : (t : Bool) (n : Numbers) → inRange n ≡ true → fieldsUnder t n ≡ fieldsUnder t (numbersOf (stepOf n))
+unfolding stepOf
+same-fields t n e =
+    by-kind (λ m. fieldsUnder t m ≡ fieldsUnder t (numbersOf (stepOf m))) n e (λ k. rw k) (λ k. rw k) (λ k. rw k) (λ k. rw k) (λ k. rw k)
+
+same-kind : (n : Numbers) → inRange n ≡ true → numbersOf (stepOf n) .kind ≡ n .kind
+unfolding stepOf
+same-kind n e =
+    by-kind (λ m. numbersOf (stepOf m) .kind ≡ m .kind) n e (λ k. rw k) (λ k. rw k) (λ k. rw k) (λ k. rw k) (λ k. rw k)
+
+-- ## Numbers under a heading
+
+-- a kind in range is kept
+pub kind-kept : (form : ℕ) (n : Numbers) → inRange (numbersUnder form n) ≡ true → kindUnder form (n .kind) ≡ n .kind
+kind-kept form n r = go (eqb form 1) (eqb (n .kind) 65 || eqb (n .kind) 81) r
   where
     go :
-        (p q t : Bool) →
-        eqb b 82 ≡ p →
-        eqb b 87 ≡ q →
-        eqb b 76 ≡ t →
-        cond p (isNumber f && isDash g) (cond q (isNumber f && isNumber g) (cond t (isDash f && isDash g) (isEither f && isEither g))) ≡ true →
-        cond p (leb (valueIn f) 255) (cond q (cond (leb (valueIn f) 255) (leb (valueIn g) 1440) false) t) ≡ true →
-        Letter b ∷ f ∷ g ∷ [] ≡ stepFields (cond p (Read (valueIn f)) (cond q (Write (valueIn f) (valueIn g)) Flush))
-    go true q t ep eq et h r =
-        let both = and-parts (isNumber f) (isDash g) h in
-        (λ i. Letter (eqb-true b 82 ep i) ∷ number-is f (both .0) i ∷ dash-is g (both .1) i ∷ [])
-    go false true t ep eq et h r =
-        let both = and-parts (isNumber f) (isNumber g) h in
-        (λ i. Letter (eqb-true b 87 eq i) ∷ number-is f (both .0) i ∷ number-is g (both .1) i ∷ [])
-    go false false true ep eq et h r =
-        let both = and-parts (isDash f) (isDash g) h in
-        (λ i. Letter (eqb-true b 76 et i) ∷ dash-is f (both .0) i ∷ dash-is g (both .1) i ∷ [])
-    go false false false ep eq et h r = absurd (false≢true r)
+        (a b : Bool) →
+        inRange (numbersFrom (cond a (n .kind) (cond b 0 (n .kind))) (n .item) (n .minutes) (n .blocks) (n .load) (n .write)) ≡ true →
+        cond a (n .kind) (cond b 0 (n .kind)) ≡ n .kind
+    go true b r = refl
+    go false true r = absurd (false≢true r)
+    go false false r = refl
+
+-- a step that numbers in range under a heading mean may be in its log
+pub step-ranged : (form : ℕ) (n : Numbers) → inRange (numbersUnder form n) ≡ true → ranged form (stepOf (numbersUnder form n)) ≡ true
+step-ranged form n r =
+    let x = numbersUnder form n in
+    let s = stepOf x in
+    let kind : numbersOf s .kind ≡ n .kind = same-kind x r ∙ kind-kept form n r in
+    let kept : kindUnder form (numbersOf s .kind) ≡ numbersOf s .kind = ap (kindUnder form) kind ∙ kind-kept form n r ∙ sym kind in
+    ap
+    (λ (k : ℕ). inRange (numbersFrom k (numbersOf s .item) (numbersOf s .minutes) (numbersOf s .blocks) (numbersOf s .load) (numbersOf s .write))) kept
+    ∙ step-range x r
 
 -- a refusal is no step
 pub no-step : (r : Refusal) (s : Step) → Refused r ≡ StepLine s → ⊥
 no-step r s e = let z : _≡_ {A = ℕ} 0 1 = cc in omega arith
 
-three-fields : (k f g : Field) (n : ℕ) (s : Step) → stepLine k f g n ≡ StepLine s → k ∷ f ∷ g ∷ [] ≡ stepFields s
-unfolding stepLine
-three-fields k f g n s e =
-    go (isLetter k) (stepShape (valueIn k) f g) (inRange (valueIn k) (valueIn f) (valueIn g)) refl refl refl e
-  where
-    go :
-        (a b c : Bool) →
-        isLetter k ≡ a →
-        stepShape (valueIn k) f g ≡ b →
-        inRange (valueIn k) (valueIn f) (valueIn g) ≡ c →
-        shapeThenRange (a && b) c (StepLine (stepOf (valueIn k) (valueIn f) (valueIn g))) n ≡ StepLine s →
-        k ∷ f ∷ g ∷ [] ≡ stepFields s
-    go true true true ea eb ec e =
-        let same : stepOf (valueIn k) (valueIn f) (valueIn g) ≡ s = cc in
-        ap (λ (x : Field). x ∷ f ∷ g ∷ []) (letter-is k ea) ∙ kind-fields (valueIn k) f g eb ec ∙ ap stepFields same
-    go true true false ea eb ec e = absurd (no-step _ s e)
-    go true false c ea eb ec e = absurd (no-step _ s e)
-    go false b c ea eb ec e = absurd (no-step _ s e)
+five-parts :
+    (p q r s t : Bool) → (p && q && r && s && t) ≡ true → (p ≡ true) × (q ≡ true) × (r ≡ true) × (s ≡ true) × (t ≡ true)
+five-parts p q r s t e =
+    let d = and-parts (p && q && r && s) t e in
+    let c = and-parts (p && q && r) s (d .0) in
+    let b = and-parts (p && q) r (c .0) in
+    let a = and-parts p q (b .0) in
+    (a .0, a .1, b .1, c .1, d .1)
 
-step-fields : (fs : List Field) (n : ℕ) (s : Step) → lineIn 2 0 fs n ≡ StepLine s → fs ≡ stepFields s
+-- a line that is a step: its fields, and that the step may be in the log
+module _ (form : ℕ) (k f g b l w : Field) (n : ℕ) (s : Step) where
+  abbrev letter : ℕ
+  letter = kindUnder form (valueIn k)
+
+  abbrev values : Numbers
+  values = numbersFrom (valueIn k) (valueIn f) (valueIn g) (valueIn b) (valueIn l) (valueIn w)
+
+  shaped-fields :
+      (t : Bool) →
+      isLetter k ≡ true →
+      stepShape letter f g b l w ≡ true →
+      inRange (numbersUnder form values) ≡ true →
+      k ∷ f ∷ g ∷ lastFields t b l w ≡ fieldsUnder t (numbersUnder form values)
+  unfolding stepShape
+  shaped-fields t a h r =
+      let named = not (eqb letter 76) in
+      let timed = eqb letter 87 in
+      let new = eqb letter 65 in
+      let due =
+      five-parts (isDue true named f) (isDue true timed g) (isDue true new b) (isDue true new l) (isDue true new w)
+      (rw (range-known (numbersUnder form values) r) at h) in
+      let kind : k ≡ Letter letter = letter-is k a ∙ ap Letter (sym (kind-kept form values r)) in
+      (λ i. kind i ∷ due-shown named f (due .0) i ∷ due-shown timed g (due .1) i
+      ∷ lastFields t (due-shown new b (due .2) i) (due-shown new l (due .3) i) (due-shown new w (due .4) i))
+
+  line-step : (t : Bool) → stepLine form k f g b l w n ≡ StepLine s → (k ∷ f ∷ g ∷ lastFields t b l w ≡ fieldsUnder t (numbersOf s)) × (ranged form s ≡ true)
+  unfolding stepLine
+  line-step t e =
+      go (isLetter k) (stepShape letter f g b l w) (inRange (numbersUnder form values)) refl refl refl e
+    where
+      go :
+          (p q r : Bool) →
+          isLetter k ≡ p →
+          stepShape letter f g b l w ≡ q →
+          inRange (numbersUnder form values) ≡ r →
+          shapeThenRange (p && q) r (StepLine (stepOf (numbersUnder form values))) n ≡ StepLine s →
+          (k ∷ f ∷ g ∷ lastFields t b l w ≡ fieldsUnder t (numbersOf s)) × (ranged form s ≡ true)
+      go true true true ep eq er e =
+          let same : stepOf (numbersUnder form values) ≡ s = cc in (
+            shaped-fields t ep eq er ∙ same-fields t (numbersUnder form values) er ∙ ap (λ (x : Step). fieldsUnder t (numbersOf x)) same,
+            ap (ranged form) (sym same) ∙ step-ranged form values er,
+          )
+      go true true false ep eq er e = absurd (no-step _ s e)
+      go true false r ep eq er e = absurd (no-step _ s e)
+      go false q r ep eq er e = absurd (no-step _ s e)
+
+step-fields :
+    (form : ℕ) (fs : List Field) (n : ℕ) (s : Step) → lineIn 2 form fs n ≡ StepLine s → (fs ≡ stepFields form s) × (ranged form s ≡ true)
 unfolding lineIn valuesIn
-step-fields fs n s e = go (eqb (length fs) (namesIn 2 0) && noneEmpty fs) refl e
+step-fields form fs n s e = go (eqb (length fs) (namesIn 2 form) && noneEmpty fs) refl e
   where
     three : (fs : List Field) → length fs ≡ 3 → fs ≡ fieldAt fs 0 ∷ fieldAt fs 1 ∷ fieldAt fs 2 ∷ []
     three [] h = absurd (omega arith)
@@ -357,36 +510,59 @@ step-fields fs n s e = go (eqb (length fs) (namesIn 2 0) && noneEmpty fs) refl e
     three (a ∷ b ∷ c ∷ []) h = refl
     three (a ∷ b ∷ c ∷ d ∷ fs) h = absurd (omega arith)
 
+    six : (fs : List Field) → length fs ≡ 6 → fs ≡ fieldAt fs 0 ∷ fieldAt fs 1 ∷ fieldAt fs 2 ∷ fieldAt fs 3 ∷ fieldAt fs 4 ∷ fieldAt fs 5 ∷ []
+    six [] h = absurd (omega arith)
+    six (a ∷ fs) h = six-more fs (omega arith)
+      where
+        six-more : (gs : List Field) → length gs ≡ 5 → a ∷ gs ≡ a ∷ fieldAt gs 0 ∷ fieldAt gs 1 ∷ fieldAt gs 2 ∷ fieldAt gs 3 ∷ fieldAt gs 4 ∷ []
+        six-more (b ∷ c ∷ d ∷ f ∷ g ∷ []) h = refl
+        six-more [] h = absurd (omega arith)
+        six-more (b ∷ []) h = absurd (omega arith)
+        six-more (b ∷ c ∷ []) h = absurd (omega arith)
+        six-more (b ∷ c ∷ d ∷ []) h = absurd (omega arith)
+        six-more (b ∷ c ∷ d ∷ f ∷ []) h = absurd (omega arith)
+        six-more (b ∷ c ∷ d ∷ f ∷ g ∷ x ∷ gs) h = absurd (omega arith)
+
+    values : ℕ → Field
+    values j = valueField form (fieldAt fs j)
+
+    -- the fields that there are, by the heading
+    all : (t : Bool) → eqb form 1 ≡ t → length fs ≡ namesIn 2 form → fs ≡ fieldAt fs 0 ∷ fieldAt fs 1 ∷ fieldAt fs 2 ∷ lastFields t (values 3) (values 4) (values 5)
+    all true e h = rw e (six fs (omega (arith, names-values 2 form refl (eqb-true form 1 e))))
+    all false e h = three fs (omega (arith, names-2 2 form refl (eqb-false form 1 e)))
+
     go :
         (t : Bool) →
-        (eqb (length fs) (namesIn 2 0) && noneEmpty fs) ≡ t →
-        cond t (stepLine (fieldAt fs 0) (fieldAt fs 1) (fieldAt fs 2) n) (Refused (Malformed n)) ≡ StepLine s →
-        fs ≡ stepFields s
+        (eqb (length fs) (namesIn 2 form) && noneEmpty fs) ≡ t →
+        cond t (stepLine form (fieldAt fs 0) (fieldAt fs 1) (fieldAt fs 2) (values 3) (values 4) (values 5) n) (Refused (Malformed n)) ≡ StepLine s →
+        (fs ≡ stepFields form s) × (ranged form s ≡ true)
     go true h e =
-        let count = eqb-true (length fs) (namesIn 2 0) (and-parts (eqb (length fs) (namesIn 2 0)) (noneEmpty fs) h .0) in
-        three fs (omega (arith, names-2 2 0 refl)) ∙ three-fields (fieldAt fs 0) (fieldAt fs 1) (fieldAt fs 2) n s e
+        let count = eqb-true (length fs) (namesIn 2 form) (and-parts (eqb (length fs) (namesIn 2 form)) (noneEmpty fs) h .0) in
+        let line = line-step form (fieldAt fs 0) (fieldAt fs 1) (fieldAt fs 2) (values 3) (values 4) (values 5) n s (eqb form 1) e in
+        (all (eqb form 1) refl count ∙ line .0, line .1)
     go false h e = absurd (no-step (Malformed n) s e)
 
 -- ## A step's text
 
 pub step-written :
-    (l : List ℕ) (n : ℕ) (s : Step) →
-    lineIn 2 0 (fieldsOf l) n ≡ StepLine s →
-    (stepText s ≡ l ++ (10 ∷ [])) × (inRange (stepKind s) (stepItem s) (stepMinutes s) ≡ true)
-step-written l n s e =
-    let fields : fieldsOf l ≡ stepFields s = step-fields (fieldsOf l) n s e in
-    let pieces : map fieldText (fieldsOf l) ≡ split 32 l = pieces-text (split 32 l) (rw fields (step-plain s)) in
-    let line : lineOf s ≡ l =
+    (form : ℕ) (l : List ℕ) (n : ℕ) (s : Step) →
+    lineIn 2 form (fieldsOf l) n ≡ StepLine s →
+    (stepText form s ≡ l ++ (10 ∷ [])) × (ranged form s ≡ true)
+step-written form l n s e =
+    let line-is = step-fields form (fieldsOf l) n s e in
+    let fields : fieldsOf l ≡ stepFields form s = line-is .0 in
+    let pieces : map fieldText (fieldsOf l) ≡ split 32 l = pieces-text (split 32 l) (rw fields (fields-plain (eqb form 1) (numbersOf s))) in
+    let line : lineOf form s ≡ l =
     ap (λ (fs : List Field). joined 32 (map fieldText fs)) (sym fields) ∙ ap (joined 32) pieces ∙ join-split 32 l in
-    (step-line s ∙ ap (λ (t : List ℕ). t ++ (10 ∷ [])) line, (rw e at (line-says 2 0 (fieldsOf l) n)) .2)
+    (step-line form s (line-is .1) ∙ ap (λ (t : List ℕ). t ++ (10 ∷ [])) line, line-is .1)
 
 pub step-reads :
-    (l : List ℕ) (n : ℕ) (s : Step) →
-    inRange (stepKind s) (stepItem s) (stepMinutes s) ≡ true →
-    stepText s ≡ l ++ (10 ∷ []) →
-    lineIn 2 0 (fieldsOf l) n ≡ StepLine s
-step-reads l n s r e =
-    let line : l ≡ lineOf s = append-cancel-right l (lineOf s) (10 ∷ []) (sym e ∙ step-line s) in
-    ap (λ (t : List ℕ). lineIn 2 0 (fieldsOf t) n) line
-    ∙ ap (λ (fs : List Field). lineIn 2 0 fs n) (line-fields s)
-    ∙ fields-step s n r
+    (form : ℕ) (l : List ℕ) (n : ℕ) (s : Step) →
+    ranged form s ≡ true →
+    stepText form s ≡ l ++ (10 ∷ []) →
+    lineIn 2 form (fieldsOf l) n ≡ StepLine s
+step-reads form l n s r e =
+    let line : l ≡ lineOf form s = append-cancel-right l (lineOf form s) (10 ∷ []) (sym e ∙ step-line form s r) in
+    ap (λ (t : List ℕ). lineIn 2 form (fieldsOf t) n) line
+    ∙ ap (λ (fs : List Field). lineIn 2 form fs n) (line-fields form s)
+    ∙ fields-step form s n r

@@ -1,9 +1,10 @@
--- A list of steps has one text, and a text one list of steps; and so a list as it is lent: the laws of `OneText` in specs/Log.antt.
+-- A list of steps has one text under a heading, and a text one heading and one list of steps; and so a list as it is lent: the laws of
+-- `OneText` in specs/Log.antt.
 -- Assumes nothing.
 use mathlib.Core.Path.{_≡_, refl, sym, ap, _∙_}
 use mathlib.Core.Bool.{Bool, true, false, cond, false≢true}
 use mathlib.Core.List.{List, [], _∷_, _++_, append-assoc}
-use Prim.Native.Nat.{ℕ, zero, suc, _+_, _*_, _/_, _≤_}
+use Prim.Native.Nat.{ℕ, zero, suc, _+_, _*_, _/_, _≤_, _<_}
 use native.Mathlib.Omega.{arith}
 use borrow.Author.Tests.{le-leb, leb-true, eqb-true}
 use lib.Dec.{leb, eqb}
@@ -16,288 +17,365 @@ use Rattle.fields.proofs.Laws.{length-le, un-front, past}
 use Rattle.types.specs.declared.Refusal.{Refusal}
 use Rattle.types.specs.declared.Refusal.the-variants.{Malformed, Heading, OutOfRange, InputTooLong}
 use Rattle.types.specs.declared.Step.{Step}
-use Rattle.types.specs.declared.Step.the-variants.{Read, Write, Flush}
-use Rattle.types.specs.Types.{stepKind, stepItem, stepMinutes}
-use Rattle.landlord.specs.Calls.{inRange, stepOf}
-use Rattle.landlord.proofs.Calls.{same-step}
+use Rattle.types.specs.declared.Step.the-variants.{Read, Write, Flush, Arrive, Retire}
+use Rattle.types.specs.declared.Numbers.{Numbers}
+use Rattle.types.specs.Types.{numbersFrom, numbersOf, stepOf}
+use Rattle.types.proofs.Steps.{same-step}
+use Rattle.landlord.specs.Catalog.{listed as itemListed, itemInRange}
+use Rattle.landlord.specs.Calls.{isItemNumber, inRange}
+use Rattle.landlord.proofs.Ranges.{item-facts}
 use Rattle.season_lines.specs.declared.Line.{Line}
 use Rattle.season_lines.specs.declared.Line.the-variants.{Sizes, Item as ItemLine, Step as StepLine, Act as ActLine, Refused}
 use Rattle.season_lines.specs.declared.Names.{Names}
 use Rattle.season_lines.specs.declared.Names.the-variants.{Form, Unknown}
 use Rattle.line_fields.specs.Fields.{split, fieldsOf}
-use Rattle.season_lines.specs.Lines.{headings, headingOf, formAmong, formOf, lineIn}
+use Rattle.season_lines.specs.Lines.{headings, headingOf, formAmong, formOf, kindUnder, numbersUnder, lineIn}
 use Rattle.line_fields.proofs.Laws.{and-parts}
 use Rattle.season_lines.proofs.Laws.{both-yes}
 use Rattle.line_fields.proofs.Pieces.{split-some}
-use Rattle.season_lines.proofs.Pieces.{step-range}
-use Rattle.season_log.specs.Log.{Logged, steps, fault, ahead, stepText, stepLines, logText, listNumber, toldLine, listedFrom, listed, listOf, follows, readLines, headed, readTable, readLog, stepsInRange, OneText}
-use Rattle.season_log.proofs.Lines.{lacks, joined, split-first, join-split, ranged, lineOf, step-line, line-lacks, step-written, step-reads}
+use Rattle.season_log.specs.Log.{Logged, steps, fault, ahead, isHeading, stepText, stepLines, logText, listNumber, listNumbers, toldLine, listedFrom, listedUnder, listed, numbersOnto, listOf, follows, readLines, headed, readTable, readLog, stepsInRange, OneText}
+pub use Rattle.season_log.specs.Inner.{onward}
+use Rattle.season_log.proofs.Lines.{lacks, joined, split-first, join-split, ranged, lineOf, step-line, line-lacks, kind-kept, step-ranged, step-written, step-reads}
 
 -- ## Steps one behind the other
 
--- steps in front of what follows them
-abbrev pub onward : List Step → Logged → Logged
-onward ss (steps rest) = steps (ss ++ rest)
-onward ss (fault r) = fault r
-
 pub onward-none : (rest : Logged) → onward [] rest ≡ rest
-onward-none (steps ss) = refl
+onward-none (steps form ss) = refl
 onward-none (fault r) = refl
 
 pub onward-more : (ss : List Step) (s : Step) (rest : Logged) → onward (ss ++ (s ∷ [])) rest ≡ onward ss (ahead s rest)
-onward-more ss s (steps rest) = ap steps (append-snoc ss s rest)
+onward-more ss s (steps form rest) = ap (steps form) (append-snoc ss s rest)
 onward-more ss s (fault r) = refl
 
 -- ## What is written is read
 
 -- the first line of some, and what follows it
 pub lines-first :
-    (n : ℕ) (l t : List ℕ) →
-    readLines n (l ∷ split 10 t) ≡ follows (lineIn 2 0 (fieldsOf l) n) (readLines (suc n) (split 10 t))
+    (form n : ℕ) (l t : List ℕ) →
+    readLines form n (l ∷ split 10 t) ≡ follows (lineIn 2 form (fieldsOf l) n) (readLines form (suc n) (split 10 t))
 unfolding readLines
-lines-first n l t = rw (split-some 10 t .1)
+lines-first form n l t = rw (split-some 10 t .1)
 
-pub table-first : (l t : List ℕ) → readTable (l ∷ split 10 t) ≡ headed (formOf 2 l) (readLines 2 (split 10 t))
+pub table-first : (l t : List ℕ) → readTable (l ∷ split 10 t) ≡ headed (formOf 2 l) (split 10 t)
 unfolding readTable
 table-first l t = rw (split-some 10 t .1)
 
-split-step : (s : Step) (t : List ℕ) → split 10 (stepText s ++ t) ≡ lineOf s ∷ split 10 t
-split-step s t =
-    ap (λ (l : List ℕ). split 10 (l ++ t)) (step-line s)
-    ∙ ap (split 10) (append-assoc (lineOf s) (10 ∷ []) t)
-    ∙ split-first 10 (lineOf s) t (line-lacks s)
+split-step : (form : ℕ) (s : Step) (t : List ℕ) → ranged form s ≡ true → split 10 (stepText form s ++ t) ≡ lineOf form s ∷ split 10 t
+split-step form s t r =
+    ap (λ (l : List ℕ). split 10 (l ++ t)) (step-line form s r)
+    ∙ ap (split 10) (append-assoc (lineOf form s) (10 ∷ []) t)
+    ∙ split-first 10 (lineOf form s) t (line-lacks form s)
 
 -- lines of steps in range, from any line on
-lines-read : (n : ℕ) (ss : List Step) → stepsInRange ss ≡ true → readLines n (split 10 (stepLines ss)) ≡ steps ss
+lines-read : (form n : ℕ) (ss : List Step) → stepsInRange form ss ≡ true → readLines form n (split 10 (stepLines form ss)) ≡ steps form ss
 unfolding stepsInRange stepLines readLines split
-lines-read n [] h = refl
-lines-read n (s ∷ ss) h =
-    let both = and-parts (ranged s) (stepsInRange ss) h in
-    ap (readLines n) (split-step s (stepLines ss))
-    ∙ lines-first n (lineOf s) (stepLines ss)
-    ∙ (λ i. follows (step-reads (lineOf s) n s (both .0) (step-line s) i) (lines-read (suc n) ss (both .1) i))
+lines-read form n [] h = refl
+lines-read form n (s ∷ ss) h =
+    let both = and-parts (ranged form s) (stepsInRange form ss) h in
+    ap (readLines form n) (split-step form s (stepLines form ss) (both .0))
+    ∙ lines-first form n (lineOf form s) (stepLines form ss)
+    ∙ (λ i. follows (step-reads form (lineOf form s) n s (both .0) (step-line form s (both .0)) i) (lines-read form (suc n) ss (both .1) i))
 
-log-split : (ss : List Step) → split 10 (logText ss) ≡ headingOf 2 0 ∷ split 10 (stepLines ss)
-unfolding logText headings lacks
-log-split ss = split-first 10 (headingOf 2 0) (stepLines ss) refl
+-- a number that is a heading's is 0 or 1
+heading-is : (P : ℕ → Type 0) → P 0 → P 1 → (form : ℕ) → isHeading form ≡ true → P form
+heading-is P a b zero h = a
+heading-is P a b (suc zero) h = b
+heading-is P a b (suc (suc form)) h = let l = leb-true (suc (suc form)) 1 h in absurd (omega arith)
 
-names-form : formOf 2 (headingOf 2 0) ≡ Form 0
+-- a heading has no line feed, and is told by its line
+names-lack : (form : ℕ) → isHeading form ≡ true → lacks 10 (headingOf 2 form) ≡ true
+unfolding headings lacks
+names-lack = heading-is (λ f. lacks 10 (headingOf 2 f) ≡ true) refl refl
+
+names-form : (form : ℕ) → isHeading form ≡ true → formOf 2 (headingOf 2 form) ≡ Form form
 unfolding formOf formAmong headings sameText
-names-form = refl
+names-form = heading-is (λ f. formOf 2 (headingOf 2 f) ≡ Form f) refl refl
 
-written-reads : (ss : List Step) → stepsInRange ss ≡ true → length (logText ss) ≤ 65536 → readLog (logText ss) ≡ steps ss
+log-split : (form : ℕ) (ss : List Step) → isHeading form ≡ true → split 10 (logText form ss) ≡ headingOf 2 form ∷ split 10 (stepLines form ss)
+unfolding logText
+log-split form ss h = split-first 10 (headingOf 2 form) (stepLines form ss) (names-lack form h)
+
+written-reads :
+    (form : ℕ) (ss : List Step) →
+    isHeading form ≡ true →
+    stepsInRange form ss ≡ true →
+    length (logText form ss) ≤ 65536 →
+    readLog (logText form ss) ≡ steps form ss
 unfolding readLog
-written-reads ss h few =
-    rw (le-leb (length (logText ss)) 65536 few)
-    (ap readTable (log-split ss)
-    ∙ table-first (headingOf 2 0) (stepLines ss)
-    ∙ (λ i. headed (names-form i) (lines-read 2 ss h i)))
+written-reads form ss h r few =
+    rw (le-leb (length (logText form ss)) 65536 few)
+    (ap readTable (log-split form ss h)
+    ∙ table-first (headingOf 2 form) (stepLines form ss)
+    ∙ ap (λ (x : Names). headed x (split 10 (stepLines form ss))) (names-form form h)
+    ∙ lines-read form 2 ss r)
 
 -- ## What is read is written
 
-no-steps : (r : Refusal) (ss : List Step) → fault r ≡ steps ss → ⊥
-no-steps r ss e = let z : _≡_ {A = ℕ} 0 1 = cc in omega arith
+no-steps : (r : Refusal) (form : ℕ) (ss : List Step) → fault r ≡ steps form ss → ⊥
+no-steps r form ss e = let z : _≡_ {A = ℕ} 0 1 = cc in omega arith
 
--- lines, each two with a line feed between them, that are the lines of steps in range
-abbrev Written : List (List ℕ) → List Step → Type 0
-Written ls ss = (stepLines ss ≡ joined 10 ls) × (stepsInRange ss ≡ true)
+-- lines, each two with a line feed between them, that are the lines of steps in range under a heading, and were read under it
+abbrev Written : ℕ → List (List ℕ) → ℕ → List Step → Type 0
+Written form ls read ss = (stepLines form ss ≡ joined 10 ls) × (stepsInRange form ss ≡ true) × (form ≡ read)
 
-none-written : (l : List ℕ) (ss : List Step) → length l ≡ 0 → steps [] ≡ steps ss → Written (l ∷ []) ss
+none-written : (form : ℕ) (l : List ℕ) (f : ℕ) (ss : List Step) → length l ≡ 0 → steps form [] ≡ steps f ss → Written form (l ∷ []) f ss
 unfolding joined stepLines stepsInRange
-none-written [] ss h e = let same : [] ≡ ss = cc in rw (← same) (refl, refl)
-none-written (x ∷ l) ss h e = absurd (omega arith)
+none-written form [] f ss h e =
+    let same : [] ≡ ss = cc in
+    let named : form ≡ f = cc in
+    rw (← same) (refl, refl, named)
+none-written form (x ∷ l) f ss h e = absurd (omega arith)
 
 one-written :
-    (l m : List ℕ) (rest : List (List ℕ)) (s : Step) (later ss : List Step) →
-    (stepText s ≡ l ++ (10 ∷ [])) × (ranged s ≡ true) →
-    Written (m ∷ rest) later →
-    steps (s ∷ later) ≡ steps ss →
-    Written (l ∷ m ∷ rest) ss
+    (form : ℕ) (l m : List ℕ) (rest : List (List ℕ)) (s : Step) (g : ℕ) (later : List Step) (f : ℕ) (ss : List Step) →
+    (stepText form s ≡ l ++ (10 ∷ [])) × (ranged form s ≡ true) →
+    Written form (m ∷ rest) g later →
+    steps g (s ∷ later) ≡ steps f ss →
+    Written form (l ∷ m ∷ rest) f ss
 unfolding joined stepLines stepsInRange
-one-written l m rest s later ss a w e =
+one-written form l m rest s g later f ss a w e =
     let same : s ∷ later ≡ ss = cc in
-    let text : stepText s ++ stepLines later ≡ l ++ (10 ∷ joined 10 (m ∷ rest)) =
+    let named : g ≡ f = cc in
+    let text : stepText form s ++ stepLines form later ≡ l ++ (10 ∷ joined 10 (m ∷ rest)) =
     (λ i. a .0 i ++ w .0 i) ∙ append-assoc l (10 ∷ []) (joined 10 (m ∷ rest)) in
-    rw (← same) (text, both-yes (ranged s) (stepsInRange later) (a .1) (w .1))
+    rw (← same) (text, both-yes (ranged form s) (stepsInRange form later) (a .1) (w .1), w .2 ∙ named)
 
-lines-written : (n : ℕ) (ls : List (List ℕ)) (ss : List Step) → readLines n ls ≡ steps ss → Written ls ss
+lines-written : (form n : ℕ) (ls : List (List ℕ)) (f : ℕ) (ss : List Step) → readLines form n ls ≡ steps f ss → Written form ls f ss
 unfolding readLines
-lines-written n [] ss e = unfold joined stepLines stepsInRange in (let same : [] ≡ ss = cc in rw (← same) (refl, refl))
-lines-written n (l ∷ []) ss e = go (eqb (length l) 0) refl e
+lines-written form n [] f ss e =
+    unfold joined stepLines stepsInRange in
+    (let same : [] ≡ ss = cc in
+    let named : form ≡ f = cc in
+    rw (← same) (refl, refl, named))
+lines-written form n (l ∷ []) f ss e = go (eqb (length l) 0) refl e
   where
-    go : (t : Bool) → eqb (length l) 0 ≡ t → cond t (steps []) (fault (Malformed n)) ≡ steps ss → Written (l ∷ []) ss
-    go true b e = none-written l ss (eqb-true (length l) 0 b) e
-    go false b e = absurd (no-steps (Malformed n) ss e)
-lines-written n (l ∷ m ∷ rest) ss e =
-    go (lineIn 2 0 (fieldsOf l) n) (readLines (suc n) (m ∷ rest)) (λ s. step-written l n s)
-    (λ later. lines-written (suc n) (m ∷ rest) later) e
+    go : (t : Bool) → eqb (length l) 0 ≡ t → cond t (steps form []) (fault (Malformed n)) ≡ steps f ss → Written form (l ∷ []) f ss
+    go true b e = none-written form l f ss (eqb-true (length l) 0 b) e
+    go false b e = absurd (no-steps (Malformed n) f ss e)
+lines-written form n (l ∷ m ∷ rest) f ss e =
+    go (lineIn 2 form (fieldsOf l) n) (readLines form (suc n) (m ∷ rest)) (λ s. step-written form l n s)
+    (λ g later. lines-written form (suc n) (m ∷ rest) g later) e
   where
     go :
         (line : Line) (below : Logged) →
-        ((s : Step) → line ≡ StepLine s → (stepText s ≡ l ++ (10 ∷ [])) × (ranged s ≡ true)) →
-        ((later : List Step) → below ≡ steps later → Written (m ∷ rest) later) →
-        follows line below ≡ steps ss →
-        Written (l ∷ m ∷ rest) ss
-    go (StepLine s) (steps later) a b e = one-written l m rest s later ss (a s refl) (b later refl) e
-    go (StepLine s) (fault r) a b e = absurd (no-steps r ss e)
-    go (Refused r) below a b e = absurd (no-steps r ss e)
-    go (Sizes k h r) below a b e = absurd (no-steps (Malformed 0) ss e)
-    go (ItemLine i blocks load write) below a b e = absurd (no-steps (Malformed 0) ss e)
-    go (ActLine place act) below a b e = absurd (no-steps (Malformed 0) ss e)
+        ((s : Step) → line ≡ StepLine s → (stepText form s ≡ l ++ (10 ∷ [])) × (ranged form s ≡ true)) →
+        ((g : ℕ) (later : List Step) → below ≡ steps g later → Written form (m ∷ rest) g later) →
+        follows line below ≡ steps f ss →
+        Written form (l ∷ m ∷ rest) f ss
+    go (StepLine s) (steps g later) a b e = one-written form l m rest s g later f ss (a s refl) (b g later refl) e
+    go (StepLine s) (fault r) a b e = absurd (no-steps r f ss e)
+    go (Refused r) below a b e = absurd (no-steps r f ss e)
+    go (Sizes k h r) below a b e = absurd (no-steps (Malformed 0) f ss e)
+    go (ItemLine i blocks load write) below a b e = absurd (no-steps (Malformed 0) f ss e)
+    go (ActLine place act) below a b e = absurd (no-steps (Malformed 0) f ss e)
 
-form-names : (l : List ℕ) (f : ℕ) → formOf 2 l ≡ Form f → l ≡ headingOf 2 0
+-- a line that is a heading is that one, word for word
+form-names : (l : List ℕ) (f : ℕ) → formOf 2 l ≡ Form f → (l ≡ headingOf 2 f) × (isHeading f ≡ true)
 unfolding formOf formAmong headings
-form-names l f e = go (sameText l (headingOf 2 0)) refl e
+form-names l f e = go (sameText l (headingOf 2 0)) (sameText l (headingOf 2 1)) refl refl e
   where
-    go : (t : Bool) → sameText l (headingOf 2 0) ≡ t → cond t (Form 0) Unknown ≡ Form f → l ≡ headingOf 2 0
-    go true h e = same-true l (headingOf 2 0) h
-    go false h e = let z : _≡_ {A = ℕ} 0 1 = cc in absurd (omega arith)
+    is : (g : ℕ) → l ≡ headingOf 2 g → isHeading g ≡ true → Form g ≡ Form f → (l ≡ headingOf 2 f) × (isHeading f ≡ true)
+    is g h k e = let same : g ≡ f = cc in (h ∙ ap (headingOf 2) same, ap isHeading (sym same) ∙ k)
 
-log-joined :
-    (l m : List ℕ) (rest : List (List ℕ)) (ss : List Step) →
-    l ≡ headingOf 2 0 →
-    stepLines ss ≡ joined 10 (m ∷ rest) →
-    logText ss ≡ joined 10 (l ∷ m ∷ rest)
-unfolding logText joined
-log-joined l m rest ss a b = λ i. sym a i ++ (10 ∷ b i)
-
-table-written :
-    (ls : List (List ℕ)) (ss : List Step) → readTable ls ≡ steps ss → (logText ss ≡ joined 10 ls) × (stepsInRange ss ≡ true)
-unfolding readTable
-table-written [] ss e = absurd (no-steps (Heading 1) ss e)
-table-written (l ∷ []) ss e = absurd (no-steps _ ss e)
-table-written (l ∷ m ∷ rest) ss e = go (formOf 2 l) refl e
-  where
     go :
-        (x : Names) →
-        formOf 2 l ≡ x →
-        headed x (readLines 2 (m ∷ rest)) ≡ steps ss →
-        (logText ss ≡ joined 10 (l ∷ m ∷ rest)) × (stepsInRange ss ≡ true)
-    go (Form f) h e =
-        let w = lines-written 2 (m ∷ rest) ss e in
-        (log-joined l m rest ss (form-names l f h) (w .0), w .1)
-    go Unknown h e = absurd (no-steps (Heading 1) ss e)
+        (t u : Bool) →
+        sameText l (headingOf 2 0) ≡ t →
+        sameText l (headingOf 2 1) ≡ u →
+        cond t (Form 0) (cond u (Form 1) Unknown) ≡ Form f →
+        (l ≡ headingOf 2 f) × (isHeading f ≡ true)
+    go true u h k e = is 0 (same-true l (headingOf 2 0) h) refl e
+    go false true h k e = is 1 (same-true l (headingOf 2 1) k) refl e
+    go false false h k e = let z : _≡_ {A = ℕ} 0 1 = cc in absurd (omega arith)
 
-reads-written : (s : List ℕ) (ss : List Step) → readLog s ≡ steps ss → (logText ss ≡ s) × (stepsInRange ss ≡ true)
-unfolding readLog
-reads-written s ss e = go (leb (length s) 65536) e
+-- what a text that is read is
+abbrev Read-is : List ℕ → ℕ → List Step → Type 0
+Read-is s form ss = (logText form ss ≡ s) × (isHeading form ≡ true) × (stepsInRange form ss ≡ true)
+
+table-written : (ls : List (List ℕ)) (form : ℕ) (ss : List Step) → readTable ls ≡ steps form ss → Read-is (joined 10 ls) form ss
+unfolding readTable
+table-written [] form ss e = absurd (no-steps (Heading 1) form ss e)
+table-written (l ∷ []) form ss e = absurd (no-steps _ form ss e)
+table-written (l ∷ m ∷ rest) form ss e = go (formOf 2 l) refl e
   where
-    go : (t : Bool) → cond t (readTable (split 10 s)) (fault (InputTooLong 0)) ≡ steps ss → (logText ss ≡ s) × (stepsInRange ss ≡ true)
+    below : (f : ℕ) → (l ≡ headingOf 2 f) × (isHeading f ≡ true) → Written f (m ∷ rest) form ss → Read-is (joined 10 (l ∷ m ∷ rest)) form ss
+    below f a w =
+        unfold logText joined in
+        (rw (← (w .2)) ((λ i. sym (a .0) i ++ (10 ∷ w .0 i)), a .1, w .1))
+
+    go : (x : Names) → formOf 2 l ≡ x → headed x (m ∷ rest) ≡ steps form ss → Read-is (joined 10 (l ∷ m ∷ rest)) form ss
+    go (Form f) h e = below f (form-names l f h) (lines-written f 2 (m ∷ rest) form ss e)
+    go Unknown h e = absurd (no-steps (Heading 1) form ss e)
+
+reads-written : (s : List ℕ) (form : ℕ) (ss : List Step) → readLog s ≡ steps form ss → Read-is s form ss
+unfolding readLog
+reads-written s form ss e = go (leb (length s) 65536) e
+  where
+    go : (t : Bool) → cond t (readTable (split 10 s)) (fault (InputTooLong 0)) ≡ steps form ss → Read-is s form ss
     go true e =
-        let w = table-written (split 10 s) ss e in
-        (w .0 ∙ join-split 10 s, w .1)
-    go false e = absurd (no-steps (InputTooLong 0) ss e)
+        let w = table-written (split 10 s) form ss e in
+        (w .0 ∙ join-split 10 s, w .1, w .2)
+    go false e = absurd (no-steps (InputTooLong 0) form ss e)
 
 -- ## Steps as they are lent
 
-listed-ranged : (m n : ℕ) (list : List ℕ) (ss : List Step) → listedFrom m n list ≡ steps ss → stepsInRange ss ≡ true
+listed-ranged :
+    (form m n : ℕ) (list : List ℕ) (f : ℕ) (ss : List Step) → listedFrom form m n list ≡ steps f ss → (f ≡ form) × (stepsInRange form ss ≡ true)
 unfolding listedFrom stepsInRange
-listed-ranged zero n list ss e = go (eqb (length list) 0) e
+listed-ranged form zero n list f ss e = go (eqb (length list) 0) e
   where
-    go : (t : Bool) → cond t (steps []) (fault (OutOfRange (toldLine n))) ≡ steps ss → stepsInRange ss ≡ true
-    go true e = let same : [] ≡ ss = cc in rw (← same) refl
-    go false e = absurd (no-steps (OutOfRange (toldLine n)) ss e)
-listed-ranged (suc m) n list ss e =
-    go (inRange kind item minutes) (listedFrom m (suc n) (drop 12 list)) refl
-    (λ later. listed-ranged m (suc n) (drop 12 list) later) e
+    go : (t : Bool) → cond t (steps form []) (fault (OutOfRange (toldLine n))) ≡ steps f ss → (f ≡ form) × (stepsInRange form ss ≡ true)
+    go true e =
+        let same : [] ≡ ss = cc in
+        let named : form ≡ f = cc in
+        (sym named, rw (← same) refl)
+    go false e = absurd (no-steps (OutOfRange (toldLine n)) f ss e)
+listed-ranged form (suc m) n list f ss e =
+    go (inRange numbers) (listedFrom form m (suc n) (drop 24 list)) refl
+    (λ g later. listed-ranged form m (suc n) (drop 24 list) g later) e
   where
-    kind : ℕ
-    kind = listNumber 0 list
-
-    item : ℕ
-    item = listNumber 4 list
-
-    minutes : ℕ
-    minutes = listNumber 8 list
+    numbers : Numbers
+    numbers = numbersUnder form (listNumbers 0 list)
 
     go :
         (t : Bool) (below : Logged) →
-        inRange kind item minutes ≡ t →
-        ((later : List Step) → below ≡ steps later → stepsInRange later ≡ true) →
-        cond t (ahead (stepOf kind item minutes) below) (fault (OutOfRange (toldLine n))) ≡ steps ss →
-        stepsInRange ss ≡ true
-    go true (steps later) r a e =
-        let same : stepOf kind item minutes ∷ later ≡ ss = cc in
-        rw (← same) (both-yes _ _ (step-range kind item minutes r) (a later refl))
-    go true (fault q) r a e = absurd (no-steps q ss e)
-    go false below r a e = absurd (no-steps (OutOfRange (toldLine n)) ss e)
+        inRange numbers ≡ t →
+        ((g : ℕ) (later : List Step) → below ≡ steps g later → (g ≡ form) × (stepsInRange form later ≡ true)) →
+        cond t (ahead (stepOf numbers) below) (fault (OutOfRange (toldLine n))) ≡ steps f ss →
+        (f ≡ form) × (stepsInRange form ss ≡ true)
+    go true (steps g later) r a e =
+        let same : stepOf numbers ∷ later ≡ ss = cc in
+        let named : g ≡ f = cc in
+        let rest = a g later refl in
+        (sym named ∙ rest .0, rw (← same) (both-yes _ _ (step-ranged form (listNumbers 0 list) r) (rest .1)))
+    go true (fault q) r a e = absurd (no-steps q f ss e)
+    go false below r a e = absurd (no-steps (OutOfRange (toldLine n)) f ss e)
+
+listed-in-range :
+    (told : ℕ) (list : List ℕ) (form : ℕ) (ss : List Step) →
+    listed told list ≡ steps form ss →
+    (form ≡ told) × (isHeading form ≡ true) × (stepsInRange form ss ≡ true)
+listed-in-range told list form ss e = go (isHeading told) refl e
+  where
+    go :
+        (t : Bool) →
+        isHeading told ≡ t →
+        cond t (listedUnder told list) (fault (OutOfRange 1)) ≡ steps form ss →
+        (form ≡ told) × (isHeading form ≡ true) × (stepsInRange form ss ≡ true)
+    go true h e =
+        let w = listed-ranged told (length list / 24) 2 list form ss e in
+        (w .0, ap isHeading (w .0) ∙ h, ap (λ (f : ℕ). stepsInRange f ss) (w .0) ∙ w .1)
+    go false h e = absurd (no-steps (OutOfRange 1) form ss e)
 
 -- the numbers of a step in range are small
-pub step-small : (s : Step) → ranged s ≡ true → (stepKind s ≤ 87) × (stepItem s ≤ 255) × (stepMinutes s ≤ 1440)
-step-small (Read i) r = (omega arith, leb-true i 255 r, omega arith)
-step-small (Write i m) r =
-    let both = parts (leb i 255) (leb m 1440) r in
-    (omega arith, leb-true i 255 (both .0), leb-true m 1440 (both .1))
-  where
-    parts : (p q : Bool) → cond p q false ≡ true → (p ≡ true) × (q ≡ true)
-    parts true q e = (refl, e)
-    parts false q e = absurd (false≢true e)
-step-small Flush r = (omega arith, omega arith, omega arith)
+pub record Small (n : Numbers) : Type 0 where
+  pub kind : n .kind ≤ 87
+  pub item : n .item ≤ 255
+  pub minutes : n .minutes ≤ 1440
+  pub blocks : n .blocks ≤ 16
+  pub load : n .load ≤ 65535
+  pub write : n .write ≤ 65535
 
--- a step's bytes at the start of a list: from its kind on, from its item on, from its minutes on
-module _ (s : Step) (rest : List ℕ) where
+pub step-small : (form : ℕ) (s : Step) → ranged form s ≡ true → Small (numbersOf s)
+step-small form s r = go s (ap inRange-of (sym (kind-kept form (numbersOf s) r)) ∙ r)
+  where
+    inRange-of : ℕ → Bool
+    inRange-of k = inRange (numbersFrom k (numbersOf s .item) (numbersOf s .minutes) (numbersOf s .blocks) (numbersOf s .load) (numbersOf s .write))
+
+    go : (s : Step) → inRange (numbersOf s) ≡ true → Small (numbersOf s)
+    go (Read i) r =
+        record { kind = omega arith; item = leb-true i 255 r; minutes = omega arith; blocks = omega arith; load = omega arith; write = omega arith }
+    go (Write i m) r =
+        let both = and-parts (isItemNumber i) (leb m 1440) r in
+        record { kind = omega arith; item = leb-true i 255 (both .0); minutes = leb-true m 1440 (both .1); blocks = omega arith; load = omega arith; write = omega arith }
+    go Flush r =
+        record { kind = omega arith; item = omega arith; minutes = omega arith; blocks = omega arith; load = omega arith; write = omega arith }
+    go (Arrive i b l w) r =
+        let both = and-parts (isItemNumber i) (itemInRange (itemListed b l w)) r in
+        let f = item-facts (itemListed b l w) (both .1) in
+        record { kind = omega arith; item = leb-true i 255 (both .0); minutes = omega arith; blocks = f .small; load = f .load; write = f .write }
+    go (Retire i) r =
+        record { kind = omega arith; item = leb-true i 255 r; minutes = omega arith; blocks = omega arith; load = omega arith; write = omega arith }
+
+-- a number in front of others, and behind it
+number-first : (v : ℕ) (rest : List ℕ) → v ≤ 65535 → listNumber 0 (le 4 v ++ rest) ≡ v
+number-first v rest h = un-front 4 v rest (omega arith)
+
+past-four : (k v : ℕ) (rest : List ℕ) → drop (4 + k) (le 4 v ++ rest) ≡ drop k rest
+past-four k v rest = past (le 4 v) rest (4 + k) k (omega (arith, length-le 4 v))
+
+number-next : (k v : ℕ) (rest : List ℕ) → listNumber (4 + k) (le 4 v ++ rest) ≡ listNumber k rest
+number-next k v rest = ap (λ (l : List ℕ). un (take 4 l)) (past-four k v rest)
+
+-- a step's bytes at the start of a list, from each of its numbers on
+module _ (n : Numbers) (rest : List ℕ) where
+  abbrev fromWrite : List ℕ
+  fromWrite = le 4 (n .write) ++ rest
+
+  abbrev fromLoad : List ℕ
+  fromLoad = le 4 (n .load) ++ fromWrite
+
+  abbrev fromBlocks : List ℕ
+  fromBlocks = le 4 (n .blocks) ++ fromLoad
+
   abbrev fromMinutes : List ℕ
-  fromMinutes = le 4 (stepMinutes s) ++ rest
+  fromMinutes = le 4 (n .minutes) ++ fromBlocks
 
   abbrev fromItem : List ℕ
-  fromItem = le 4 (stepItem s) ++ fromMinutes
+  fromItem = le 4 (n .item) ++ fromMinutes
 
-  abbrev fromKind : List ℕ
-  fromKind = le 4 (stepKind s) ++ fromItem
+  pub onto-length : length (numbersOnto n rest) ≡ 24 + length rest
+  onto-length = simp (length-append, length-le) (omega arith)
 
-  bytes-twelve : length fromKind ≡ 12 + length rest
-  bytes-twelve = simp (length-append, length-le) (omega arith)
+  past-numbers : drop 24 (numbersOnto n rest) ≡ rest
+  past-numbers =
+      past-four 20 (n .kind) fromItem ∙ past-four 16 (n .item) fromMinutes ∙ past-four 12 (n .minutes) fromBlocks
+      ∙ past-four 8 (n .blocks) fromLoad
+      ∙ past-four 4 (n .load) fromWrite
+      ∙ past-four 0 (n .write) rest
 
-  past-kind : drop 4 fromKind ≡ fromItem
-  past-kind = drop-at (le 4 (stepKind s)) fromItem 4 (length-le 4 (stepKind s))
+  numbers-at : Small n → listNumbers 0 (numbersOnto n rest) ≡ n
+  numbers-at s =
+      let write : listNumber 0 fromWrite ≡ n .write = number-first (n .write) rest (s .write) in
+      let load : listNumber 0 fromLoad ≡ n .load = number-first (n .load) fromWrite (s .load) in
+      let blocks : listNumber 0 fromBlocks ≡ n .blocks = number-first (n .blocks) fromLoad (omega (arith, s .blocks)) in
+      let minutes : listNumber 0 fromMinutes ≡ n .minutes = number-first (n .minutes) fromBlocks (omega (arith, s .minutes)) in
+      let item : listNumber 0 fromItem ≡ n .item = number-first (n .item) fromMinutes (omega (arith, s .item)) in
+      let kind : listNumber 0 (numbersOnto n rest) ≡ n .kind = number-first (n .kind) fromItem (omega (arith, s .kind)) in
+      let from-1 : (k : ℕ) → listNumber (4 + k) (numbersOnto n rest) ≡ listNumber k fromItem = λ k. number-next k (n .kind) fromItem in
+      let from-2 : (k : ℕ) → listNumber (4 + (4 + k)) (numbersOnto n rest) ≡ listNumber k fromMinutes = λ k. from-1 (4 + k) ∙ number-next k (n .item) fromMinutes in
+      let from-3 : (k : ℕ) → listNumber (4 + (4 + (4 + k))) (numbersOnto n rest) ≡ listNumber k fromBlocks = λ k. from-2 (4 + k) ∙ number-next k (n .minutes) fromBlocks in
+      let from-4 : (k : ℕ) → listNumber (4 + (4 + (4 + (4 + k)))) (numbersOnto n rest) ≡ listNumber k fromLoad = λ k. from-3 (4 + k) ∙ number-next k (n .blocks) fromLoad in
+      let from-5 : listNumber 20 (numbersOnto n rest) ≡ listNumber 0 fromWrite = from-4 4 ∙ number-next 0 (n .load) fromWrite in
+      (λ i. numbersFrom (kind i) ((from-1 0 ∙ item) i) ((from-2 0 ∙ minutes) i) ((from-3 0 ∙ blocks) i) ((from-4 0 ∙ load) i) ((from-5 ∙ write) i))
 
-  past-item : drop 8 fromKind ≡ fromMinutes
-  past-item =
-      past (le 4 (stepKind s)) fromItem 8 4 (omega (arith, length-le 4 (stepKind s)))
-      ∙ drop-at (le 4 (stepItem s)) fromMinutes 4 (length-le 4 (stepItem s))
-
-  past-minutes : drop 12 fromKind ≡ rest
-  past-minutes =
-      past (le 4 (stepKind s)) fromItem 12 8 (omega (arith, length-le 4 (stepKind s)))
-      ∙ past (le 4 (stepItem s)) fromMinutes 8 4 (omega (arith, length-le 4 (stepItem s)))
-      ∙ drop-at (le 4 (stepMinutes s)) rest 4 (length-le 4 (stepMinutes s))
-
-  module _ (r : ranged s ≡ true) where
-    kind-at : listNumber 0 fromKind ≡ stepKind s
-    kind-at = un-front 4 (stepKind s) fromItem (omega (arith, step-small s r))
-
-    item-at : listNumber 4 fromKind ≡ stepItem s
-    item-at =
-        ap (λ (l : List ℕ). un (take 4 l)) past-kind ∙ un-front 4 (stepItem s) fromMinutes (omega (arith, step-small s r))
-
-    minutes-at : listNumber 8 fromKind ≡ stepMinutes s
-    minutes-at = ap (λ (l : List ℕ). un (take 4 l)) past-item ∙ un-front 4 (stepMinutes s) rest (omega (arith, step-small s r))
-
--- a list has 12 bytes a step
-pub length-list : (ss : List Step) → length (listOf ss) ≡ 12 * length ss
+-- a list has 24 bytes a step
+pub length-list : (ss : List Step) → length (listOf ss) ≡ 24 * length ss
 unfolding listOf
 length-list [] = refl
-length-list (s ∷ ss) = omega (arith, bytes-twelve s (listOf ss), length-list ss)
+length-list (s ∷ ss) = omega (arith, onto-length (numbersOf s) (listOf ss), length-list ss)
 
-list-read : (n : ℕ) (ss : List Step) → stepsInRange ss ≡ true → listedFrom (length ss) n (listOf ss) ≡ steps ss
+list-read : (form n : ℕ) (ss : List Step) → stepsInRange form ss ≡ true → listedFrom form (length ss) n (listOf ss) ≡ steps form ss
 unfolding listedFrom listOf stepsInRange
-list-read n [] h = refl
-list-read n (s ∷ ss) h =
-    let both = and-parts (ranged s) (stepsInRange ss) h in
+list-read form n [] h = refl
+list-read form n (s ∷ ss) h =
+    let both = and-parts (ranged form s) (stepsInRange form ss) h in
     let r = both .0 in
     let rest = listOf ss in
-    rw (kind-at s rest r, item-at s rest r, minutes-at s rest r, past-minutes s rest, r, same-step s, list-read (suc n) ss (both .1))
+    let x = numbersOf s in
+    let here : listNumbers 0 (numbersOnto x rest) ≡ x = numbers-at x rest (step-small form s r) in
+    let under : numbersUnder form x ≡ x = λ i. numbersFrom (kind-kept form x r i) (x .item) (x .minutes) (x .blocks) (x .load) (x .write) in
+    let means : stepOf (numbersUnder form x) ≡ s = ap stepOf under ∙ same-step s in
+    (λ i. next (here i) (past-numbers x rest i)) ∙ (rw (r, means, list-read form (suc n) ss (both .1)))
+  where
+    -- a step of these numbers, and the rest of the list
+    next : Numbers → List ℕ → Logged
+    next m l =
+        cond (inRange (numbersUnder form m)) (ahead (stepOf (numbersUnder form m)) (listedFrom form (length ss) (suc n) l)) (fault (OutOfRange (toldLine n)))
 
-list-reads : (ss : List Step) → stepsInRange ss ≡ true → listed (listOf ss) ≡ steps ss
-list-reads ss h =
-    let count : length (listOf ss) / 12 ≡ length ss = omega (arith, length-list ss) in
-    rw count (list-read 2 ss h)
+list-reads : (form : ℕ) (ss : List Step) → isHeading form ≡ true → stepsInRange form ss ≡ true → listed form (listOf ss) ≡ steps form ss
+list-reads form ss h r =
+    let count : length (listOf ss) / 24 ≡ length ss = omega (arith, length-list ss) in
+    rw (h, count) (list-read form 2 ss r)
 
 pub one-text : OneText
-one-text =
-    record {
-      writtenReads = written-reads;
-      readsWritten = reads-written;
-      listedInRange = λ list ss e. listed-ranged (length list / 12) 2 list ss e;
-      listReads = list-reads;
-    }
+one-text = record { writtenReads = written-reads; readsWritten = reads-written; listedInRange = listed-in-range; listReads = list-reads }

@@ -1,48 +1,65 @@
--- The third table alone: the text that is written from a list of steps, and its reading. Paper 02, 'Two'. Assumes nothing.
+-- The third table alone: the text that is written from a list of steps, and its reading. Paper 02, 'Two' and 'Six'. Assumes nothing.
 use mathlib.Core.{Path._≡_, Bool.{Bool, true, cond, _&&_}, List.{List, [], _∷_, _++_}}
-use Prim.Native.Nat.{ℕ, zero, suc, _/_, _≤_}
+use Prim.Native.Nat.{ℕ, zero, suc, _+_, _/_, _≤_}
 use lib.{ListN.{length, take, drop}, Dec.{leb, eqb}}
 use Rattle.decimal.specs.Decimal.{textOf, digitsOf, fits, pageOf}
 use Rattle.fields.specs.LittleEndian.{un, le}
-use Rattle.types.specs.declared.{Step.{Step, the-variants.{Read, Write, Flush}}, Refusal.{Refusal, the-variants.{Malformed, Heading, OutOfRange, ShortBuffer, InputTooLong}}}
-use Rattle.types.specs.Types.{stepKind, stepItem, stepMinutes}
-use Rattle.landlord.specs.Calls.{inRange, stepOf}
+use Rattle.types.specs.declared.{Step.{Step, the-variants.{Read, Write, Flush, Arrive, Retire}}, Numbers.Numbers, Refusal.{Refusal, the-variants.{Malformed, Heading, OutOfRange, ShortBuffer, InputTooLong}}}
+use Rattle.types.specs.Types.{numbersFrom, numbersOf, stepOf}
+use Rattle.landlord.specs.Calls.{inRange}
 use Rattle.season_lines.specs.declared.{Names.{Names, the-variants.{Form, Unknown}}, Line.{Line, the-variants.{Sizes, Item as ItemLine, Step as StepLine, Act as ActLine, Refused}}}
 use Rattle.line_fields.specs.Fields.{split, fieldsOf}
-use Rattle.season_lines.specs.Lines.{headingOf, formOf, lineIn}
+use Rattle.season_lines.specs.Lines.{headingOf, formOf, numbersUnder, lineIn}
 use Rattle.season_log.specs.declared.LogAnswer.{LogAnswer, the-variants.{Count, Refused as Not}}
 
--- the steps of a list or of a text, or the refusal of its first fault
+-- the heading and the steps of a list or of a text, or the refusal of its first fault
 pub data Logged : Type 0 where
-  steps : List Step → Logged
+  steps : ℕ → List Step → Logged
   fault : Refusal → Logged
 
 -- a step in front of what follows it
 abbrev pub ahead : Step → Logged → Logged
-ahead s (steps rest) = steps (s ∷ rest)
+ahead s (steps form rest) = steps form (s ∷ rest)
 ahead s (fault r) = fault r
 
 -- ## The text of steps
 
--- a step's line: "Minutes is `-` for R; sail and minutes are `-` for L"
-unfoldable pub stepText : Step → List ℕ
-stepText (Read i) = textOf "R " ++ (digitsOf i ++ textOf " -\n")
-stepText (Write i m) = textOf "W " ++ (digitsOf i ++ (textOf " " ++ (digitsOf m ++ textOf "\n")))
-stepText Flush = textOf "L - -\n"
+-- the numbers of the log's two headings: 0 is `step sail minutes`, 1 is `step sail minutes blocks load write`
+abbrev pub isHeading : ℕ → Bool
+isHeading form = leb form 1
 
-unfoldable pub stepLines : List Step → List ℕ
-stepLines [] = []
-stepLines (s ∷ rest) = stepText s ++ stepLines rest
+-- the end of a line that has none of the three last values; under the old heading nothing stands behind the minutes
+abbrev pub noValues : ℕ → List ℕ
+noValues form = cond (eqb form 1) (textOf " - - -\n") (textOf "\n")
+
+-- a step's line under a heading: "Minutes is `-` for R; sail and minutes are `-` for L"; A and Q are in no log under the old heading
+unfoldable pub stepText : ℕ → Step → List ℕ
+stepText form (Read i) = textOf "R " ++ (digitsOf i ++ (textOf " -" ++ noValues form))
+stepText form (Write i m) = textOf "W " ++ (digitsOf i ++ (textOf " " ++ (digitsOf m ++ noValues form)))
+stepText form Flush = textOf "L - -" ++ noValues form
+stepText form (Arrive i b l w) =
+    textOf "A " ++ (digitsOf i ++ (textOf " - " ++ (digitsOf b ++ (textOf " " ++ (digitsOf l ++ (textOf " " ++ (digitsOf w ++ textOf "\n")))))))
+stepText form (Retire i) = textOf "Q " ++ (digitsOf i ++ (textOf " -" ++ noValues form))
+
+unfoldable pub stepLines : ℕ → List Step → List ℕ
+stepLines form [] = []
+stepLines form (s ∷ rest) = stepText form s ++ stepLines form rest
 
 -- the third table: its names, and a line a step
-unfoldable pub logText : List Step → List ℕ
-logText ss = headingOf 2 0 ++ (10 ∷ stepLines ss)
+unfoldable pub logText : ℕ → List Step → List ℕ
+logText form ss = headingOf 2 form ++ (10 ∷ stepLines form ss)
 
--- ## Steps as they are lent: 12 bytes each, kind, item and minutes, four bytes each, the low byte first
+-- ## Steps as they are lent: 24 bytes each, under both headings: kind, item, minutes, blocks, load and write, four bytes each, the low
+-- byte first
 
 -- the number at a place of a list
 abbrev pub listNumber : ℕ → List ℕ → ℕ
 listNumber at list = un (take 4 (drop at list))
+
+-- the numbers of the step at a place
+abbrev pub listNumbers : ℕ → List ℕ → Numbers
+listNumbers at list =
+    numbersFrom (listNumber at list) (listNumber (at + 4) list) (listNumber (at + 8) list) (listNumber (at + 12) list) (listNumber (at + 16) list) (listNumber (at + 20) list)
 
 -- a line that does not fit 32 bits is told as the largest that does
 abbrev pub toldLine : ℕ → ℕ
@@ -50,23 +67,29 @@ toldLine n = cond (leb n 4294967295) n 4294967295
 
 -- The steps of a list of m whole ones, the first of which has line n: "A step out of range is off the tape .. with the line the first
 -- such step would have had", and so is one that is not whole.
-unfoldable pub listedFrom : ℕ → ℕ → List ℕ → Logged
-listedFrom zero n list = cond (eqb (length list) 0) (steps []) (fault (OutOfRange (toldLine n)))
-listedFrom (suc m) n list =
-    let kind = listNumber 0 list in
-    let item = listNumber 4 list in
-    let minutes = listNumber 8 list in
-    cond (inRange kind item minutes) (ahead (stepOf kind item minutes) (listedFrom m (suc n) (drop 12 list)))
-    (fault (OutOfRange (toldLine n)))
+unfoldable pub listedFrom : ℕ → ℕ → ℕ → List ℕ → Logged
+listedFrom form zero n list = cond (eqb (length list) 0) (steps form []) (fault (OutOfRange (toldLine n)))
+listedFrom form (suc m) n list =
+    let numbers = numbersUnder form (listNumbers 0 list) in
+    cond (inRange numbers) (ahead (stepOf numbers) (listedFrom form m (suc n) (drop 24 list))) (fault (OutOfRange (toldLine n)))
 
 -- the names are line 1, the first step is line 2
-abbrev pub listed : List ℕ → Logged
-listed list = listedFrom (length list / 12) 2 list
+abbrev pub listedUnder : ℕ → List ℕ → Logged
+listedUnder form list = listedFrom form (length list / 24) 2 list
+
+-- "The log writer is told the heading": a number that is no heading's is out of range on line 1
+abbrev pub listed : ℕ → List ℕ → Logged
+listed form list = cond (isHeading form) (listedUnder form list) (fault (OutOfRange 1))
+
+-- a step's numbers as bytes, in front of others
+abbrev pub numbersOnto : Numbers → List ℕ → List ℕ
+numbersOnto n rest =
+    le 4 (n .kind) ++ (le 4 (n .item) ++ (le 4 (n .minutes) ++ (le 4 (n .blocks) ++ (le 4 (n .load) ++ (le 4 (n .write) ++ rest)))))
 
 -- steps as a list; what a step lacks is 0
 unfoldable pub listOf : List Step → List ℕ
 listOf [] = []
-listOf (s ∷ rest) = le 4 (stepKind s) ++ (le 4 (stepItem s) ++ (le 4 (stepMinutes s) ++ listOf rest))
+listOf (s ∷ rest) = numbersOnto (numbersOf s) (listOf rest)
 
 -- ## The reading of a text
 
@@ -78,59 +101,65 @@ follows (Sizes k h r) rest = fault (Malformed 0)
 follows (ItemLine i b l w) rest = fault (Malformed 0)
 follows (ActLine place act) rest = fault (Malformed 0)
 
--- The lines from line n on. The last piece is what stands behind the last line feed: bytes there are a line without one.
-unfoldable pub readLines : ℕ → List (List ℕ) → Logged
-readLines n [] = steps []
-readLines n (l ∷ []) = cond (eqb (length l) 0) (steps []) (fault (Malformed n))
-readLines n (l ∷ m ∷ rest) = follows (lineIn 2 0 (fieldsOf l) n) (readLines (suc n) (m ∷ rest))
+-- The lines under a heading from line n on. The last piece is what stands behind the last line feed: bytes there are a line without one.
+unfoldable pub readLines : ℕ → ℕ → List (List ℕ) → Logged
+readLines form n [] = steps form []
+readLines form n (l ∷ []) = cond (eqb (length l) 0) (steps form []) (fault (Malformed n))
+readLines form n (l ∷ m ∷ rest) = follows (lineIn 2 form (fieldsOf l) n) (readLines form (suc n) (m ∷ rest))
 
--- the line of names, and what follows it
-abbrev pub headed : Names → Logged → Logged
-headed (Form f) rest = rest
+-- the line of names, and the lines that follow it
+abbrev pub headed : Names → List (List ℕ) → Logged
+headed (Form form) rest = readLines form 2 rest
 headed Unknown rest = fault (Heading 1)
 
 -- "the heading being line 1"
 unfoldable pub readTable : List (List ℕ) → Logged
 readTable [] = fault (Heading 1)
 readTable (l ∷ []) = fault (cond (eqb (length l) 0) (Heading 1) (Malformed 1))
-readTable (l ∷ m ∷ rest) = headed (formOf 2 l) (readLines 2 (m ∷ rest))
+readTable (l ∷ m ∷ rest) = headed (formOf 2 l) (m ∷ rest)
 
 -- "Alone, only 16, line feed, heading, shape and range are checked, in the old order"
 unfoldable pub readLog : List ℕ → Logged
 readLog s = cond (leb (length s) 65536) (readTable (split 10 s)) (fault (InputTooLong 0))
 
--- ## The answers
+-- ## What writing answers
 
--- what writing answers: "A buffer too short, or a text over 65,536 bytes, is the short page"
+-- "A buffer too short, or a text over 65,536 bytes, is the short page"
 abbrev pub writeAnswer : Logged → List ℕ → LogAnswer
-writeAnswer (steps ss) page =
-    cond (leb (length (logText ss)) 65536 && fits (logText ss) page) (Count (length (logText ss))) (Not (ShortBuffer 0))
+writeAnswer (steps form ss) page =
+    let text = logText form ss in
+    cond (leb (length text) 65536 && fits text page) (Count (length text)) (Not (ShortBuffer 0))
 writeAnswer (fault r) page = Not r
 
 -- and the page then
 abbrev pub writtenPage : Logged → List ℕ → List ℕ
-writtenPage (steps ss) page = cond (leb (length (logText ss)) 65536) (pageOf (logText ss) page) page
+writtenPage (steps form ss) page =
+    let text = logText form ss in
+    cond (leb (length text) 65536) (pageOf text page) page
 writtenPage (fault r) page = page
 
--- what reading answers, a list being lent for the steps: how many there are, or 15, which comes last
-abbrev pub readAnswer : Logged → List ℕ → LogAnswer
-readAnswer (steps ss) list = cond (fits (listOf ss) list) (Count (length ss)) (Not (ShortBuffer 0))
-readAnswer (fault r) list = Not r
+-- ## One heading and list, one text (proofs/OneText.antt)
 
--- and the list then
-abbrev pub readList : Logged → List ℕ → List ℕ
-readList (steps ss) list = pageOf (listOf ss) list
-readList (fault r) list = list
+-- steps that a log of a heading may have: "A and Q under the old one are off the tape"
+unfoldable pub stepsInRange : ℕ → List Step → Bool
+stepsInRange form [] = true
+stepsInRange form (s ∷ rest) = inRange (numbersUnder form (numbersOf s)) && stepsInRange form rest
 
--- ## One list, one text (proofs/OneText.antt)
-
-unfoldable pub stepsInRange : List Step → Bool
-stepsInRange [] = true
-stepsInRange (s ∷ rest) = inRange (stepKind s) (stepItem s) (stepMinutes s) && stepsInRange rest
-
--- "the reader gives back those steps, and a text the reader takes is what the writer makes of them"
+-- "the reader gives back those steps, and a text the reader takes is what the writer makes of them"; "the text is the only one for that
+-- heading and those steps"
 pub record OneText : Type 0 where
-  pub writtenReads : (ss : List Step) → stepsInRange ss ≡ true → length (logText ss) ≤ 65536 → readLog (logText ss) ≡ steps ss
-  pub readsWritten : (s : List ℕ) (ss : List Step) → readLog s ≡ steps ss → (logText ss ≡ s) × (stepsInRange ss ≡ true)
-  pub listedInRange : (list : List ℕ) (ss : List Step) → listed list ≡ steps ss → stepsInRange ss ≡ true
-  pub listReads : (ss : List Step) → stepsInRange ss ≡ true → listed (listOf ss) ≡ steps ss
+  pub writtenReads :
+      (form : ℕ) (ss : List Step) →
+      isHeading form ≡ true →
+      stepsInRange form ss ≡ true →
+      length (logText form ss) ≤ 65536 →
+      readLog (logText form ss) ≡ steps form ss
+  pub readsWritten :
+      (s : List ℕ) (form : ℕ) (ss : List Step) →
+      readLog s ≡ steps form ss →
+      (logText form ss ≡ s) × (isHeading form ≡ true) × (stepsInRange form ss ≡ true)
+  pub listedInRange :
+      (told : ℕ) (list : List ℕ) (form : ℕ) (ss : List Step) →
+      listed told list ≡ steps form ss →
+      (form ≡ told) × (isHeading form ≡ true) × (stepsInRange form ss ≡ true)
+  pub listReads : (form : ℕ) (ss : List Step) → isHeading form ≡ true → stepsInRange form ss ≡ true → listed form (listOf ss) ≡ steps form ss

@@ -1,18 +1,20 @@
-// The text of a log, which is the third table alone: written from a list of steps on a lent page. A list of steps is lent as bytes, 12 a
-// step: its kind, its item and its minutes, four bytes each, the low byte first.
+// The text of a log, which is the third table alone: written from a list of steps on a lent page, under the heading that its caller tells:
+// 0 is `step sail minutes`, 1 is `step sail minutes blocks load write`. A list of steps is lent as bytes, 24 a step under both headings: its
+// kind, item, minutes, blocks, load and write, four bytes each, the low byte first.
 ghost use mathlib.Core.Path.{_≡_};
 ghost use Prim.Native.Nat.{_+_, _/_, _≤_, _<_};
 ghost use lib.ListN.{length};
 ghost use Rattle.decimal.specs.InnerPages.{textOver};
-ghost use Rattle.types.specs.declared.Step.the-variants.{Read, Write};
-ghost use Rattle.season_log.specs.Log.{stepText, listNumber, toldLine, listed, writeAnswer, writtenPage};
-ghost use Rattle.season_log.specs.Inner.{stepAt, lineBytes, textBytes, FaultOn, LineFits, LinesFit, LinesOn};
+ghost use Rattle.types.specs.declared.Step.the-variants.{Write, Flush};
+ghost use Rattle.season_log.specs.Log.{noValues, stepText, listNumber, listNumbers, toldLine, listedUnder, listed, writeAnswer, writtenPage};
+ghost use Rattle.season_log.specs.Inner.{namesText, namedText, arrivalText, valueText, rangedAt, stepAt, lineBytes, Arrives, textBytes, FaultOn, LineFits, LinesFit, LinesOn};
+use types::Numbers;
 use types::Refusal;
 
 // The most bytes that a text may have.
 pub const LIMIT: usize = 65536;
 
-// What writing or reading a log answers: how many bytes were written or steps read, or why none were.
+// What writing a log answers: how many bytes were written, or why none were.
 pub enum LogAnswer {
     Count(usize),
     Refused(Refusal),
@@ -42,145 +44,287 @@ fn number_at(list: &[u8], at: usize) -> u32
     word_at(list, at) as u32
 }
 
+// The numbers of the step at a place of a list.
+fn numbers_at(list: &[u8], at: usize) -> Numbers
+    requires { ⌜ at + 24 ≤ length (now list) ⌝ }
+    ensures { λ r. ⌜ r ≡ listNumbers at (now (list .entry)) ⌝ }
+{
+    Numbers {
+        kind: number_at(list, at),
+        item: number_at(list, at + 4),
+        minutes: number_at(list, at + 8),
+        blocks: number_at(list, at + 12),
+        load: number_at(list, at + 16),
+        write: number_at(list, at + 20),
+    }
+}
+
+// Whether the step at a place of a list may be in a log under the heading: it is in range as the heading takes it.
+fn is_ranged(heading: u32, list: &[u8], at: usize) -> bool
+    requires { ⌜ at + 24 ≤ length (now list) ⌝ }
+    ensures { λ r. ⌜ r ≡ rangedAt heading at (now (list .entry)) ⌝ }
+{
+    let n = numbers_at(list, at);
+    landlord::in_range(Numbers {
+        kind: season_lines::kind_under(heading, n.kind),
+        item: n.item,
+        minutes: n.minutes,
+        blocks: n.blocks,
+        load: n.load,
+        write: n.write,
+    })
+}
+
 // The line of the step at a place of a list, as far as 32 bits hold it.
 fn line_of(at: usize) -> u32
-    ensures { λ r. ⌜ r ≡ toldLine (at / 12 + 2) ⌝ }
+    ensures { λ r. ⌜ r ≡ toldLine (at / 24 + 2) ⌝ }
 {
-    let line = at / 12 + 2;
+    let line = at / 24 + 2;
     if line <= 4294967295 {
         return line as u32;
     }
     4294967295
 }
 
-// How many bytes the line of the step at a place of a list has; 0 if the step is out of range.
-fn line_bytes(list: &[u8], at: usize) -> usize
-    requires { ⌜ at + 12 ≤ length (now list) ⌝ }
-    ensures { λ r. ⌜ r ≡ lineBytes at (now (list .entry)) ⌝ }
-    ensures { λ r. ⌜ r ≤ 11 ⌝ }
+// How many bytes the end of a line has that has none of the three last values.
+fn end_bytes(heading: u32) -> usize
+    ensures { λ r. ⌜ r ≡ length (noValues heading) ⌝ }
+    ensures { λ r. ⌜ r ≤ 7 ⌝ }
 {
-    let kind = number_at(list, at);
-    if kind == 76 {
-        return 6;
+    if heading == 1 {
+        return 7;
     }
-    let item = number_at(list, at + 4);
-    let minutes = number_at(list, at + 8);
-    if !landlord::in_range(kind, item, minutes) {
+    1
+}
+
+// How many bytes the line of an arrival in range has.
+fn arrival_bytes(n: Numbers) -> usize
+    requires { ⌜ Arrives n ⌝ }
+    ensures { λ r. ⌜ r ≡ length (arrivalText n) ⌝ }
+    ensures { λ r. ⌜ r ≤ 23 ⌝ }
+{
+    let item = decimal::short_width(n.item);
+    let blocks = decimal::short_width(n.blocks);
+    let load = decimal::width(n.load as u64);
+    let write = decimal::width(n.write as u64);
+    8 + item + blocks + load + write
+}
+
+// How many bytes the line of the step at a place of a list has; 0 if the step is out of range. Under the old heading A and Q are.
+fn line_bytes(heading: u32, list: &[u8], at: usize) -> usize
+    requires { ⌜ at + 24 ≤ length (now list) ⌝ }
+    ensures { λ r. ⌜ r ≡ lineBytes heading at (now (list .entry)) ⌝ }
+    ensures { λ r. ⌜ r ≤ 23 ⌝ }
+{
+    let n = numbers_at(list, at);
+    let end = end_bytes(heading);
+    if n.kind == 76 {
+        return 5 + end;
+    }
+    if !landlord::in_range(n) {
         return 0;
     }
-    let digits = decimal::short_width(item);
-    if kind == 82 {
-        return 5 + digits;
+    let digits = decimal::short_width(n.item);
+    if n.kind == 82 {
+        return 4 + digits + end;
     }
-    4 + digits + decimal::short_width(minutes)
+    if n.kind == 87 {
+        return 3 + digits + decimal::short_width(n.minutes) + end;
+    }
+    if heading != 1 {
+        return 0;
+    }
+    if n.kind == 81 {
+        return 4 + digits + end;
+    }
+    arrival_bytes(n)
+}
+
+// How many bytes the names have, with their line feed.
+fn names_bytes(heading: u32) -> usize
+    ensures { λ r. ⌜ r ≡ length (namesText heading) ⌝ }
+    ensures { λ r. ⌜ r ≤ 36 ⌝ }
+{
+    if heading == 1 {
+        return 36;
+    }
+    18
 }
 
 // How many bytes the text of a list has; 0 if a step of it is out of range or not whole. A line has fewer bytes than its step in the list,
 // so that no sum can wrap, however long the list is.
-fn text_bytes(list: &[u8]) -> usize
-    ensures { λ r. ⌜ r ≡ textBytes (listed (now (list .entry))) ⌝ }
+fn text_bytes(heading: u32, list: &[u8]) -> usize
+    ensures { λ r. ⌜ r ≡ textBytes (listedUnder heading (now (list .entry))) ⌝ }
 {
-    if list.len() % 12 != 0 {
+    if list.len() % 24 != 0 {
         return 0;
     }
-    let mut bytes: usize = 18;
+    let mut bytes = names_bytes(heading);
     let mut at = 0;
     while at < list.len() {
-        let line = line_bytes(list, at);
+        let line = line_bytes(heading, list, at);
         if line == 0 {
             return 0;
         }
         bytes += line;
-        at += 12;
+        at += 24;
     }
     bytes
 }
 
 // The line of the first step that is out of range or not whole.
-fn fault_line(list: &[u8]) -> u32
-    ensures { λ r. ⌜ FaultOn (listed (now (list .entry))) r ⌝ }
+fn fault_line(heading: u32, list: &[u8]) -> u32
+    ensures { λ r. ⌜ FaultOn (listedUnder heading (now (list .entry))) r ⌝ }
 {
     let n = list.len();
     let mut at = 0;
-    while 12 <= n - at {
-        if line_bytes(list, at) == 0 {
+    while 24 <= n - at {
+        if !is_ranged(heading, list, at) {
             break;
         }
-        at += 12;
+        at += 24;
     }
     line_of(at)
 }
 
-// Writes the line of a read at the start of the page, which has room for it.
-fn put_read(item: u32, page: &mut [u8]) -> usize
-    requires { ⌜ (item ≤ 255) × (length (stepText (Read item)) ≤ length (now page)) ⌝ }
-    ensures { λ r. ⌜ r ≡ length (stepText (Read item)) ⌝ }
-    ensures { λ _. ⌜ now (page .exit) ≡ textOver (stepText (Read item)) (now (page .entry)) ⌝ }
+// Writes the names at the start of the page, which has room for them.
+fn put_names(heading: u32, page: &mut [u8]) -> usize
+    requires { ⌜ length (namesText heading) ≤ length (now page) ⌝ }
+    ensures { λ r. ⌜ r ≡ length (namesText heading) ⌝ }
+    ensures { λ _. ⌜ now (page .exit) ≡ textOver (namesText heading) (now (page .entry)) ⌝ }
 {
-    let mut at = decimal::put_text(b"R ", page);
-    at += decimal::put_short(item, &mut page[at..]);
-    at + decimal::put_text(b" -\n", &mut page[at..])
+    if heading == 1 {
+        return decimal::put_text(b"step sail minutes blocks load write\n", page);
+    }
+    decimal::put_text(b"step sail minutes\n", page)
+}
+
+// Writes the end of a line that has none of the three last values at the start of the page, which has room for it.
+fn put_end(heading: u32, page: &mut [u8]) -> usize
+    requires { ⌜ length (noValues heading) ≤ length (now page) ⌝ }
+    ensures { λ r. ⌜ r ≡ length (noValues heading) ⌝ }
+    ensures { λ _. ⌜ now (page .exit) ≡ textOver (noValues heading) (now (page .entry)) ⌝ }
+{
+    if heading == 1 {
+        return decimal::put_text(b" - - -\n", page);
+    }
+    decimal::put_text(b"\n", page)
+}
+
+// Writes the line of a landing at the start of the page, which has room for it.
+fn put_flush(heading: u32, page: &mut [u8]) -> usize
+    requires { ⌜ length (stepText heading Flush) ≤ length (now page) ⌝ }
+    ensures { λ r. ⌜ r ≡ length (stepText heading Flush) ⌝ }
+    ensures { λ _. ⌜ now (page .exit) ≡ textOver (stepText heading Flush) (now (page .entry)) ⌝ }
+{
+    if heading == 1 {
+        return decimal::put_text(b"L - - - - -\n", page);
+    }
+    decimal::put_text(b"L - -\n", page)
+}
+
+// Writes the line of a read or of a retirement at the start of the page, which has room for it.
+fn put_named(heading: u32, letter: u8, item: u32, page: &mut [u8]) -> usize
+    requires { ⌜ (item ≤ 255) × (length (namedText heading letter item) ≤ length (now page)) ⌝ }
+    ensures { λ r. ⌜ r ≡ length (namedText heading letter item) ⌝ }
+    ensures { λ _. ⌜ now (page .exit) ≡ textOver (namedText heading letter item) (now (page .entry)) ⌝ }
+{
+    page[0] = letter;
+    page[1] = b' ';
+    let mut at = 2 + decimal::put_short(item, &mut page[2..]);
+    at += decimal::put_text(b" -", &mut page[at..]);
+    at + put_end(heading, &mut page[at..])
 }
 
 // Writes the line of a write at the start of the page, which has room for it.
-fn put_write(item: u32, minutes: u32, page: &mut [u8]) -> usize
-    requires { ⌜ (item ≤ 255) × (minutes ≤ 1440) × (length (stepText (Write item minutes)) ≤ length (now page)) ⌝ }
-    ensures { λ r. ⌜ r ≡ length (stepText (Write item minutes)) ⌝ }
-    ensures { λ _. ⌜ now (page .exit) ≡ textOver (stepText (Write item minutes)) (now (page .entry)) ⌝ }
+fn put_write(heading: u32, item: u32, minutes: u32, page: &mut [u8]) -> usize
+    requires { ⌜ (item ≤ 255) × (minutes ≤ 1440) × (length (stepText heading (Write item minutes)) ≤ length (now page)) ⌝ }
+    ensures { λ r. ⌜ r ≡ length (stepText heading (Write item minutes)) ⌝ }
+    ensures { λ _. ⌜ now (page .exit) ≡ textOver (stepText heading (Write item minutes)) (now (page .entry)) ⌝ }
 {
     let mut at = decimal::put_text(b"W ", page);
     at += decimal::put_short(item, &mut page[at..]);
     at += decimal::put_text(b" ", &mut page[at..]);
     at += decimal::put_short(minutes, &mut page[at..]);
+    at + put_end(heading, &mut page[at..])
+}
+
+// Writes a text and a number behind it at the start of the page, which has room for them.
+fn put_value(text: &[u8], v: u32, page: &mut [u8]) -> usize
+    requires { ⌜ length (valueText (now text) v) ≤ length (now page) ⌝ }
+    ensures { λ r. ⌜ r ≡ length (valueText (now (text .entry)) v) ⌝ }
+    ensures { λ _. ⌜ now (page .exit) ≡ textOver (valueText (now (text .entry)) v) (now (page .entry)) ⌝ }
+{
+    let at = decimal::put_text(text, page);
+    at + decimal::write(v as u64, &mut page[at..])
+}
+
+// Writes the line of an arrival at the start of the page, which has room for it.
+fn put_arrival(n: Numbers, page: &mut [u8]) -> usize
+    requires { ⌜ length (arrivalText n) ≤ length (now page) ⌝ }
+    ensures { λ r. ⌜ r ≡ length (arrivalText n) ⌝ }
+    ensures { λ _. ⌜ now (page .exit) ≡ textOver (arrivalText n) (now (page .entry)) ⌝ }
+{
+    let mut at = put_value(b"A ", n.item, page);
+    at += put_value(b" - ", n.blocks, &mut page[at..]);
+    at += put_value(b" ", n.load, &mut page[at..]);
+    at += put_value(b" ", n.write, &mut page[at..]);
     at + decimal::put_text(b"\n", &mut page[at..])
 }
 
 // Writes the line of the step at a place of a list, which is in range, at the start of the page, which has room for it.
-fn put_step(list: &[u8], at: usize, page: &mut [u8]) -> usize
-    requires { ⌜ LineFits (now list) at (now page) ⌝ }
-    ensures { λ r. ⌜ r ≡ length (stepText (stepAt at (now (list .entry)))) ⌝ }
-    ensures { λ _. ⌜ now (page .exit) ≡ textOver (stepText (stepAt at (now (list .entry)))) (now (page .entry)) ⌝ }
+fn put_step(heading: u32, list: &[u8], at: usize, page: &mut [u8]) -> usize
+    requires { ⌜ LineFits heading (now list) at (now page) ⌝ }
+    ensures { λ r. ⌜ r ≡ length (stepText heading (stepAt heading at (now (list .entry)))) ⌝ }
+    ensures { λ _. ⌜ now (page .exit) ≡ textOver (stepText heading (stepAt heading at (now (list .entry)))) (now (page .entry)) ⌝ }
 {
     let kind = number_at(list, at);
     if kind == 76 {
-        return decimal::put_text(b"L - -\n", page);
+        return put_flush(heading, page);
     }
     let item = number_at(list, at + 4);
-    if kind == 82 {
-        return put_read(item, page);
+    if kind == 87 {
+        return put_write(heading, item, number_at(list, at + 8), page);
     }
-    put_write(item, number_at(list, at + 8), page)
+    if kind == 65 {
+        return put_arrival(numbers_at(list, at), page);
+    }
+    put_named(heading, kind as u8, item, page)
 }
 
 // Writes the lines of a list of steps in range at the start of the page, which has room for them.
-fn put_lines(list: &[u8], page: &mut [u8])
-    requires { ⌜ LinesFit (now list) (now page) ⌝ }
-    ensures { λ _. ⌜ LinesOn (listed (now (list .entry))) (now (page .entry)) (now (page .exit)) ⌝ }
+fn put_lines(heading: u32, list: &[u8], page: &mut [u8])
+    requires { ⌜ LinesFit heading (now list) (now page) ⌝ }
+    ensures { λ _. ⌜ LinesOn (listedUnder heading (now (list .entry))) (now (page .entry)) (now (page .exit)) ⌝ }
 {
     let mut at = 0;
     let mut to = 0;
     while at < list.len() {
-        to += put_step(list, at, &mut page[to..]);
-        at += 12;
+        to += put_step(heading, list, at, &mut page[to..]);
+        at += 24;
     }
 }
 
-// Writes the third table of a list of steps on the page: 3 for the first step out of range or not whole, then 15 if the text has too many
-// bytes, for the page or for any reader; else the text. A refused page is as it was.
-pub fn write_log(list: &[u8], page: &mut [u8]) -> LogAnswer
-    ensures { λ r. ⌜ r ≡ writeAnswer (listed (now (list .entry))) (now (page .entry)) ⌝ }
-    ensures { λ _. ⌜ now (page .exit) ≡ writtenPage (listed (now (list .entry))) (now (page .entry)) ⌝ }
+// Writes the third table of a list of steps on the page, under a heading: 3 for a number that is no heading's, on line 1, or for the first
+// step out of range or not whole, then 15 if the text has too many bytes, for the page or for any reader; else the text. A refused page is
+// as it was.
+pub fn write_log(heading: u32, list: &[u8], page: &mut [u8]) -> LogAnswer
+    ensures { λ r. ⌜ r ≡ writeAnswer (listed heading (now (list .entry))) (now (page .entry)) ⌝ }
+    ensures { λ _. ⌜ now (page .exit) ≡ writtenPage (listed heading (now (list .entry))) (now (page .entry)) ⌝ }
 {
-    let bytes = text_bytes(list);
+    if 1 < heading {
+        return LogAnswer::Refused(Refusal::OutOfRange { line: 1 });
+    }
+    let bytes = text_bytes(heading, list);
     if bytes == 0 {
         return LogAnswer::Refused(Refusal::OutOfRange {
-            line: fault_line(list),
+            line: fault_line(heading, list),
         });
     }
     if LIMIT < bytes || page.len() < bytes {
         return LogAnswer::Refused(Refusal::ShortBuffer { line: 0 });
     }
-    let at = decimal::put_text(b"step sail minutes\n", page);
-    put_lines(list, &mut page[at..]);
+    let at = put_names(heading, page);
+    put_lines(heading, list, &mut page[at..]);
     LogAnswer::Count(bytes)
 }

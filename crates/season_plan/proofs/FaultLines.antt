@@ -12,8 +12,8 @@ use Rattle.types.specs.declared.Step.{Step}
 use Rattle.types.specs.declared.Act.{Act}
 use Rattle.types.specs.Types.{stepItem, actItem}
 use Rattle.landlord.specs.Fold.{tab}
-use Rattle.landlord.specs.Catalog.{Catalog}
-use Rattle.landlord.specs.Plan.{Plan, Copy, noCopy, Fault, unknownItem, notHeld, alreadyHeld, requestNotHeld, overCapacity, Done, done, faulty, Priced, costs, fault, planActs, andPaid, andThen, allActs, planServes, pricedWith, priceThen, priceFrom}
+use Rattle.landlord.specs.Catalog.{Catalog, catalogNext}
+use Rattle.landlord.specs.Plan.{Plan, Copy, noCopy, Fault, unknownItem, retiredItem, notHeld, alreadyHeld, requestNotHeld, overCapacity, Done, done, faulty, Priced, costs, fault, planActs, andPaid, andThen, allActs, planServes, pricedWith, priceThen, priceFrom}
 use Rattle.season_tables.specs.Tables.{Placed, Sofar, on, readingOf}
 use Rattle.season_tables.proofs.LineNumbers.{accepted-lines}
 use Rattle.season_plan.specs.Plans.{actsAt, actsBefore, faultLine, priceOf}
@@ -23,6 +23,7 @@ use Rattle.season_plan.proofs.Costs.{Faults, ofStep, act-faults, serve-
 -- a fault of an act that its step has, or of one of the first n steps
 abbrev InPlan : Plan → ℕ → Fault → Type 0
 InPlan plan n (unknownItem s a i) = a < length (plan s)
+InPlan plan n (retiredItem s a i) = a < length (plan s)
 InPlan plan n (notHeld s a i) = a < length (plan s)
 InPlan plan n (alreadyHeld s a i) = a < length (plan s)
 InPlan plan n (requestNotHeld s i) = s < n
@@ -61,9 +62,10 @@ alone : (P : Fault → Type 0) (d : Done) → PriceFaults P (priceThen d (λ q. 
 alone P (done q c) h = tt
 alone P (faulty f) h = h
 
-module _ (cat : Catalog) (h : ℕ) (plan : Plan) (n : ℕ) where
+module _ (h : ℕ) (plan : Plan) (n : ℕ) where
   act-in-plan : (s a i : ℕ) → a < length (plan s) → (f : Fault) → ofAct s 0 a i f → InPlan plan n f
   act-in-plan s a i l (unknownItem t b j) of = omega (arith, of .1, ap (λ u. length (plan u)) (of .0))
+  act-in-plan s a i l (retiredItem t b j) of = omega (arith, of .1, ap (λ u. length (plan u)) (of .0))
   act-in-plan s a i l (notHeld t b j) of = omega (arith, of .1, ap (λ u. length (plan u)) (of .0))
   act-in-plan s a i l (alreadyHeld t b j) of = omega (arith, of .1, ap (λ u. length (plan u)) (of .0))
   act-in-plan s a i l (requestNotHeld t j) of = absurd of
@@ -71,32 +73,33 @@ module _ (cat : Catalog) (h : ℕ) (plan : Plan) (n : ℕ) where
 
   step-in-plan : (s i : ℕ) → s < n → (f : Fault) → ofStep s i f → InPlan plan n f
   step-in-plan s i l (unknownItem t a j) of = absurd of
+  step-in-plan s i l (retiredItem t a j) of = absurd of
   step-in-plan s i l (notHeld t a j) of = absurd of
   step-in-plan s i l (alreadyHeld t a j) of = absurd of
   step-in-plan s i l (requestNotHeld t j) of = omega (arith, of .0)
   step-in-plan s i l (overCapacity t) of = omega (arith, of)
 
   -- the acts from act a of step s on
-  acts-in-plan : (s a : ℕ) (acts : List Act) (q : List Copy) → a + length acts ≤ length (plan s) → Faults (InPlan plan n) (allActs cat s a acts q)
+  acts-in-plan : (cat : Catalog) (s a : ℕ) (acts : List Act) (q : List Copy) → a + length acts ≤ length (plan s) → Faults (InPlan plan n) (allActs cat s a acts q)
   unfolding allActs
-  acts-in-plan s a [] q l = tt
-  acts-in-plan s a (act ∷ acts) q l =
+  acts-in-plan cat s a [] q l = tt
+  acts-in-plan cat s a (act ∷ acts) q l =
       alone (InPlan plan n) (andThen (planActs cat s a act q) (allActs cat s (suc a) acts))
       (turn-faults (InPlan plan n) (planActs cat s a act q) (allActs cat s (suc a) acts) (λ r. costs 0)
       (faults-are (ofAct s 0 a (actItem act)) (InPlan plan n) (planActs cat s a act q)
       (act-in-plan s a (actItem act) (omega arith)) (act-faults cat s 0 a a act q (omega arith)))
-      (λ r. acts-in-plan s (suc a) acts r (omega arith)) (λ r. tt))
+      (λ r. acts-in-plan cat s (suc a) acts r (omega arith)) (λ r. tt))
 
   -- the plan from step s on
-  price-in-plan : (s : ℕ) (steps : List Step) (q : List Copy) → s + length steps ≤ n → PriceFaults (InPlan plan n) (priceFrom cat h plan s steps q)
+  price-in-plan : (cat : Catalog) (s : ℕ) (steps : List Step) (q : List Copy) → s + length steps ≤ n → PriceFaults (InPlan plan n) (priceFrom cat h plan s steps q)
   unfolding priceFrom
-  price-in-plan s [] q l = tt
-  price-in-plan s (step ∷ steps) q l =
-      turn-faults (InPlan plan n) (allActs cat s 0 (plan s) q) (planServes cat h s step) (priceFrom cat h plan (suc s) steps)
-      (acts-in-plan s 0 (plan s) q (omega arith))
+  price-in-plan cat s [] q l = tt
+  price-in-plan cat s (step ∷ steps) q l =
+      turn-faults (InPlan plan n) (allActs cat s 0 (plan s) q) (planServes cat h s step) (priceFrom (catalogNext cat step) h plan (suc s) steps)
+      (acts-in-plan cat s 0 (plan s) q (omega arith))
       (λ r. faults-are (ofStep s (stepItem step)) (InPlan plan n) (planServes cat h s step r)
       (step-in-plan s (stepItem step) (omega arith)) (serve-fault cat h s step r))
-      (λ r. price-in-plan (suc s) steps r (omega arith))
+      (λ r. price-in-plan (catalogNext cat step) (suc s) steps r (omega arith))
 
 -- the acts before those of a step, and those, are no more than all acts
 acts-count : (s : ℕ) (acts : List Placed) → actsBefore s acts + length (actsAt s acts) ≤ length acts
@@ -122,6 +125,7 @@ in-plan-line :
     InPlan (planOf (v .acts)) (length (v .steps)) f →
     faultLine v f ≤ b + 1
 in-plan-line b v (unknownItem s a i) l p = omega (arith, p, acts-count s (v .acts))
+in-plan-line b v (retiredItem s a i) l p = omega (arith, p, acts-count s (v .acts))
 in-plan-line b v (notHeld s a i) l p = omega (arith, p, acts-count s (v .acts))
 in-plan-line b v (alreadyHeld s a i) l p = omega (arith, p, acts-count s (v .acts))
 in-plan-line b v (requestNotHeld s i) l p = omega (arith, p)
@@ -134,4 +138,4 @@ fault-line s v f is faults =
     let plan = planOf (v .acts) in
     in-plan-line (length s) v f (accepted-lines s v is)
     (subst (PriceFaults (InPlan plan all)) faults
-    (price-in-plan (v .catalog) (v .h) plan all 0 (v .steps) (tab (length (v .catalog)) (λ i. noCopy)) (omega arith)))
+    (price-in-plan (v .h) plan all (v .catalog) 0 (v .steps) (tab (length (v .catalog)) (λ i. noCopy)) (omega arith)))

@@ -2,25 +2,26 @@
 use mathlib.Core.Path.{_≡_, refl, sym, ap, _∙_}
 use mathlib.Core.Bool.{false, cond}
 use mathlib.Core.List.{List}
-use Prim.Native.Nat.{ℕ, _+_, _/_, _≤_, _<_}
+use Prim.Native.Nat.{ℕ, _+_, _≤_, _<_}
 use native.Mathlib.Numerals.{add-one}
 use native.Mathlib.Omega.{arith}
 use native.Mathlib.Decide.{ℕ-discrete}
 use lib.ListN.{length, getD, set}
 use lib.Seq.{getD-set-same, getD-set-other}
 use Rattle.landlord.specs.Fold.{sumTo}
-use Rattle.landlord.specs.Catalog.{itemAt}
+use Rattle.landlord.specs.Catalog.{Catalog, itemAt}
 use Rattle.landlord.specs.Plan.{isChanged, copyAt, cleaned, owed}
 use Rattle.landlord.proofs.Folds.{tab-eq}
-use Rattle.catalog_bytes.specs.Catalogs.{itemIn, catalogIn}
-use Rattle.catalog_bytes.proofs.Laws.{length-catalogIn}
+use Rattle.landlord.proofs.Sums.{sum-eq}
+use Rattle.catalog_bytes.specs.Catalogs.{itemIn}
+use Rattle.season_items.specs.Inner.{HasItems}
 use Rattle.season_plan.specs.declared.Copies.{Copies}
-use Rattle.season_plan.specs.Inner.{copyFrom, copiesOf, Cleans}
+use Rattle.season_plan.specs.Inner.{copyFrom, copiesOf, copiesIn, Cleans}
 use Rattle.season_plan.proofs.Marks.{write-at, copy-none, copy-clean, copy-dirty, copy-at}
 
--- what item i adds to what is owed
-abbrev pub owedAt : List ℕ → Copies → ℕ → ℕ
-owedAt xs p i = cond (isChanged (copyAt (copiesOf (length xs / 5) (p .marks)) i)) (itemAt (catalogIn xs) i .write) 0
+-- what item i adds to what is owed, by its mark and its bytes
+abbrev owedAt : List ℕ → Copies → ℕ → ℕ
+owedAt xs p i = cond (isChanged (copyFrom (getD (p .marks) i 0))) (itemIn xs i .write) 0
 
 -- what the items below i make it pay
 unfoldable pub owedTo : List ℕ → Copies → ℕ → ℕ
@@ -37,48 +38,40 @@ not-dirty m l = by-mark (ℕ-discrete m 0)
     by-mark (yes z) = ap isChanged (copy-none m z)
     by-mark (no z) = ap isChanged (copy-clean m (omega arith))
 
-module _ (xs : List ℕ) (p : Copies) (i : ℕ) (l : i < length xs / 5) where
-  at-item : owedAt xs p i ≡ cond (isChanged (copyFrom (getD (p .marks) i 0))) (itemIn xs i .write) 0
-  at-item =
-      ap (λ t. cond (isChanged t) (itemAt (catalogIn xs) i .write) 0) (copy-at (length xs / 5) (p .marks) i l)
-      ∙ ap (λ t. cond (isChanged (copyFrom (getD (p .marks) i 0))) t 0) (write-at xs i l)
+-- a dirty item is paid for
+pub owed-dirty : (xs : List ℕ) (p : Copies) (i : ℕ) → 1 < getD (p .marks) i 0 → owedTo xs p i + itemIn xs i .write ≡ owedTo xs p (i + 1)
+unfolding owedTo sumTo
+owed-dirty xs p i m =
+    rw add-one (omega (arith, ap (λ t. cond (isChanged t) (itemIn xs i .write) 0) (copy-dirty (getD (p .marks) i 0) m)))
 
-  -- a dirty item is paid for
-  pub owed-dirty : 1 < getD (p .marks) i 0 → owedTo xs p i + itemIn xs i .write ≡ owedTo xs p (i + 1)
-  unfolding owedTo sumTo
-  owed-dirty m =
-      rw add-one
-      (omega (
-        arith,
-        at-item ∙ ap (λ t. cond (isChanged t) (itemIn xs i .write) 0) (copy-dirty (getD (p .marks) i 0) m),
-      ))
+-- another is not
+pub owed-other : (xs : List ℕ) (p : Copies) (i : ℕ) → getD (p .marks) i 0 ≤ 1 → owedTo xs p i ≡ owedTo xs p (i + 1)
+unfolding owedTo sumTo
+owed-other xs p i m = rw add-one (omega (arith, ap (λ t. cond t (itemIn xs i .write) 0) (not-dirty (getD (p .marks) i 0) m)))
 
-  -- another is not
-  pub owed-other : getD (p .marks) i 0 ≤ 1 → owedTo xs p i ≡ owedTo xs p (i + 1)
-  unfolding owedTo sumTo
-  owed-other m =
-      rw add-one
-      (omega (
-        arith,
-        at-item ∙ ap (λ t. cond t (itemIn xs i .write) 0) (not-dirty (getD (p .marks) i 0) m),
-      ))
-
-pub owed-all : (xs : List ℕ) (p : Copies) → owedTo xs p (length xs / 5) ≡ owed (catalogIn xs) (copiesOf (length xs / 5) (p .marks))
+pub owed-all : (xs : List ℕ) (p : Copies) (cat : Catalog) → HasItems cat xs → p .n ≡ length cat → owedTo xs p (p .n) ≡ owed cat (copiesIn p)
 unfolding owedTo owed
-owed-all xs p = ap (λ t. sumTo t (owedAt xs p)) (sym (length-catalogIn xs))
+owed-all xs p cat items count =
+    ap (λ t. sumTo t (owedAt xs p)) count
+    ∙ sum-eq (length cat) (owedAt xs p) (λ i. cond (isChanged (copyAt (copiesIn p) i)) (itemAt cat i .write) 0)
+    (λ i l. sym
+    (ap (λ t. cond (isChanged t) (itemAt cat i .write) 0) (copy-at (p .n) (p .marks) i (omega arith))
+    ∙ ap (λ t. cond (isChanged (copyFrom (getD (p .marks) i 0))) t 0) (write-at cat xs items i l)))
 
 -- the items below i are clean in q, which else is p
-pub record Cleaning (n : ℕ) (p q : Copies) (i : ℕ) : Type 0 where
-  pub within : i ≤ n
+pub record Cleaning (p q : Copies) (i : ℕ) : Type 0 where
+  pub within : i ≤ p .n
+  pub count : q .n ≡ p .n
   pub used : q .used ≡ p .used
   pub sum : q .paid ≡ p .paid
   pub before : (j : ℕ) → j < i → copyFrom (getD (q .marks) j 0) ≡ cleaned (copyFrom (getD (p .marks) j 0))
   pub behind : (j : ℕ) → i ≤ j → getD (q .marks) j 0 ≡ getD (p .marks) j 0
 
-pub clean-none : (n : ℕ) (p : Copies) → Cleaning n p p 0
-clean-none n p =
+pub clean-none : (p : Copies) → Cleaning p p 0
+clean-none p =
     record {
       within = omega arith;
+      count = refl;
       used = refl;
       sum = refl;
       before = λ j l. absurd (let z : j < 0 = l in omega arith);
@@ -93,10 +86,11 @@ stays-clean m l = by-mark (ℕ-discrete m 0)
     by-mark (no z) = copy-clean m (omega arith) ∙ sym (ap cleaned (copy-clean m (omega arith)))
 
 -- one item more, that was not dirty
-pub clean-other : (n : ℕ) (p q : Copies) (i : ℕ) → Cleaning n p q i → i < n → getD (p .marks) i 0 ≤ 1 → Cleaning n p q (i + 1)
-clean-other n p q i so l m =
+pub clean-other : (p q : Copies) (i : ℕ) → Cleaning p q i → i < p .n → getD (p .marks) i 0 ≤ 1 → Cleaning p q (i + 1)
+clean-other p q i so l m =
     record {
       within = omega arith;
+      count = so .count;
       used = so .used;
       sum = so .sum;
       before = λ j b. each j b (ℕ-discrete j i);
@@ -110,18 +104,20 @@ clean-other n p q i so l m =
 
 -- one more, that was
 pub clean-dirty :
-    (n : ℕ) (p q r : Copies) (i : ℕ) →
-    Cleaning n p q i →
-    i < n →
+    (p q r : Copies) (i : ℕ) →
+    Cleaning p q i →
+    i < p .n →
     i < length (q .marks) →
     1 < getD (p .marks) i 0 →
+    r .n ≡ q .n →
     r .marks ≡ set (q .marks) i 1 →
     r .used ≡ q .used →
     r .paid ≡ q .paid →
-    Cleaning n p r (i + 1)
-clean-dirty n p q r i so l b m marks used sum =
+    Cleaning p r (i + 1)
+clean-dirty p q r i so l b m count marks used sum =
     record {
       within = omega arith;
+      count = count ∙ so .count;
       used = used ∙ so .used;
       sum = sum ∙ so .sum;
       before = λ j k. each j k (ℕ-discrete j i);
@@ -136,13 +132,16 @@ clean-dirty n p q r i so l b m marks used sum =
     each j k (no e) =
         ap copyFrom (ap (λ t. getD t j 0) marks ∙ getD-set-other (q .marks) i j 1 0 e) ∙ so .before j (omega arith)
 
-pub clean-all : (n : ℕ) (p q : Copies) (i : ℕ) → Cleaning n p q i → n ≤ i → Cleans n p q
+pub clean-all : (p q : Copies) (i : ℕ) → Cleaning p q i → p .n ≤ i → Cleans p q
 unfolding copiesOf
-clean-all n p q i so l =
+clean-all p q i so l =
     record {
+      count = so .count;
       copies =
-          tab-eq n (λ j. copyFrom (getD (q .marks) j 0)) (λ j. cleaned (copyAt (copiesOf n (p .marks)) j))
-          (λ j b. so .before j (omega (arith, so .within)) ∙ sym (ap cleaned (copy-at n (p .marks) j b)));
+          ap (λ t. copiesOf t (q .marks)) (so .count)
+          ∙ tab-eq (p .n) (λ j. copyFrom (getD (q .marks) j 0)) (λ j. cleaned (copyAt (copiesIn p) j))
+          (λ j b. so .before j (omega (arith, so .within)) ∙ sym (ap cleaned (copy-at (p .n) (p .marks) j b)));
       used = so .used;
+      past = λ j b. so .behind j (omega (arith, so .within));
       sum = so .sum;
     }

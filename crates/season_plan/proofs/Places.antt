@@ -1,26 +1,33 @@
--- Where the catalog, the acts and the steps of a text stand in the slices, and which acts stand before a step. Assumes nothing.
+-- Where the items, the acts and the steps of a text stand in the slices, the catalog before each step, and which acts stand before it.
+-- Assumes nothing.
 use mathlib.Core.Path.{_≡_, refl, sym, ap, subst, _∙_}
 use mathlib.Core.Logic.{_≢_}
 use mathlib.Core.Bool.{Bool, true, false, cond}
 use mathlib.Core.List.{List, [], _∷_}
-use Prim.Native.Nat.{ℕ, zero, suc, _+_, _*_, _/_, _≤_, _<_}
+use Prim.Native.Nat.{ℕ, zero, suc, _+_, _*_, _≤_, _<_}
 use native.Mathlib.Omega.{arith}
 use lib.ListN.{length, getD, take, drop}
-use lib.Seq.{getD-take, take-all, drop-cons}
+use lib.Seq.{getD-take, drop-cons}
 use lib.Dec.{ltb}
 use borrow.Author.Tests.{ltb-true, ltb-false, lt-ltb, le-ltb, eq-eqb, ne-eqb}
 use Rattle.types.specs.declared.Step.{Step}
-use Rattle.types.specs.declared.Step.the-variants.{Read, Write, Flush}
+use Rattle.types.specs.declared.Step.the-variants.{Flush}
 use Rattle.types.specs.declared.Act.{Act}
 use Rattle.types.specs.declared.Act.the-variants.{Evict, Fetch}
-use Rattle.types.specs.Types.{stepKind, stepItem, stepMinutes, actKind, actItem}
-use Rattle.landlord.specs.Calls.{inRange}
+use Rattle.types.specs.declared.Numbers.{Numbers}
+use Rattle.types.specs.Types.{numbersOf, stepItem, actKind, actItem}
+use Rattle.landlord.specs.Fold.{fold}
+use Rattle.landlord.specs.Catalog.{CatalogOk, catalogNext}
+use Rattle.landlord.proofs.Keeps.{Served, next-ok}
+use Rattle.landlord.proofs.Logs.{allowed-served}
 use Rattle.season_lines.specs.Lines.{actOf}
-use Rattle.catalog_bytes.specs.Catalogs.{catalogIn}
 use Rattle.season_tables.specs.declared.Seen.{Seen}
 use Rattle.season_tables.specs.Tables.{Placed, Sofar}
-use Rattle.season_tables.specs.Inner.{Holds, callNumbers, actNumbers}
-use Rattle.season_tables.specs.InnerSound.{Sound, placedAt}
+use Rattle.season_items.specs.Inner.{HasItems, callNumbers}
+use Rattle.season_items.proofs.Presence as kept
+use Rattle.season_items.proofs.Notes as notes
+use Rattle.season_tables.specs.Inner.{Holds, actNumbers}
+use Rattle.season_tables.specs.InnerSound.{Sound, placedAt, catalogBefore}
 use Rattle.season_plan.specs.Plans.{actsAt, actsBefore}
 
 -- step s of a log
@@ -51,31 +58,17 @@ act-numbers (x ∷ acts) (suc a) l =
 
 -- the two numbers of step s that pricing reads
 pub record NotedStep (l : List ℕ) (x : Step) (s : ℕ) : Type 0 where
-  pub kind : getD l (4 * s + 1) 0 ≡ stepKind x
-  pub item : getD l (4 * s + 2) 0 ≡ stepItem x
-
-step-numbers : (steps : List Step) (s : ℕ) → s < length steps → NotedStep (callNumbers steps) (stepAt steps s) s
-unfolding callNumbers
-step-numbers [] s l = absurd (let z : s < 0 = l in omega arith)
-step-numbers (x ∷ steps) zero l = record { kind = refl; item = refl }
-step-numbers (x ∷ steps) (suc s) l =
-    let all : List ℕ = 0 ∷ stepKind x ∷ stepItem x ∷ stepMinutes x ∷ callNumbers steps in
-    let rest : NotedStep (callNumbers steps) (stepAt steps s) s = step-numbers steps s (omega arith) in
-    let e : 4 * suc s + 1 ≡ suc (suc (suc (suc (4 * s + 1)))) = omega arith in
-    let f : 4 * suc s + 2 ≡ suc (suc (suc (suc (4 * s + 2)))) = omega arith in
-    record { kind = ap (λ t. getD all t 0) e ∙ rest .kind; item = ap (λ t. getD all t 0) f ∙ rest .item }
+  pub kind : getD l (7 * s + 1) 0 ≡ numbersOf x .kind
+  pub item : getD l (7 * s + 2) 0 ≡ stepItem x
 
 -- what stands in the front of a list
 front : (l m : List ℕ) (n i : ℕ) → take n l ≡ m → i < n → getD l i 0 ≡ getD m i 0
 front l m n i e b = sym (getD-take n l i 0 b) ∙ ap (λ t. getD t i 0) e
 
 module _ (x : Seen) (xs calls acts : List ℕ) (v : Sofar) (h : Holds x xs calls acts v) where
-  -- bytes of the items alone are the text's catalog
-  pub catalog-is : length xs ≡ 5 * x .n → catalogIn xs ≡ v .catalog
-  catalog-is e = ap catalogIn (sym (take-all (5 * x .n) xs (omega arith))) ∙ h .items
-
-  pub count-is : length xs ≡ 5 * x .n → length (v .catalog) ≡ length xs / 5
-  count-is e = omega (arith, h .itemCount)
+  -- the bytes have the items that there are before a step
+  pub items-before : (s : ℕ) → HasItems (catalogBefore v s) xs
+  items-before s = kept.items-before (v .catalog) (v .steps) xs (h .stored) s
 
   pub noted-act : (a : ℕ) → a < x .acts → NotedAct acts (placedAt (v .acts) a) a
   noted-act a l =
@@ -88,21 +81,33 @@ module _ (x : Seen) (xs calls acts : List ℕ) (v : Sofar) (h : Holds x xs calls
 
   pub noted-step : (s : ℕ) → s < x .steps → NotedStep calls (stepAt (v .steps) s) s
   noted-step s l =
-      let here : NotedStep (callNumbers (v .steps)) (stepAt (v .steps) s) s = step-numbers (v .steps) s (omega (arith, h .stepCount)) in
-      record {
-        kind = front calls (callNumbers (v .steps)) (4 * x .steps) (4 * s + 1) (h .stepsNoted) (omega arith) ∙ here .kind;
-        item = front calls (callNumbers (v .steps)) (4 * x .steps) (4 * s + 2) (h .stepsNoted) (omega arith) ∙ here .item;
-      }
+      let all : take (7 * length (v .steps)) calls ≡ callNumbers (v .steps) = rw (h .stepCount) at (h .stepsNoted) in
+      let noted = notes.noted-step calls (v .steps) s all (omega (arith, h .stepCount)) in
+      record { kind = ap (λ (n : Numbers). n .kind) noted; item = ap (λ (n : Numbers). n .item) noted }
 
 -- the letter and the item say which act it was
 pub act-again : (a : Act) → actOf (actKind a) (actItem a) ≡ a
 act-again (Evict i) = refl
 act-again (Fetch i) = refl
 
-pub step-kind : (s : Step) → inRange (stepKind s) 0 0 ≡ true
-step-kind (Read i) = refl
-step-kind (Write i m) = refl
-step-kind Flush = refl
+module _ (v : Sofar) where
+  -- a step leads from the catalog before it to the one before the next
+  pub before-next : (s : ℕ) → s < length (v .steps) → catalogNext (catalogBefore v s) (stepAt (v .steps) s) ≡ catalogBefore v (suc s)
+  before-next s l =
+      let e : s + 1 ≡ suc s = omega arith in
+      sym (kept.before-next (v .catalog) (v .steps) s l) ∙ ap (catalogBefore v) e
+
+  module _ (sound : Sound v) where
+    pub step-served : (s : ℕ) → s < length (v .steps) → Served (v .k) (catalogBefore v s) (stepAt (v .steps) s)
+    step-served s l = allowed-served (v .k) (catalogBefore v s) s (stepAt (v .steps) s) (sound .allowed .each s l)
+
+    -- the catalog is in range before each step
+    pub before-ok : (s : ℕ) → s ≤ length (v .steps) → CatalogOk (catalogBefore v s)
+    unfolding fold
+    before-ok zero l = sound .catalog
+    before-ok (suc s) l =
+        subst CatalogOk (before-next s l)
+        (next-ok (v .k) (catalogBefore v s) (stepAt (v .steps) s) (before-ok s (omega arith)) (step-served s l))
 
 -- places never fall
 abbrev pub Ordered : List Placed → Type 0

@@ -1,55 +1,57 @@
--- A step served: the two faults in their order, and what a read, a write and a flush do. Assumes nothing.
+-- A step served: the two faults in their order, and what each kind of step does. Assumes nothing.
 use mathlib.Core.Path.{_≡_, refl, sym, ap, subst, _∙_}
-use mathlib.Core.Logic.{_≢_, _⊎_, inl, inr}
+use mathlib.Core.Logic.{_≢_}
 use mathlib.Core.Bool.{Bool, true, false, cond, false≢true}
-use mathlib.Core.List.{List}
-use Prim.Native.Nat.{ℕ, _+_, _/_, _<_}
+use mathlib.Core.List.{List, [], _∷_, _++_}
+use Prim.Native.Nat.{ℕ, _+_, _<_}
 use native.Mathlib.Nat.{add-zero}
 use native.Mathlib.Omega.{arith}
 use lib.ListN.{length, getD, set}
 use lib.Dec.{eqb, leb}
-use borrow.Author.Tests.{eqb-true, eqb-false, ne-eqb}
+use borrow.Author.Tests.{eqb-true, eqb-false}
 use Rattle.types.specs.declared.Step.{Step}
-use Rattle.types.specs.declared.Step.the-variants.{Read, Write, Flush}
+use Rattle.types.specs.declared.Step.the-variants.{Read, Write, Flush, Arrive, Retire}
+use Rattle.types.specs.Types.{numbersOf, stepItem}
 use Rattle.landlord.specs.Fold.{tab}
-use Rattle.landlord.specs.Catalog.{Catalog, itemAt}
-use Rattle.landlord.specs.Calls.{inRange, stepOf}
-use Rattle.landlord.specs.Plan.{Copy, noCopy, cleanCopy, dirtyCopy, has, copyAt, cleaned, planUsed, owed, Done, done, faulty, requestNotHeld, overCapacity, withinCapacity, planServes}
+use Rattle.landlord.specs.Catalog.{Catalog, itemAt, listed, catalogNext}
+use Rattle.landlord.specs.Plan.{Copy, noCopy, cleanCopy, dirtyCopy, has, isChanged, copyAt, cleaned, planUsed, owed, Done, done, faulty, requestNotHeld, overCapacity, withinCapacity, planServes}
 use Rattle.landlord.proofs.Folds.{tab-at}
 use Rattle.landlord.proofs.Sums.{sum-eq}
-use Rattle.catalog_bytes.specs.Catalogs.{catalogIn}
-use Rattle.catalog_bytes.proofs.Laws.{length-catalogIn}
+use Rattle.landlord.proofs.Catalogs.{one-longer, retired-length}
+use Rattle.season_items.specs.Inner.{HasItems}
 use Rattle.season_plan.specs.declared.Copies.{Copies}
 use Rattle.season_plan.specs.declared.Did.{Did}
-use Rattle.season_plan.specs.Inner.{copiesOf, HoldsCopies, Does, Cleans, lacking, Serves}
-use Rattle.season_plan.proofs.Marks.{by-cases, copy-none}
-use Rattle.season_plan.proofs.Deeds.{copy-of, stored, held-mark}
+use Rattle.season_plan.specs.Inner.{copiesOf, copiesIn, HoldsCopies, Does, Loses, Cleans, lacking, Serves}
+use Rattle.season_plan.proofs.Marks.{copy-none, copies-more, used-arrived, used-retired}
+use Rattle.season_plan.proofs.Deeds.{copy-of, held-length, stored, held-mark}
 
--- the kinds of a step
-pub kind-is : (kind : ℕ) → inRange kind 0 0 ≡ true → (kind ≡ 82) ⊎ ((kind ≡ 87) ⊎ (kind ≡ 76))
-kind-is kind e = by-kind (eqb kind 82) (eqb kind 87) refl refl e
-  where
-    by-kind :
-        (t u : Bool) →
-        eqb kind 82 ≡ t →
-        eqb kind 87 ≡ u →
-        cond t (leb 0 255) (cond u (cond (leb 0 255) (leb 0 1440) false) (eqb kind 76)) ≡ true →
-        (kind ≡ 82) ⊎ ((kind ≡ 87) ⊎ (kind ≡ 76))
-    by-kind true u a b z = inl (eqb-true kind 82 a)
-    by-kind false true a b z = inr (inl (eqb-true kind 87 b))
-    by-kind false false a b z = inr (inr (eqb-true kind 76 z))
+-- ## The two tests
 
-pub step-read : (kind i minutes : ℕ) → kind ≡ 82 → stepOf kind i minutes ≡ Read i
-unfolding stepOf
-step-read kind i minutes e = ap (λ t. stepOf t i minutes) e
+-- a read or write has its item's copy
+abbrev Found : Step → List Copy → Type 0
+Found (Read i) q = has (copyAt q i) ≡ true
+Found (Write i minutes) q = has (copyAt q i) ≡ true
+Found Flush q = Unit {0}
+Found (Arrive i b l w) q = Unit {0}
+Found (Retire i) q = Unit {0}
 
-pub step-write : (kind i minutes : ℕ) → kind ≡ 87 → stepOf kind i minutes ≡ Write i minutes
-unfolding stepOf
-step-write kind i minutes e = ap (λ t. stepOf t i minutes) e
+-- what a step does that passes both
+abbrev passed : Catalog → Step → List Copy → Done
+passed cat (Read i) q = done q 0
+passed cat (Write i minutes) q = done (set q i dirtyCopy) 0
+passed cat Flush q = done (tab (length cat) (λ i. cleaned (copyAt q i))) (owed cat q)
+passed cat (Arrive i b l w) q = done (q ++ (noCopy ∷ [])) 0
+passed cat (Retire i) q = done (set q i noCopy) (cond (isChanged (copyAt q i)) (itemAt cat i .write) 0)
 
-pub step-flush : (kind i minutes : ℕ) → kind ≡ 76 → stepOf kind i minutes ≡ Flush
-unfolding stepOf
-step-flush kind i minutes e = ap (λ t. stepOf t i minutes) e
+tested : (cat : Catalog) (h s : ℕ) (st : Step) (q : List Copy) → Found st q → planServes cat h s st q ≡ withinCapacity cat h s q (passed cat st q)
+unfolding planServes
+tested cat h s (Read i) q f = ap (λ t. cond t (withinCapacity cat h s q (done q 0)) (faulty (requestNotHeld s i))) f
+tested cat h s (Write i minutes) q f = ap (λ t. cond t (withinCapacity cat h s q (done (set q i dirtyCopy) 0)) (faulty (requestNotHeld s i))) f
+tested cat h s Flush q f = refl
+tested cat h s (Arrive i b l w) q f = refl
+tested cat h s (Retire i) q f = refl
+
+-- ## What some steps leave
 
 -- a cleaned copy has its blocks
 has-cleaned : (c : Copy) → has (cleaned c) ≡ has c
@@ -57,178 +59,225 @@ has-cleaned noCopy = refl
 has-cleaned cleanCopy = refl
 has-cleaned dirtyCopy = refl
 
-pub used-cleaned : (cat : Catalog) (q : List Copy) → planUsed cat (tab (length cat) (λ i. cleaned (copyAt q i))) ≡ planUsed cat q
+used-cleaned : (cat : Catalog) (q : List Copy) → planUsed cat (tab (length cat) (λ i. cleaned (copyAt q i))) ≡ planUsed cat q
 unfolding planUsed
 used-cleaned cat q =
     sum-eq (length cat) (λ i. cond (has (copyAt (tab (length cat) (λ j. cleaned (copyAt q j))) i)) (itemAt cat i .blocks) 0)
     (λ i. cond (has (copyAt q i)) (itemAt cat i .blocks) 0)
     (λ i l. ap (λ t. cond t (itemAt cat i .blocks) 0) (ap has (tab-at (length cat) (λ j. cleaned (copyAt q j)) i noCopy l) ∙ has-cleaned (copyAt q i)))
 
-module _ (xs : List ℕ) (h : ℕ) (p : Copies) (kind i : ℕ) (known : kind ≢ 76 → i < length xs / 5) (kinds : inRange kind 0 0 ≡ true) where
-  below : kind ≢ 76 → i < length (catalogIn xs)
-  below e = omega (arith, known e, length-catalogIn xs)
+-- every copy clean, for what is owed
+flushed :
+    (cat : Catalog) (p paying r : Copies) (q : List Copy) (paid o : ℕ) →
+    HoldsCopies cat p q paid →
+    o ≡ owed cat (copiesIn p) →
+    paying .n ≡ p .n →
+    paying .marks ≡ p .marks →
+    paying .used ≡ p .used →
+    paying .paid ≡ p .paid + o →
+    Cleans paying r →
+    HoldsCopies cat r (tab (length cat) (λ j. cleaned (copyAt q j))) (paid + owed cat q)
+flushed cat p paying r q paid o st owes count marks used sum cleans =
+    let same : copiesIn paying ≡ q = (λ k. copiesOf (count k) (marks k)) ∙ st .copies in
+    record {
+      count = cleans .count ∙ count ∙ st .count;
+      copies =
+          cleans .copies
+          ∙ ap (λ t. tab t (λ j. cleaned (copyAt (copiesIn paying) j))) (count ∙ st .count)
+          ∙ ap (λ t. tab (length cat) (λ j. cleaned (copyAt t j))) same;
+      used = cleans .used ∙ used ∙ st .used ∙ sym (used-cleaned cat q);
+      past = λ j k. cleans .past j (omega (arith, cleans .count)) ∙ ap (λ t. getD t j 0) marks ∙ st .past j (omega (arith, cleans .count, count));
+      sum = omega (arith, cleans .sum, sum, st .sum, owes ∙ ap (owed cat) (st .copies));
+    }
 
-  has-an-item : (m : ℕ) → kind ≢ 76 → lacking kind m ≡ eqb m 0
-  has-an-item m e = ap (λ t. cond t false (eqb m 0)) (ne-eqb kind 76 e)
+-- one item more, of which there is no copy
+arrived :
+    (cat : Catalog) (b l w : ℕ) (p r : Copies) (q : List Copy) (paid : ℕ) →
+    HoldsCopies cat p q paid →
+    r .n ≡ p .n + 1 →
+    r .marks ≡ p .marks →
+    r .used ≡ p .used →
+    r .paid ≡ p .paid →
+    HoldsCopies (cat ++ (listed b l w ∷ [])) r (q ++ (noCopy ∷ [])) (paid + 0)
+arrived cat b l w p r q paid st count marks used sum =
+    record {
+      count = omega (arith, count, st .count, one-longer cat (listed b l w));
+      copies =
+          (λ k. copiesOf (count k) (marks k))
+          ∙ copies-more (p .n) (p .marks) (st .past (p .n) (omega arith))
+          ∙ ap (λ t. t ++ (noCopy ∷ [])) (st .copies);
+      used = used ∙ st .used ∙ sym (used-arrived cat (listed b l w) q (omega (arith, held-length cat p q paid st)));
+      past = λ j k. ap (λ t. getD t j 0) marks ∙ st .past j (omega (arith, count));
+      sum = omega (arith, sum, st .sum);
+    }
 
-  not-held : (q : List Copy) (paid : ℕ) → HoldsCopies (catalogIn xs) p q paid → kind ≢ 76 → lacking kind (getD (p .marks) i 0) ≡ true → has (copyAt q i) ≡ false
-  not-held q paid st e m =
-      ap has
-      (copy-of (catalogIn xs) p q paid i st (below e)
-      ∙ copy-none (getD (p .marks) i 0) (eqb-true (getD (p .marks) i 0) 0 (sym (has-an-item (getD (p .marks) i 0) e) ∙ m)))
+-- the same copies of a catalog that marks one item as left
+retired : (cat : Catalog) (i : ℕ) (p : Copies) (q : List Copy) (paid : ℕ) → i < length cat → HoldsCopies cat p q paid → HoldsCopies (catalogNext cat (Retire i)) p q paid
+retired cat i p q paid l st =
+    record {
+      count = st .count ∙ sym (retired-length cat i);
+      copies = st .copies;
+      used = st .used ∙ sym (used-retired cat i q l);
+      past = st .past;
+      sum = st .sum;
+    }
 
-  is-held : (q : List Copy) (paid : ℕ) → HoldsCopies (catalogIn xs) p q paid → kind ≢ 76 → lacking kind (getD (p .marks) i 0) ≡ false → has (copyAt q i) ≡ true
-  is-held q paid st e m =
-      ap has (copy-of (catalogIn xs) p q paid i st (below e))
-      ∙ held-mark (getD (p .marks) i 0) (eqb-false (getD (p .marks) i 0) 0 (sym (has-an-item (getD (p .marks) i 0) e) ∙ m))
+-- ## The ways through `serve`
 
-  -- the step with an item that is held, before its capacity is looked at
-  abbrev Held : Did → (ℕ → List Copy → Done) → Type 0
-  Held r d =
-      (s paid : ℕ) (q : List Copy) →
-      HoldsCopies (catalogIn xs) p q paid →
-      Does (catalogIn xs) (cond (leb (planUsed (catalogIn xs) q) h) (d s q) (faulty (overCapacity s))) paid r
+module _ (xs : List ℕ) (h : ℕ) (p : Copies) (kind i : ℕ) (known : kind ≢ 76 → kind ≢ 65 → i < p .n) where
+  abbrev mark : ℕ
+  mark = getD (p .marks) i 0
 
-  -- within the capacity or not, by the blocks that the program counts
-  capacity : (q : List Copy) (paid : ℕ) (t : Bool) → HoldsCopies (catalogIn xs) p q paid → leb (p .used) h ≡ t → t ≡ leb (planUsed (catalogIn xs) q) h
-  capacity q paid t st e = sym e ∙ ap (λ u. leb u h) (st .used)
+  known-read : kind ≡ 82 → i < p .n
+  known-read k = known (λ (z : kind ≡ 76). omega arith) (λ (z : kind ≡ 65). omega arith)
 
-  over-held : (r : Did) (d : ℕ → List Copy → Done) → leb (p .used) h ≡ false → r .number ≡ 13 → Held r d
-  over-held r d e number s paid q st =
-      subst (λ (t : Bool). Does (catalogIn xs) (cond t (d s q) (faulty (overCapacity s))) paid r) (capacity q paid false st e) number
+  known-write : kind ≡ 87 → i < p .n
+  known-write k = known (λ (z : kind ≡ 76). omega arith) (λ (z : kind ≡ 65). omega arith)
 
-  fits-held :
-      (r : Did) (d : ℕ → List Copy → Done) →
-      leb (p .used) h ≡ true →
-      ((s paid : ℕ) (q : List Copy) → HoldsCopies (catalogIn xs) p q paid → Does (catalogIn xs) (d s q) paid r) →
-      Held r d
-  fits-held r d e does s paid q st =
-      subst (λ (t : Bool). Does (catalogIn xs) (cond t (d s q) (faulty (overCapacity s))) paid r) (capacity q paid true st e) (does s paid q st)
+  pub known-retire : kind ≡ 81 → i < p .n
+  known-retire k = known (λ (z : kind ≡ 76). omega arith) (λ (z : kind ≡ 65). omega arith)
+
+  absent-at : (cat : Catalog) (q : List Copy) (paid j : ℕ) → HoldsCopies cat p q paid → i ≡ j → i < p .n → eqb mark 0 ≡ true → has (copyAt q j) ≡ false
+  absent-at cat q paid j st e l m =
+      ap (λ t. has (copyAt q t)) (sym e) ∙ ap has (copy-of cat p q paid i st l ∙ copy-none mark (eqb-true mark 0 m))
+
+  held-at : (cat : Catalog) (q : List Copy) (paid j : ℕ) → HoldsCopies cat p q paid → i ≡ j → i < p .n → eqb mark 0 ≡ false → has (copyAt q j) ≡ true
+  held-at cat q paid j st e l m =
+      ap (λ t. has (copyAt q t)) (sym e) ∙ ap has (copy-of cat p q paid i st l) ∙ held-mark mark (eqb-false mark 0 m)
 
   -- 14
-  pub serve-missing : (r : Did) → lacking kind (getD (p .marks) i 0) ≡ true → r .number ≡ 14 → Serves xs h p kind i r
+  pub serve-missing : (r : Did) → lacking kind mark ≡ true → r .number ≡ 14 → Serves xs h p kind i r
   unfolding planServes
-  serve-missing r m number s minutes paid q st =
-      by-cases (kind-is kind kinds)
-      (λ (e : kind ≡ 82).
-      subst (λ (t : Step). Does cat (planServes cat h s t q) paid r) (sym (step-read kind i minutes e))
-      (subst (λ (t : Bool). Does cat (cond t (withinCapacity cat h s q (done q 0)) (faulty (requestNotHeld s i))) paid r)
-      (sym (not-held q paid st (λ (z : kind ≡ 76). omega arith) m)) number))
-      (λ z. by-cases z
-      (λ (e : kind ≡ 87).
-      subst (λ (t : Step). Does cat (planServes cat h s t q) paid r) (sym (step-write kind i minutes e))
-      (subst (λ (t : Bool). Does cat (cond t (withinCapacity cat h s q (done (set q i dirtyCopy) 0)) (faulty (requestNotHeld s i))) paid r)
-      (sym (not-held q paid st (λ (z : kind ≡ 76). omega arith) m)) number))
-      (λ (e : kind ≡ 76).
-      absurd (false≢true (sym (ap (λ t. lacking t (getD (p .marks) i 0)) e) ∙ m))))
-    where
-      cat : Catalog
-      cat = catalogIn xs
+  serve-missing r m number cat (Read j) s paid q items k e st =
+      subst (λ (t : Bool). Does cat (cond t (withinCapacity cat h s q (done q 0)) (faulty (requestNotHeld s j))) paid r)
+      (sym (absent-at cat q paid j st e (known-read k) (sym (ap (λ t. lacking t mark) k) ∙ m))) number
+  serve-missing r m number cat (Write j minutes) s paid q items k e st =
+      subst (λ (t : Bool). Does cat (cond t (withinCapacity cat h s q (done (set q j dirtyCopy) 0)) (faulty (requestNotHeld s j))) paid r)
+      (sym (absent-at cat q paid j st e (known-write k) (sym (ap (λ t. lacking t mark) k) ∙ m))) number
+  serve-missing r m number cat Flush s paid q items k e st = absurd (false≢true (sym (ap (λ t. lacking t mark) k) ∙ m))
+  serve-missing r m number cat (Arrive j b l w) s paid q items k e st = absurd (false≢true (sym (ap (λ t. lacking t mark) k) ∙ m))
+  serve-missing r m number cat (Retire j) s paid q items k e st = absurd (false≢true (sym (ap (λ t. lacking t mark) k) ∙ m))
 
-  -- a step that is not missing its item, by its kind
-  by-step :
-      (r : Did) →
-      lacking kind (getD (p .marks) i 0) ≡ false →
-      (kind ≡ 82 → Held r (λ s q. done q 0)) →
-      (kind ≡ 87 → Held r (λ s q. done (set q i dirtyCopy) 0)) →
-      (kind ≡ 76 → Held r (λ s q. done (tab (length (catalogIn xs)) (λ j. cleaned (copyAt q j))) (owed (catalogIn xs) q))) →
-      Serves xs h p kind i r
-  unfolding planServes
-  by-step r m read write flush s minutes paid q st =
-      by-cases (kind-is kind kinds)
-      (λ (e : kind ≡ 82).
-      subst (λ (t : Step). Does cat (planServes cat h s t q) paid r) (sym (step-read kind i minutes e))
-      (subst (λ (t : Bool). Does cat (cond t (withinCapacity cat h s q (done q 0)) (faulty (requestNotHeld s i))) paid r)
-      (sym (is-held q paid st (λ (z : kind ≡ 76). omega arith) m)) (read e s paid q st)))
-      (λ z. by-cases z
-      (λ (e : kind ≡ 87).
-      subst (λ (t : Step). Does cat (planServes cat h s t q) paid r) (sym (step-write kind i minutes e))
-      (subst (λ (t : Bool). Does cat (cond t (withinCapacity cat h s q (done (set q i dirtyCopy) 0)) (faulty (requestNotHeld s i))) paid r)
-      (sym (is-held q paid st (λ (z : kind ≡ 76). omega arith) m)) (write e s paid q st)))
-      (λ (e : kind ≡ 76).
-      subst (λ (t : Step). Does cat (planServes cat h s t q) paid r) (sym (step-flush kind i minutes e)) (flush e s paid q st)))
-    where
-      cat : Catalog
-      cat = catalogIn xs
+  -- what the answer is to a step whose item, if it asks for one, is held, within the capacity or not
+  abbrev Ends : Bool → Did → Type 0
+  Ends t r =
+      (cat : Catalog) (st : Step) (s paid : ℕ) (q : List Copy) →
+      HasItems cat xs →
+      kind ≡ numbersOf st .kind →
+      i ≡ stepItem st →
+      HoldsCopies cat p q paid →
+      Does (catalogNext cat st) (cond t (passed cat st q) (faulty (overCapacity s))) paid r
 
-  -- 13
-  pub serve-over : (r : Did) → lacking kind (getD (p .marks) i 0) ≡ false → leb (p .used) h ≡ false → r .number ≡ 13 → Serves xs h p kind i r
-  serve-over r m e number =
-      by-step r m (λ k. over-held r _ e number) (λ k. over-held r _ e number) (λ k. over-held r _ e number)
+  module _ (r : Did) (m : lacking kind mark ≡ false) where
+    found : (cat : Catalog) (st : Step) (q : List Copy) (paid : ℕ) → kind ≡ numbersOf st .kind → i ≡ stepItem st → HoldsCopies cat p q paid → Found st q
+    found cat (Read j) q paid k e st = held-at cat q paid j st e (known-read k) (sym (ap (λ t. lacking t mark) k) ∙ m)
+    found cat (Write j minutes) q paid k e st = held-at cat q paid j st e (known-write k) (sym (ap (λ t. lacking t mark) k) ∙ m)
+    found cat Flush q paid k e st = tt
+    found cat (Arrive j b l w) q paid k e st = tt
+    found cat (Retire j) q paid k e st = tt
 
-  -- a read changes nothing
-  pub serve-read :
-      (r : Did) →
-      lacking kind (getD (p .marks) i 0) ≡ false →
-      leb (p .used) h ≡ true →
-      kind ≢ 87 →
-      kind ≢ 76 →
-      r .number ≡ 0 →
-      r .copies ≡ p →
-      Serves xs h p kind i r
-  serve-read r m e u w number same =
-      by-step r m
-      (λ k. fits-held r (λ s q. done q 0) e
-      (λ s paid q st. (number, subst (λ (t : Copies). HoldsCopies (catalogIn xs) t q (paid + 0)) (sym same) (subst (λ (t : ℕ). HoldsCopies (catalogIn xs) p q t) (sym (add-zero paid)) st))))
-      (λ k. absurd (u k))
-      (λ k. absurd (w k))
+    -- within the capacity or not, by the blocks that the program counts
+    by-capacity : (t : Bool) → leb (p .used) h ≡ t → Ends t r → Serves xs h p kind i r
+    by-capacity t fits does cat st s paid q items k e hold =
+        subst (λ (d : Done). Does (catalogNext cat st) d paid r)
+        (sym (tested cat h s st q (found cat st q paid k e hold)
+        ∙ ap (λ u. cond u (passed cat st q) (faulty (overCapacity s))) (ap (λ u. leb u h) (sym (hold .used)) ∙ fits)))
+        (does cat st s paid q items k e hold)
 
-  -- a write makes its item dirty
-  pub serve-write :
-      (r : Did) →
-      lacking kind (getD (p .marks) i 0) ≡ false →
-      leb (p .used) h ≡ true →
-      kind ≡ 87 →
-      i < length (p .marks) →
-      r .number ≡ 0 →
-      r .copies .marks ≡ set (p .marks) i 2 →
-      r .copies .used ≡ p .used →
-      r .copies .paid ≡ p .paid →
-      Serves xs h p kind i r
-  serve-write r m e u b number marks used sum =
-      by-step r m
-      (λ (k : kind ≡ 82). absurd (omega arith))
-      (λ (k : kind ≡ 87). fits-held r (λ s q. done (set q i dirtyCopy) 0) e
-      (λ s paid q st. (
-        number,
-        stored (catalogIn xs) p (r .copies) q paid i 2 0 st (below (λ (z : kind ≡ 76). omega arith)) b marks
-            (ap (λ t. r .copies .used + cond t (itemAt (catalogIn xs) i .blocks) 0) (is-held q paid st (λ (z : kind ≡ 76). omega arith) m) ∙ omega arith)
-            (omega arith),
-      )))
-      (λ (k : kind ≡ 76). absurd (omega arith))
+    -- 13
+    pub serve-over : leb (p .used) h ≡ false → r .number ≡ 13 → Serves xs h p kind i r
+    serve-over over number = by-capacity false over (λ cat st s paid q items k e hold. number)
 
-  -- a flush pays what is owed and cleans
-  pub serve-flush :
-      (r : Did) (paying : Copies) (o : ℕ) →
-      leb (p .used) h ≡ true →
-      kind ≡ 76 →
-      r .number ≡ 0 →
-      o ≡ owed (catalogIn xs) (copiesOf (length xs / 5) (p .marks)) →
-      paying .marks ≡ p .marks →
-      paying .used ≡ p .used →
-      paying .paid ≡ p .paid + o →
-      Cleans (length xs / 5) paying (r .copies) →
-      Serves xs h p kind i r
-  serve-flush r paying o e u number owes marks used sum cleans =
-      by-step r (ap (λ t. lacking t (getD (p .marks) i 0)) u)
-      (λ (k : kind ≡ 82). absurd (omega arith))
-      (λ (k : kind ≡ 87). absurd (omega arith))
-      (λ (k : kind ≡ 76). fits-held r (λ s q. done (tab (length cat) (λ j. cleaned (copyAt q j))) (owed cat q)) e
-      (λ s paid q st. (number, clean-stands paid q st)))
-    where
-      cat : Catalog
-      cat = catalogIn xs
+    module _ (fits : leb (p .used) h ≡ true) (number : r .number ≡ 0) where
+      -- a read changes nothing
+      pub serve-read : kind ≢ 81 → kind ≢ 76 → kind ≢ 65 → kind ≢ 87 → r .copies ≡ p → Serves xs h p kind i r
+      serve-read notQ notL notA notW same = by-capacity true fits go
+        where
+          go : Ends true r
+          go cat (Read j) s paid q items k e hold = (
+            number,
+            subst (λ (t : Copies). HoldsCopies cat t q (paid + 0)) (sym same) (subst (λ (t : ℕ). HoldsCopies cat p q t) (sym (add-zero paid)) hold),
+          )
+          go cat (Write j minutes) s paid q items k e hold = absurd (notW k)
+          go cat Flush s paid q items k e hold = absurd (notL k)
+          go cat (Arrive j b l w) s paid q items k e hold = absurd (notA k)
+          go cat (Retire j) s paid q items k e hold = absurd (notQ k)
 
-      clean-stands : (paid : ℕ) (q : List Copy) → HoldsCopies cat p q paid → HoldsCopies cat (r .copies) (tab (length cat) (λ j. cleaned (copyAt q j))) (paid + owed cat q)
-      clean-stands paid q st =
-          let these : copiesOf (length xs / 5) (p .marks) ≡ q = ap (λ t. copiesOf t (p .marks)) (sym (length-catalogIn xs)) ∙ st .copies in
-          record {
-            copies =
-                ap (λ t. copiesOf t (r .copies .marks)) (length-catalogIn xs)
-                ∙ cleans .copies
-                ∙ ap (λ t. tab t (λ j. cleaned (copyAt (copiesOf (length xs / 5) (paying .marks)) j))) (sym (length-catalogIn xs))
-                ∙ ap (λ t. tab (length cat) (λ j. cleaned (copyAt (copiesOf (length xs / 5) t) j))) marks
-                ∙ ap (λ t. tab (length cat) (λ j. cleaned (copyAt t j))) these;
-            used = cleans .used ∙ used ∙ st .used ∙ sym (used-cleaned cat q);
-            sum = omega (arith, cleans .sum, st .sum, owes ∙ ap (owed cat) these);
-          }
+      -- a write makes its item dirty
+      pub serve-write :
+          kind ≡ 87 →
+          i < length (p .marks) →
+          r .copies .n ≡ p .n →
+          r .copies .marks ≡ set (p .marks) i 2 →
+          r .copies .used ≡ p .used →
+          r .copies .paid ≡ p .paid →
+          Serves xs h p kind i r
+      serve-write isW b count marks used sum = by-capacity true fits go
+        where
+          go : Ends true r
+          go cat (Write j minutes) s paid q items k e hold =
+              let held : has (copyAt q i) ≡ true = held-at cat q paid i hold refl (known-write isW) (sym (ap (λ t. lacking t mark) isW) ∙ m) in (
+                number,
+                subst (λ (t : ℕ). HoldsCopies cat (r .copies) (set q t dirtyCopy) (paid + 0)) e
+                    (stored cat p (r .copies) q paid i 2 0 hold (known-write isW) b count marks
+                    (ap (λ t. r .copies .used + cond t (itemAt cat i .blocks) 0) held ∙ omega arith) (omega arith)),
+              )
+          go cat (Read j) s paid q items k e hold = absurd (let z : kind ≡ 82 = k in omega arith)
+          go cat Flush s paid q items k e hold = absurd (let z : kind ≡ 76 = k in omega arith)
+          go cat (Arrive j b l w) s paid q items k e hold = absurd (let z : kind ≡ 65 = k in omega arith)
+          go cat (Retire j) s paid q items k e hold = absurd (let z : kind ≡ 81 = k in omega arith)
+
+      -- a flush pays what is owed and cleans
+      pub serve-flush :
+          (paying : Copies) (o : ℕ) →
+          kind ≡ 76 →
+          ((cat : Catalog) → HasItems cat xs → p .n ≡ length cat → o ≡ owed cat (copiesIn p)) →
+          paying .n ≡ p .n →
+          paying .marks ≡ p .marks →
+          paying .used ≡ p .used →
+          paying .paid ≡ p .paid + o →
+          Cleans paying (r .copies) →
+          Serves xs h p kind i r
+      serve-flush paying o isL owes count marks used sum cleans = by-capacity true fits go
+        where
+          go : Ends true r
+          go cat Flush s paid q items k e hold =
+              (number, flushed cat p paying (r .copies) q paid o hold (owes cat items (hold .count)) count marks used sum cleans)
+          go cat (Read j) s paid q items k e hold = absurd (let z : kind ≡ 82 = k in omega arith)
+          go cat (Write j minutes) s paid q items k e hold = absurd (let z : kind ≡ 87 = k in omega arith)
+          go cat (Arrive j b l w) s paid q items k e hold = absurd (let z : kind ≡ 65 = k in omega arith)
+          go cat (Retire j) s paid q items k e hold = absurd (let z : kind ≡ 81 = k in omega arith)
+
+      -- an arrival counts one item more
+      pub serve-arrive :
+          kind ≡ 65 →
+          r .copies .n ≡ p .n + 1 →
+          r .copies .marks ≡ p .marks →
+          r .copies .used ≡ p .used →
+          r .copies .paid ≡ p .paid →
+          Serves xs h p kind i r
+      serve-arrive isA count marks used sum = by-capacity true fits go
+        where
+          go : Ends true r
+          go cat (Arrive j b l w) s paid q items k e hold = (number, arrived cat b l w p (r .copies) q paid hold count marks used sum)
+          go cat (Read j) s paid q items k e hold = absurd (let z : kind ≡ 82 = k in omega arith)
+          go cat (Write j minutes) s paid q items k e hold = absurd (let z : kind ≡ 87 = k in omega arith)
+          go cat Flush s paid q items k e hold = absurd (let z : kind ≡ 76 = k in omega arith)
+          go cat (Retire j) s paid q items k e hold = absurd (let z : kind ≡ 81 = k in omega arith)
+
+      -- a retirement loses the copy, if there is one
+      pub serve-retire : kind ≡ 81 → Loses xs p i (r .copies) → Serves xs h p kind i r
+      serve-retire isQ loses = by-capacity true fits go
+        where
+          go : Ends true r
+          go cat (Retire j) s paid q items k e hold = (
+            number,
+            subst
+                (λ (t : ℕ). HoldsCopies (catalogNext cat (Retire t)) (r .copies) (set q t noCopy) (paid + cond (isChanged (copyAt q t)) (itemAt cat t .write) 0)) e
+                (retired cat i (r .copies) (set q i noCopy) (paid + cond (isChanged (copyAt q i)) (itemAt cat i .write) 0)
+                (omega (arith, hold .count, known-retire isQ)) (loses cat paid q items hold)),
+          )
+          go cat (Read j) s paid q items k e hold = absurd (let z : kind ≡ 82 = k in omega arith)
+          go cat (Write j minutes) s paid q items k e hold = absurd (let z : kind ≡ 87 = k in omega arith)
+          go cat Flush s paid q items k e hold = absurd (let z : kind ≡ 76 = k in omega arith)
+          go cat (Arrive j b l w) s paid q items k e hold = absurd (let z : kind ≡ 65 = k in omega arith)

@@ -1,14 +1,14 @@
 -- How the program holds what a plan has, and what its functions give. Assumes nothing.
-use Rattle.types.specs.Types.{actItem}
-use Rattle.landlord.specs.{Plan.{Plan, Copy, noCopy, cleanCopy, dirtyCopy, copyAt, cleaned, owed, Done, done, faulty, Fault, unknownItem, notHeld, alreadyHeld, requestNotHeld, overCapacity, faultNumber, planUsed, planEvicts, planFetches, planActs, allActs, planServes}, Fold.tab, Catalog.{Catalog, CatalogOk}, Calls.{inRange, stepOf}}
-use Rattle.season_tables.specs.{Tables.{Placed, Sofar}, declared.Seen.Seen, Inner.Holds, InnerSound.{Sound, placedAt}}
+use Rattle.types.specs.{declared.Step.Step, Types.{numbersOf, stepItem, actItem}}
+use Rattle.landlord.specs.{Plan.{Plan, Copy, noCopy, cleanCopy, dirtyCopy, copyAt, isChanged, cleaned, owed, Done, done, faulty, Fault, unknownItem, retiredItem, notHeld, alreadyHeld, requestNotHeld, overCapacity, faultNumber, planUsed, planEvicts, planFetches, planActs, allActs, planServes}, Fold.tab, Catalog.{Catalog, CatalogOk, itemAt, catalogNext}}
+use Rattle.season_items.specs.Inner.{HasItems}
+use Rattle.season_tables.specs.{Tables.{Placed, Sofar}, declared.Seen.Seen, Inner.Holds, InnerSound.{Sound, placedAt, catalogBefore}}
 use Rattle.season_plan.specs.declared.{Copies.Copies, Did.Did, Acted.Acted, Price.{Price, the-variants.{Cost, Refused}}}
 use Rattle.season_plan.specs.Plans.{actsAt, actsBefore, priceOf, PricedBy}
-use mathlib.Core.{Path._≡_, Logic._≢_, Bool.{Bool, true, false, cond}, List.List}
-use Prim.Native.Nat.{ℕ, suc, _+_, _*_, _/_, _≤_, _<_}
-use lib.{ListN.{length, getD}, Dec.eqb}
+use mathlib.Core.{Path._≡_, Logic._≢_, Bool.{Bool, false, cond, _||_}, List.List}
+use Prim.Native.Nat.{ℕ, suc, _+_, _*_, _≤_, _<_}
+use lib.{ListN.{length, getD, set}, Dec.eqb}
 use Rattle.season_lines.specs.Lines.{actOf}
-use Rattle.catalog_bytes.specs.Catalogs.{catalogIn}
 
 -- the text's acts as a plan
 abbrev pub planOf : List Placed → Plan
@@ -21,76 +21,110 @@ copyFrom m = cond (eqb m 0) noCopy (cond (eqb m 1) cleanCopy dirtyCopy)
 unfoldable pub copiesOf : ℕ → List ℕ → List Copy
 copiesOf n marks = tab n (λ i. copyFrom (getD marks i 0))
 
--- the program holds these copies, and has paid so much
+-- the copies that the marks stand for, of the items that there are
+abbrev pub copiesIn : Copies → List Copy
+copiesIn p = copiesOf (p .n) (p .marks)
+
+-- the program holds these copies of a catalog's items, and has paid so much; an item that is still to arrive has no mark
 pub record HoldsCopies (cat : Catalog) (p : Copies) (q : List Copy) (paid : ℕ) : Type 0 where
-  pub copies : copiesOf (length cat) (p .marks) ≡ q
+  pub count : p .n ≡ length cat
+  pub copies : copiesIn p ≡ q
   pub used : p .used ≡ planUsed cat q
+  pub past : (i : ℕ) → p .n ≤ i → getD (p .marks) i 0 ≡ 0
   pub sum : p .paid ≡ paid
+
+-- the program stands where its marks say
+abbrev pub Stands : Catalog → Copies → Type 0
+Stands cat p = HoldsCopies cat p (copiesIn p) (p .paid)
 
 -- a part of the plan was done at a cost, or ended in the fault's number
 abbrev pub Does : Catalog → Done → ℕ → Did → Type 0
 Does cat (done q c) before r = (r .number ≡ 0) × HoldsCopies cat (r .copies) q (before + c)
 Does cat (faulty f) before r = r .number ≡ faultNumber f
 
--- what a part of the plan asks: the bytes of a catalog in range, the blocks that its copies have, and sums far from the end of their
--- words
+-- what a part of the plan asks: the bytes of a catalog in range, where the program stands, and sums far from the end of their words
 pub record PlanReady (xs : List ℕ) (p : Copies) : Type 0 where
-  pub few : length xs ≤ 1280
-  pub catalog : CatalogOk (catalogIn xs)
-  pub used : p .used ≡ planUsed (catalogIn xs) (copiesOf (length xs / 5) (p .marks))
+  pub room : length xs ≡ 1280
+  pub catalog : Catalog
+  pub items : HasItems catalog xs
+  pub ok : CatalogOk catalog
+  pub stands : Stands catalog p
   pub low : p .paid ≤ 1000000000000
 
 -- and that the item is known
 pub record Known (xs : List ℕ) (p : Copies) (item : ℕ) : Type 0 where
   pub ready : PlanReady xs p
-  pub known : item < length xs / 5
+  pub known : item < p .n
+
+-- the copy of an item goes, if there is one, and a dirty one is paid for
+abbrev pub Loses : List ℕ → Copies → ℕ → Copies → Type 0
+Loses xs p i r =
+    (cat : Catalog) (paid : ℕ) (q : List Copy) →
+    HasItems cat xs →
+    HoldsCopies cat p q paid →
+    HoldsCopies cat r (set q i noCopy) (paid + cond (isChanged (copyAt q i)) (itemAt cat i .write) 0)
 
 -- D of an item; s and j are the places of the step and of the act, which a fault names
 abbrev pub Evicts : List ℕ → Copies → ℕ → Did → Type 0
 Evicts xs p i r =
-    (s j paid : ℕ) (q : List Copy) → HoldsCopies (catalogIn xs) p q paid → Does (catalogIn xs) (planEvicts (catalogIn xs) s j i q) paid r
+    (cat : Catalog) (s j paid : ℕ) (q : List Copy) →
+    HasItems cat xs →
+    HoldsCopies cat p q paid →
+    Does cat (planEvicts cat s j i q) paid r
 
 -- F of an item
 abbrev pub Fetches : List ℕ → Copies → ℕ → Did → Type 0
 Fetches xs p i r =
-    (s j paid : ℕ) (q : List Copy) → HoldsCopies (catalogIn xs) p q paid → Does (catalogIn xs) (planFetches (catalogIn xs) s j i q) paid r
+    (cat : Catalog) (s j paid : ℕ) (q : List Copy) →
+    HasItems cat xs →
+    HoldsCopies cat p q paid →
+    Does cat (planFetches cat s j i q) paid r
 
--- an act, by the code of its letter
+-- an act, by the code of its letter, with an item that has not left
 abbrev pub Acts : List ℕ → Copies → ℕ → ℕ → Did → Type 0
 Acts xs p kind i r =
-    (s j paid : ℕ) (q : List Copy) → HoldsCopies (catalogIn xs) p q paid → Does (catalogIn xs) (planActs (catalogIn xs) s j (actOf kind i) q) paid r
+    (cat : Catalog) (s j paid : ℕ) (q : List Copy) →
+    HasItems cat xs →
+    itemAt cat i .left ≡ false →
+    HoldsCopies cat p q paid →
+    Does cat (planActs cat s j (actOf kind i) q) paid r
 
 -- the write costs that a flush makes it pay
 abbrev pub Owes : List ℕ → Copies → ℕ → Type 0
-Owes xs p r = (r ≡ owed (catalogIn xs) (copiesOf (length xs / 5) (p .marks))) × (r ≤ 16776960)
+Owes xs p r = ((cat : Catalog) → HasItems cat xs → p .n ≡ length cat → r ≡ owed cat (copiesIn p)) × (r ≤ 16776960)
 
 -- every copy is clean then, and nothing else changes
-pub record Cleans (n : ℕ) (p r : Copies) : Type 0 where
-  pub copies : copiesOf n (r .marks) ≡ tab n (λ i. cleaned (copyAt (copiesOf n (p .marks)) i))
+pub record Cleans (p r : Copies) : Type 0 where
+  pub count : r .n ≡ p .n
+  pub copies : copiesIn r ≡ tab (p .n) (λ i. cleaned (copyAt (copiesIn p) i))
   pub used : r .used ≡ p .used
+  pub past : (i : ℕ) → p .n ≤ i → getD (r .marks) i 0 ≡ getD (p .marks) i 0
   pub sum : r .paid ≡ p .paid
 
--- the step has an item, and the plan has no copy of it
+-- the step is a read or a write, and the plan has no copy of its item
 abbrev pub lacking : ℕ → ℕ → Bool
-lacking kind mark = cond (eqb kind 76) false (eqb mark 0)
+lacking kind mark = cond (eqb kind 82 || eqb kind 87) (eqb mark 0) false
 
--- a step that is in the log: a flush, or of a known item; what stands for a flush's item has a place too
+-- a step that is in the log: a flush, an arrival, or of a known item; what stands for a flush's item has a place too
 pub record PlanServable (xs : List ℕ) (p : Copies) (kind item : ℕ) : Type 0 where
   pub ready : PlanReady xs p
-  pub known : kind ≢ 76 → item < length xs / 5
+  pub known : kind ≢ 76 → kind ≢ 65 → item < p .n
   pub place : item < 256
-  pub kinds : inRange kind 0 0 ≡ true
 
--- a step served, by the code of its letter
+-- a step of this kind and item is served; the catalog is then as the step leaves it
 abbrev pub Serves : List ℕ → ℕ → Copies → ℕ → ℕ → Did → Type 0
 Serves xs h p kind i r =
-    (s minutes paid : ℕ) (q : List Copy) →
-    HoldsCopies (catalogIn xs) p q paid →
-    Does (catalogIn xs) (planServes (catalogIn xs) h s (stepOf kind i minutes) q) paid r
+    (cat : Catalog) (st : Step) (s paid : ℕ) (q : List Copy) →
+    HasItems cat xs →
+    kind ≡ numbersOf st .kind →
+    i ≡ stepItem st →
+    HoldsCopies cat p q paid →
+    Does (catalogNext cat st) (planServes cat h s st q) paid r
 
 -- the fault is of an act before step s, of act n with item i, where the acts before the step begin at act `first`
 abbrev pub ofAct : ℕ → ℕ → ℕ → ℕ → Fault → Type 0
 ofAct s first n i (unknownItem t a j) = (s ≡ t) × (n ≡ first + a) × (i ≡ j)
+ofAct s first n i (retiredItem t a j) = (s ≡ t) × (n ≡ first + a) × (i ≡ j)
 ofAct s first n i (notHeld t a j) = (s ≡ t) × (n ≡ first + a) × (i ≡ j)
 ofAct s first n i (alreadyHeld t a j) = (s ≡ t) × (n ≡ first + a) × (i ≡ j)
 ofAct s first n i (requestNotHeld t j) = ⊥
@@ -99,43 +133,48 @@ ofAct s first n i (overCapacity t) = ⊥
 -- the acts before step s were done, and `next` is the first behind them; or act `next` is at fault
 abbrev pub ActsDone : Sofar → ℕ → Done → ℕ → Acted → Type 0
 ActsDone v s (done q c) before r =
-    (r .number ≡ 0) × HoldsCopies (v .catalog) (r .copies) q (before + c) × (r .next ≡ actsBefore (suc s) (v .acts))
+    (r .number ≡ 0) × HoldsCopies (catalogBefore v s) (r .copies) q (before + c) × (r .next ≡ actsBefore (suc s) (v .acts))
 ActsDone v s (faulty f) before r =
     (r .number ≡ faultNumber f) × ofAct s (actsBefore s (v .acts)) (r .next) (actItem (placedAt (v .acts) (r .next) .act)) f
 
--- what pricing asks: the slices hold an accepted text, and the catalog's bytes are those of its items alone
+-- what pricing asks: the slices hold an accepted text
 pub record Priceable (x : Seen) (xs calls acts : List ℕ) : Type 0 where
   pub text : Sofar
   pub holds : Holds x xs calls acts text
   pub sound : Sound text
-  pub items : length xs ≡ 5 * x .n
   pub fewSteps : x .steps ≤ 10922
   pub fewActs : x .acts ≤ 10922
-  pub forSteps : length calls ≡ 43692
+  pub forItems : length xs ≡ 1280
+  pub forSteps : length calls ≡ 76461
   pub forActs : length acts ≡ 32769
 
 -- at most so much is paid for so many acts, and so many steps that are flushes
 abbrev pub most : ℕ → ℕ → ℕ
 most acts steps = 65535 * acts + 16776960 * steps
 
--- what the acts before step s ask: they begin at act `first`, and the sum is far from the end of its word
+-- what the acts before step s ask: they begin at act `first`, the program stands at the catalog before the step, and the sum is far from
+-- the end of its word
 pub record Actable (x : Seen) (xs : List ℕ) (p : Copies) (acts : List ℕ) (first s : ℕ) : Type 0 where
   pub calls : List ℕ
   pub priceable : Priceable x xs calls acts
-  pub ready : PlanReady xs p
   pub begins : first ≡ actsBefore s (priceable .text .acts)
+  pub stands : Stands (catalogBefore (priceable .text) s) p
   pub inside : s < x .steps
   pub paid : p .paid ≤ most first s
 
--- whatever text the slices hold, its acts before step s are done, or the first fault among them is told
+-- a text that the slices hold, whose acts before step s begin at act `first`, with the program where it stands before them
+pub record Before (x : Seen) (xs : List ℕ) (p : Copies) (acts : List ℕ) (first s : ℕ) (calls : List ℕ) (v : Sofar) : Type 0 where
+  pub holds : Holds x xs calls acts v
+  pub sound : Sound v
+  pub begins : first ≡ actsBefore s (v .acts)
+  pub stands : Stands (catalogBefore v s) p
+
+-- for every such text, its acts before step s are done, or the first fault among them is told
 abbrev pub RunsActs : Seen → List ℕ → Copies → List ℕ → ℕ → ℕ → Acted → Type 0
 RunsActs x xs p acts first s r =
-    (calls : List ℕ) (v : Sofar) (paid : ℕ) (q : List Copy) →
-    Holds x xs calls acts v →
-    Sound v →
-    first ≡ actsBefore s (v .acts) →
-    HoldsCopies (v .catalog) p q paid →
-    ActsDone v s (allActs (v .catalog) s 0 (planOf (v .acts) s) q) paid r
+    (calls : List ℕ) (v : Sofar) →
+    Before x xs p acts first s calls v →
+    ActsDone v s (allActs (catalogBefore v s) s 0 (planOf (v .acts) s) (copiesIn p)) (p .paid) r
 
 -- `next` is no further than behind the last act, an act at fault is one of them, and the sum grows by what an act may cost
 pub record ActsWithin (x : Seen) (s : ℕ) (r : Acted) : Type 0 where

@@ -5,7 +5,7 @@ use Prim.Native.Nat.{ℕ, suc, _+_}
 use lib.{ListN.length, Dec.{ltb, eqb}}
 use Rattle.types.specs.declared.Act.{Act}
 use Rattle.types.specs.Types.{Told, nothingTold, told}
-use Rattle.landlord.specs.Plan.{Fault, unknownItem, notHeld, alreadyHeld, requestNotHeld, overCapacity, faultRefusal, Priced, costs, fault, price}
+use Rattle.landlord.specs.Plan.{Fault, unknownItem, retiredItem, notHeld, alreadyHeld, requestNotHeld, overCapacity, faultRefusal, Priced, costs, fault, price}
 use Rattle.season_tables.specs.Tables.{Placed, Sofar}
 use Rattle.season_plan.specs.declared.Price.{Price, the-variants.{Cost, Refused}}
 
@@ -20,7 +20,7 @@ actsBefore i [] = 0
 actsBefore i (a ∷ acts) = cond (ltb (a .place) i) (suc (actsBefore i acts)) (actsBefore i acts)
 
 -- Step i's line: above it stand the names, sizes and blank line of `locker rival`, the names, items and blank line of the
--- catalogue, the names of its own table, and the steps before it.
+-- catalogue, the names of its own table, and the steps before it. The items are table 2's: one that arrives has a step's line.
 abbrev pub lineOfStep : Sofar → ℕ → ℕ
 lineOfStep v i = 7 + length (v .catalog) + i
 
@@ -31,6 +31,7 @@ lineOfAct v a = 9 + length (v .catalog) + length (v .steps) + a
 -- "11 and 12 with the act's line, 14 before 13 with the step's line"
 abbrev pub faultLine : Sofar → Fault → ℕ
 faultLine v (unknownItem s a i) = lineOfAct v (actsBefore s (v .acts) + a)
+faultLine v (retiredItem s a i) = lineOfAct v (actsBefore s (v .acts) + a)
 faultLine v (notHeld s a i) = lineOfAct v (actsBefore s (v .acts) + a)
 faultLine v (alreadyHeld s a i) = lineOfAct v (actsBefore s (v .acts) + a)
 faultLine v (requestNotHeld s i) = lineOfStep v s

@@ -1,16 +1,19 @@
-// The plan of a text, run over its steps and priced.
+// The plan of a text, run over its steps and priced. Items arrive and leave as it runs; `catalog` has the bytes of all of them, those of
+// table 2 and behind them those that arrive.
 ghost use mathlib.Core.Path.{_≡_};
 ghost use Prim.Native.Nat.{_≤_};
 ghost use lib.Dec.{leb};
-ghost use Rattle.season_plan.specs.Inner.{PlanReady, Known, Evicts, Fetches, Acts, Owes, Cleans, lacking, PlanServable, Serves, Actable, RunsActs, ActsWithin, Priceable, PricedAs, PriceSmall};
+ghost use Rattle.season_plan.specs.Inner.{PlanReady, Known, Loses, Evicts, Fetches, Acts, Owes, Cleans, lacking, PlanServable, Serves, Actable, RunsActs, ActsWithin, Priceable, PricedAs, PriceSmall};
 use season_tables::Seen;
 use types::Refusal;
 
-// What the plan has of each item: 0 no copy, 1 a clean one, 2 a dirty one; the blocks that it holds; and what it has paid.
+// What the plan has of each item: 0 no copy, 1 a clean one, 2 a dirty one; the blocks that it holds; what it has paid; and how many items
+// there are so far.
 pub struct Copies {
     pub marks: [u8; 256],
     pub used: u32,
     pub paid: u64,
+    pub n: usize,
 }
 
 // A part of the plan: 0 if it was done, else the number of its fault; and what the plan has then.
@@ -50,22 +53,33 @@ fn failed(number: u32, copies: Copies) -> Did
     }
 }
 
+// The copy of an item goes, if there is one, and its write cost is paid if it is dirty.
+fn lose(catalog: &[u8], p: Copies, item: usize) -> Copies
+    requires { ⌜ Known (now catalog) p item ⌝ }
+    ensures { λ r. ⌜ Loses (now (catalog .entry)) p item r ⌝ }
+{
+    let mark = p.marks[item];
+    let mut q = p;
+    q.marks[item] = 0;
+    if mark == 0 {
+        return q;
+    }
+    q.used = p.used - (catalog_bytes::blocks(catalog, item) as u32);
+    if mark != 1 {
+        q.paid = p.paid + (catalog_bytes::write_cost(catalog, item) as u64);
+    }
+    q
+}
+
 // D: drops a held item, and pays its write cost if it is dirty.
 fn evict(catalog: &[u8], p: Copies, item: usize) -> Did
     requires { ⌜ Known (now catalog) p item ⌝ }
     ensures { λ r. ⌜ Evicts (now (catalog .entry)) p item r ⌝ }
 {
-    let mark = p.marks[item];
-    if mark == 0 {
+    if p.marks[item] == 0 {
         return failed(11, p);
     }
-    let mut q = p;
-    q.marks[item] = 0;
-    q.used = p.used - (catalog_bytes::blocks(catalog, item) as u32);
-    if mark != 1 {
-        q.paid = p.paid + (catalog_bytes::write_cost(catalog, item) as u64);
-    }
-    done(q)
+    done(lose(catalog, p, item))
 }
 
 // F: fetches an item not held, clean, and pays its load cost.
@@ -138,7 +152,7 @@ fn owed(catalog: &[u8], p: Copies) -> u64
     requires { ⌜ PlanReady (now catalog) p ⌝ }
     ensures { λ r. ⌜ Owes (now (catalog .entry)) p r ⌝ }
 {
-    let n = catalog.len() / 5;
+    let n = p.n;
     let mut sum: u64 = 0;
     let mut i = 0;
     while i < n {
@@ -151,10 +165,11 @@ fn owed(catalog: &[u8], p: Copies) -> u64
 }
 
 // Every dirty copy becomes clean.
-fn clean(p: Copies, n: usize) -> Copies
-    requires { ⌜ n ≤ 256 ⌝ }
-    ensures { λ r. ⌜ Cleans n p r ⌝ }
+fn clean(p: Copies) -> Copies
+    requires { ⌜ p .n ≤ 256 ⌝ }
+    ensures { λ r. ⌜ Cleans p r ⌝ }
 {
+    let n = p.n;
     let mut q = p;
     let mut i = 0;
     while i < n {
@@ -166,14 +181,17 @@ fn clean(p: Copies, n: usize) -> Copies
     q
 }
 
-// Whether a step has an item, and the plan's mark says that it holds no copy of it.
+// Whether a step is a read or a write, and the plan's mark says that it holds no copy of its item.
 fn lacks(kind: u32, mark: u8) -> bool
     ensures { λ r. ⌜ r ≡ lacking kind mark ⌝ }
 {
-    if kind == 76 {
-        return false;
+    if kind == 82 {
+        return mark == 0;
     }
-    mark == 0
+    if kind == 87 {
+        return mark == 0;
+    }
+    false
 }
 
 // Whether so many blocks are within a capacity.
@@ -183,7 +201,8 @@ fn within(used: u32, h: u32) -> bool
     used <= h
 }
 
-// The step is served: its item is held (14), the plan is within its capacity (13); a write makes the item dirty, a flush cleans.
+// The step is served: the item of a read or write is held (14), the plan is within its capacity (13); a write makes its item dirty, a
+// flush cleans, an item arrives without a copy, and one that retires is lost.
 fn serve(catalog: &[u8], h: u32, p: Copies, kind: u32, item: usize) -> Did
     requires { ⌜ PlanServable (now catalog) p kind item ⌝ }
     ensures { λ r. ⌜ Serves (now (catalog .entry)) h p kind item r ⌝ }
@@ -196,10 +215,17 @@ fn serve(catalog: &[u8], h: u32, p: Copies, kind: u32, item: usize) -> Did
     if !fits {
         return failed(13, p);
     }
+    if kind == 81 {
+        return done(lose(catalog, p, item));
+    }
     let mut q = p;
     if kind == 76 {
         q.paid = p.paid + owed(catalog, p);
-        return done(clean(q, catalog.len() / 5));
+        return done(clean(q));
+    }
+    if kind == 65 {
+        q.n = p.n + 1;
+        return done(q);
     }
     if kind == 87 {
         q.marks[item] = 2;
@@ -208,7 +234,6 @@ fn serve(catalog: &[u8], h: u32, p: Copies, kind: u32, item: usize) -> Did
 }
 
 // Runs the plan of an accepted text, the acts before each step and then the step, and the closing flush; its first fault decides.
-// `catalog` has the bytes of the text's items and no more.
 pub fn price_plan(seen: Seen, catalog: &[u8], calls: &[u32], acts: &[u32]) -> Price
     requires { ⌜ Priceable seen (now catalog) (now calls) (now acts) ⌝ }
     ensures { λ r. ⌜ PricedAs seen (now (catalog .entry)) (now (calls .entry)) (now (acts .entry)) r ⌝ }
@@ -219,6 +244,7 @@ pub fn price_plan(seen: Seen, catalog: &[u8], calls: &[u32], acts: &[u32]) -> Pr
         marks: [0; 256],
         used: 0,
         paid: 0,
+        n: seen.n,
     };
     let mut a = 0;
     let mut s = 0;
@@ -234,8 +260,8 @@ pub fn price_plan(seen: Seen, catalog: &[u8], calls: &[u32], acts: &[u32]) -> Pr
             ));
         }
         let ready = before.copies;
-        let kind = calls[4 * s + 1];
-        let item = calls[4 * s + 2];
+        let kind = calls[7 * s + 1];
+        let item = calls[7 * s + 2];
         let served = serve(catalog, seen.h, ready, kind, item as usize);
         let fault = served.number;
         if fault != 0 {

@@ -2,7 +2,7 @@
 -- how the first field of what is left of a line is found. Assumes nothing.
 use mathlib.Core.Path.{_≡_, refl, sym, _∙_}
 use mathlib.Core.Bool.{Bool, true, false, cond, not, false≢true}
-use mathlib.Core.List.{List, [], _∷_}
+use mathlib.Core.List.{List, [], _∷_, _++_}
 use mathlib.Core.Logic.{_⊎_, inl, inr}
 use Prim.Native.Nat.{ℕ, zero, suc, _+_, _-_, _≤_, _<_}
 use native.Mathlib.Nat.{zero-sub}
@@ -13,18 +13,22 @@ use lib.Dec.{leb, ltb, eqb}
 use lib.ListN.{length, take, drop, length-append, length-drop, drop-of-length-le}
 use lib.Seq.{drop-drop, take-take, length-take-le, take-nil, take-all}
 use Rattle.types.specs.declared.Refusal.{Refusal}
-use Rattle.types.specs.declared.Refusal.the-variants.{Malformed, Heading, OutOfSequence, PlanTooLarge, UnknownItem, ItemTooLarge, ActOutOfOrder}
+use Rattle.types.specs.declared.Refusal.the-variants.{Malformed, Heading, OutOfSequence, PlanTooLarge, ActOutOfOrder}
+use Rattle.types.specs.declared.Step.{Step}
 use Rattle.types.specs.Types.{stepItem, actItem}
-use Rattle.landlord.specs.Calls.{itemRefusal}
+use Rattle.landlord.specs.Fold.{fold}
+use Rattle.landlord.specs.Catalog.{Catalog, listed, catalogNext, catalogAfter}
+use Rattle.landlord.specs.Calls.{ifKnown, itemRefusal}
+use Rattle.landlord.proofs.Catalogs.{next-length, next-follows, after-more}
 use Rattle.line_fields.specs.declared.Field.{Field}
 use Rattle.season_lines.specs.declared.Names.{Names}
 use Rattle.season_lines.specs.declared.Names.the-variants.{Form, Unknown}
 use Rattle.season_lines.specs.declared.Line.{Line}
 use Rattle.season_lines.specs.declared.Line.the-variants.{Sizes, Item as ItemLine, Step as StepLine, Act as ActLine, Refused}
 use Rattle.line_fields.specs.Fields.{split, fieldOf, fieldsOf}
-use Rattle.season_lines.specs.Lines.{formOf, itemFrom, lineIn}
+use Rattle.season_lines.specs.Lines.{formOf, lineIn}
 use Rattle.line_fields.specs.Inner.{before}
-use Rattle.season_tables.specs.Tables.{Sofar, on, stop, mayEnd, mustEnd, nowNamed, namedBy, nextTable, withSizes, withItem, withStep, withAct, inTurn, takes, leads, atEnd, goesOn, readFrom}
+use Rattle.season_tables.specs.Tables.{Sofar, on, stop, mayEnd, mustEnd, nowNamed, namedBy, nextTable, withSizes, withItem, withStep, withAct, inTurn, itemRefused, takes, leads, atEnd, goesOn, readFrom}
 use Rattle.season_tables.specs.Inner.{isBlank, isSized, wantsValues}
 use Rattle.season_scan.specs.Inner.{onward, readUntil}
 use Rattle.season_tables.proofs.Leads.{leads-values}
@@ -99,10 +103,20 @@ malformed-line v l n h e = leads-values v l n h ∙ rw e
 abbrev pub Adds : ℕ → ℕ → Bool → ℕ → Type 0
 Adds a b wants fields = (b ≡ a) ⊎ ((b ≡ a + 1) × (wants ≡ true) × (3 ≤ fields))
 
+-- the items as the steps have left them
+abbrev itemsNow : Sofar → Catalog
+itemsNow v = catalogAfter (v .catalog) (v .steps)
+
+-- steps make no catalog shorter than another that was no longer
+as-long : (steps : List Step) (a b : Catalog) → length a ≤ length b → length (catalogAfter a steps) ≤ length (catalogAfter b steps)
+unfolding fold
+as-long [] a b h = h
+as-long (s ∷ steps) a b h = as-long steps (catalogNext a s) (catalogNext b s) (omega (arith, next-length a s, next-length b s))
+
 pub record Grows (v w : Sofar) (wants : Bool) (fields : ℕ) : Type 0 where
   pub upto : w .upto ≡ v .upto
   pub table : 1 ≤ v .upto → v .table ≤ v .upto → w .table ≤ v .upto
-  pub items : length (v .catalog) ≤ length (w .catalog)
+  pub items : length (itemsNow v) ≤ length (itemsNow w)
   pub steps : Adds (length (v .steps)) (length (w .steps)) wants fields
   pub acts : Adds (length (v .acts)) (length (w .acts)) wants fields
 
@@ -135,22 +149,22 @@ grown-by v w table form fs n e = go (lineIn table form fs n) (line-says table fo
     go (ItemLine i k l m) q e =
         grows-to v (withItem v k l m) w true (length fs)
         (if-on (eqb i (length (v .catalog))) (withItem v k l m) w (OutOfSequence n) e)
-        (record { upto = refl; table = λ u t. t; items = omega (arith, length-append (v .catalog) (itemFrom k l m ∷ [])); steps = inl refl; acts = inl refl })
+        (record { upto = refl; table = λ u t. t; items = as-long (v .steps) (v .catalog) (v .catalog ++ (listed k l m ∷ [])) (omega (arith, length-append (v .catalog) (listed k l m ∷ []))); steps = inl refl; acts = inl refl })
     go (StepLine s) l e =
-        let number = itemRefusal (v .k) (v .catalog) s in
+        let number = itemRefusal (v .k) (itemsNow v) s in
         grows-to v (withStep v s) w true (length fs)
-        (if-on (eqb number 0) (withStep v s) w (cond (eqb number 6) (UnknownItem n (stepItem s)) (ItemTooLarge n (stepItem s))) e)
+        (if-on (eqb number 0) (withStep v s) w (itemRefused number n (stepItem s)) e)
         (record {
           upto = refl;
           table = λ u t. t;
-          items = omega arith;
+          items = rw (after-more (v .catalog) (v .steps) s) (next-follows (itemsNow v) s .longer);
           steps = inr (length-append (v .steps) (s ∷ []), refl, l .1);
           acts = inl refl;
         })
     go (ActLine place act) l e =
+        let number = ifKnown (catalogAfter (v .catalog) (take place (v .steps))) (actItem act) 0 in
         grows-to v (withAct v place act) w true (length fs)
-        (if-both (inTurn v place) (ltb (actItem act) (length (v .catalog))) (withAct v place act) w (UnknownItem n (actItem act))
-        (ActOutOfOrder n) e)
+        (if-both (inTurn v place) (eqb number 0) (withAct v place act) w (itemRefused number n (actItem act)) (ActOutOfOrder n) e)
         (record {
           upto = refl;
           table = λ u t. t;

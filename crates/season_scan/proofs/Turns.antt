@@ -70,9 +70,9 @@ heldFrom s i end more = map heldField (fieldsFrom s i end more)
 -- At byte i of that line, where a field begins if there are more: the fields before it are in the array, no more than the heading has
 -- names, none of them empty, and took at least two bytes each. If no line of values is due, none is looked at.
 pub record Fielded (s : List ℕ) (q : Seen) (at end names : ℕ) (fields : List Field) (count i : ℕ) (more : Bool) : Type 0 where
-  pub slots : length fields ≡ 4
+  pub slots : length fields ≡ 6
   pub heading : names ≡ namesIn (q .table) (q .form)
-  pub most : names ≤ 4
+  pub most : names ≤ 6
   pub few : count ≤ names
   pub some : noneEmpty (take count fields) ≡ true
   pub from : at + 2 * count ≤ i
@@ -179,16 +179,16 @@ module _ (upto : ℕ) (s catalog₀ calls₀ acts₀ catalog calls acts : List �
 
 -- ## The fields of a line
 
--- so many of the array's four
-filled : (fields : List Field) (count names : ℕ) → length fields ≡ 4 → count ≤ names → names ≤ 4 → length (take count fields) ≡ count
+-- so many of the array's six
+filled : (fields : List Field) (count names : ℕ) → length fields ≡ 6 → count ≤ names → names ≤ 6 → length (take count fields) ≡ count
 filled fields count names e h m = length-take-le count fields (omega arith)
 
 module _ (s : List ℕ) (q : Seen) (at end names : ℕ) where
   pub field-none :
       (fields : List Field) (more : Bool) →
-      length fields ≡ 4 →
+      length fields ≡ 6 →
       names ≡ namesIn (q .table) (q .form) →
-      names ≤ 4 →
+      names ≤ 6 →
       at ≤ end →
       more ≡ due q at end →
       Fielded s q at end names fields 0 at more
@@ -437,7 +437,7 @@ module _ (upto : ℕ) (s catalog₀ calls₀ acts₀ catalog calls acts : List �
                     long = (long .0 ∙ h .long .0, long .1 ∙ h .long .1, long .2 ∙ h .long .2);
                     past =
                         untouched-later q (r .seen) catalog₀ calls₀ acts₀ catalog calls acts catalogThen callsThen actsThen (h .past) (kept .past)
-                        (omega (arith, old .itemCount, new .itemCount, g .items))
+                        (omega (arith, old .present .count, new .present .count, g .items))
                         (no-fewer (q .steps) (r .seen .steps) (old .stepCount) (new .stepCount) (g .steps))
                         (no-fewer (q .acts) (r .seen .acts) (old .actCount) (new .actCount) (g .acts));
                     read = w;

@@ -8,7 +8,7 @@ use season_tables::Verdict;
 use types::Refusal;
 
 // Reads the tables up to the one numbered `upto`, the last, or up to the first faulty line. The items are noted in `catalog`, five
-// bytes each, the steps in `calls`, four numbers each, and the acts in `acts`, three.
+// bytes each, and behind them those that arrive; the steps in `calls`, seven numbers each; and the acts in `acts`, three.
 pub fn scan(s: &[u8], upto: u32, catalog: &mut [u8], calls: &mut [u32], acts: &mut [u32]) -> Scanned
     requires { ⌜ Scannable upto (now s) (now catalog) (now calls) (now acts) ⌝ }
     ensures { λ r. ⌜ Leads (readingTo upto (now (s .entry))) r (now (catalog .exit)) (now (calls .exit)) (now (acts .exit)) ⌝ }
@@ -27,7 +27,7 @@ pub fn scan(s: &[u8], upto: u32, catalog: &mut [u8], calls: &mut [u32], acts: &m
             break season_tables::stopped(seen, Refusal::Malformed { line: line });
         }
         let names = season_lines::names_in(seen.table, seen.form);
-        let mut fields = [Field::Empty; 4];
+        let mut fields = [Field::Empty; 6];
         let mut count: usize = 0;
         let mut i = at;
         let mut more = season_tables::wants_values(

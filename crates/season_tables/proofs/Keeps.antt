@@ -32,7 +32,7 @@ pub taken-past :
     KeepsPast m q before r after
 taken-past m q before r after e d = (d, λ x t. absurd (not-refused (r .verdict) x e t))
 
--- all three, of which one at most is noted in
+-- all three, of which one is noted in, or none, or for a step two
 module _ (q : Seen) (catalog calls acts : List ℕ) (r : Scanned) where
   pub keeps-all : KeepsSeen q r → Keeps q catalog calls acts r catalog calls acts
   keeps-all k =
@@ -41,18 +41,22 @@ module _ (q : Seen) (catalog calls acts : List ℕ) (r : Scanned) where
         refused = λ x t. record { sameSeen = k x t; sameItems = refl; sameSteps = refl; sameActs = refl };
       }
 
-  pub keeps-items : (after : List ℕ) → KeepsPast (5 * r .seen .n) q catalog r after → Keeps q catalog calls acts r after calls acts
+  pub keeps-items : (after : List ℕ) → KeepsPast (5 * r .seen .present .n) q catalog r after → Keeps q catalog calls acts r after calls acts
   keeps-items after k =
       record {
         past = record { pastItems = k .0; pastSteps = refl; pastActs = refl };
         refused = λ x t. let s = k .1 x t in record { sameSeen = s .0; sameItems = s .1; sameSteps = refl; sameActs = refl };
       }
 
-  pub keeps-steps : (after : List ℕ) → KeepsPast (4 * r .seen .steps) q calls r after → Keeps q catalog calls acts r catalog after acts
-  keeps-steps after k =
+  pub keeps-steps :
+      (catalog-after calls-after : List ℕ) →
+      KeepsPast (5 * r .seen .present .n) q catalog r catalog-after →
+      KeepsPast (7 * r .seen .steps) q calls r calls-after →
+      Keeps q catalog calls acts r catalog-after calls-after acts
+  keeps-steps catalog-after calls-after j k =
       record {
-        past = record { pastItems = refl; pastSteps = k .0; pastActs = refl };
-        refused = λ x t. let s = k .1 x t in record { sameSeen = s .0; sameItems = refl; sameSteps = s .1; sameActs = refl };
+        past = record { pastItems = j .0; pastSteps = k .0; pastActs = refl };
+        refused = λ x t. let s = k .1 x t in record { sameSeen = s .0; sameItems = j .1 x t .1; sameSteps = s .1; sameActs = refl };
       }
 
   pub keeps-acts : (after : List ℕ) → KeepsPast (3 * r .seen .acts) q acts r after → Keeps q catalog calls acts r catalog calls after
@@ -74,13 +78,13 @@ pub untouched-later :
     (q p : Seen) (catalog calls acts catalog₁ calls₁ acts₁ catalog₂ calls₂ acts₂ : List ℕ) →
     Untouched q catalog calls acts catalog₁ calls₁ acts₁ →
     Untouched p catalog₁ calls₁ acts₁ catalog₂ calls₂ acts₂ →
-    q .n ≤ p .n →
+    q .present .n ≤ p .present .n →
     q .steps ≤ p .steps →
     q .acts ≤ p .acts →
     Untouched p catalog calls acts catalog₂ calls₂ acts₂
 untouched-later q p catalog calls acts catalog₁ calls₁ acts₁ catalog₂ calls₂ acts₂ f g n s a =
     record {
-      pastItems = g .pastItems ∙ later (5 * q .n) (5 * p .n) catalog catalog₁ (omega arith) (f .pastItems);
-      pastSteps = g .pastSteps ∙ later (4 * q .steps) (4 * p .steps) calls calls₁ (omega arith) (f .pastSteps);
+      pastItems = g .pastItems ∙ later (5 * q .present .n) (5 * p .present .n) catalog catalog₁ (omega arith) (f .pastItems);
+      pastSteps = g .pastSteps ∙ later (7 * q .steps) (7 * p .steps) calls calls₁ (omega arith) (f .pastSteps);
       pastActs = g .pastActs ∙ later (3 * q .acts) (3 * p .acts) acts acts₁ (omega arith) (f .pastActs);
     }

@@ -4,6 +4,7 @@ use mathlib.Core.Path.{_≡_, refl, sym, ap, subst, _∙_}
 use mathlib.Core.Bool.{Bool, true, false, cond, not, false≢true}
 use mathlib.Core.List.{List}
 use Prim.Native.Nat.{ℕ}
+use native.Mathlib.Omega.{arith}
 use lib.ListN.{length}
 use lib.Dec.{eqb, leb, ltb}
 use Rattle.types.specs.declared.Refusal.the-variants.{Malformed}
@@ -18,7 +19,7 @@ use Rattle.season_lines.proofs.Held.{held-line}
 use Rattle.season_tables.specs.declared.Seen.{Seen}
 use Rattle.season_tables.specs.declared.Scanned.{Scanned}
 use Rattle.season_tables.specs.Tables.{Sofar, Led, on, stop, nextTable, mayEnd, mustEnd, namedBy, takes, leads}
-use Rattle.season_tables.specs.Inner.{Holds, Leads, LeadsFrom, LeadsBy, Looked, ItemPlaced, wantsValues}
+use Rattle.season_tables.specs.Inner.{Holds, Leads, LeadsFrom, LeadsBy, Looked, OfTable, wantsValues}
 
 unnamed : {A : Type 0} (t : Bool) (x y : A) → t ≡ false → cond t x y ≡ y
 unnamed true x y e = absurd (false≢true (sym e))
@@ -73,14 +74,14 @@ module _ (v : Sofar) (l : List ℕ) (n : ℕ) where
       blank (v .named) (eqb (length l) 0) (mayEnd (v .upto) (v .table) (v .k)) (mustEnd (v .table) (v .k)) _ _ _ _
       (must-may (v .upto) (v .table) (v .k)) e f
 
--- an item's line has a number that has a place
-pub line-numbered : (table form : ℕ) (fs : List Field) (n : ℕ) (line : Line) → line ≡ lineIn table form fs n → ItemPlaced line
-line-numbered table form fs n line e = go line (subst (Says table (length fs) n) (sym e) (line-says table form fs n))
+-- a line says what its table does
+pub line-of-table : (table form : ℕ) (fs : List Field) (n : ℕ) (line : Line) → line ≡ lineIn table form fs n → OfTable table line
+line-of-table table form fs n line e = go line (subst (Says table (length fs) n) (sym e) (line-says table form fs n))
   where
-    go : (line : Line) → Says table (length fs) n line → ItemPlaced line
+    go : (line : Line) → Says table (length fs) n line → OfTable table line
     go (Sizes k h r) s = tt
-    go (ItemLine i b l w) s = s .1
-    go (StepLine step) s = tt
+    go (ItemLine i b l w) s = (s .1, omega (arith, s .0))
+    go (StepLine step) s = (s .2, omega (arith, s .0))
     go (ActLine place act) s = tt
     go (RefusedLine r) s = tt
 
@@ -106,14 +107,16 @@ module _ (q : Seen) (catalog calls acts l : List ℕ) (n : ℕ) (r : Scanned) wh
   same-wants v h e = λ i. wantsValues ((sym (h .named) ∙ e) i) (sym (h .upto) i) (sym (h .table) i) (sym (h .k) i) (length l)
 
   pub lead-values :
-      (fs : List Field) (line : Line) (catalog-after calls-after acts-after : List ℕ) →
+      (fs : List Field) (line : Line) (catalog-after calls-after acts-after : List ℕ) (wants : Bool) →
       q .named ≡ true →
-      wantsValues true (q .upto) (q .table) (q .k) (length l) ≡ true →
+      wants ≡ wantsValues true (q .upto) (q .table) (q .k) (length l) →
+      wants ≡ true →
       Looked q l fs →
       line ≡ lineIn (q .table) (q .form) fs n →
       LeadsFrom q catalog calls acts (λ v. takes v line n) r catalog-after calls-after acts-after →
       LeadsFrom q catalog calls acts (λ v. leads v l n) r catalog-after calls-after acts-after
-  lead-values fs line catalog-after calls-after acts-after e f looked g led v h =
+  lead-values fs line catalog-after calls-after acts-after wants e asked so looked g led v h =
+      let f : wantsValues true (q .upto) (q .table) (q .k) (length l) ≡ true = sym asked ∙ so in
       let due : wantsValues (q .named) (q .upto) (q .table) (q .k) (length l) ≡ true =
       ap (λ (b : Bool). wantsValues b (q .upto) (q .table) (q .k) (length l)) e ∙ f in
       let same : line ≡ lineIn (v .table) (v .form) (fieldsOf l) n =
@@ -123,11 +126,13 @@ module _ (q : Seen) (catalog calls acts l : List ℕ) (n : ℕ) (r : Scanned) wh
       (led v h)
 
   pub lead-blank :
+      (wants : Bool) →
       q .named ≡ true →
-      wantsValues true (q .upto) (q .table) (q .k) (length l) ≡ false →
+      wants ≡ wantsValues true (q .upto) (q .table) (q .k) (length l) →
+      wants ≡ false →
       LeadsBy q (λ v. cond (eqb (length l) 0) (on (nextTable v)) (stop (Malformed n))) r →
       LeadsFrom q catalog calls acts (λ v. leads v l n) r catalog calls acts
-  lead-blank e f led v h =
+  lead-blank wants e asked so led v h =
       subst (λ (x : Led). Leads x r catalog calls acts)
-      (sym (leads-blank v l n (sym (h .named) ∙ e) (same-wants v h e ∙ f)))
+      (sym (leads-blank v l n (sym (h .named) ∙ e) (same-wants v h e ∙ sym asked ∙ so)))
       (led catalog calls acts v h)

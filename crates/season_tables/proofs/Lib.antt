@@ -1,5 +1,4 @@
-pub mod Notes
-pub mod Items
+pub mod Told
 pub mod Keeps
 pub mod Held
 pub mod Due

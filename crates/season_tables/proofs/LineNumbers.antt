@@ -7,21 +7,21 @@ use mathlib.Core.Bool.{Bool, true, false, cond, _&&_, false≢true}
 use mathlib.Core.List.{List, [], _∷_}
 use Prim.Native.Nat.{ℕ, zero, suc, _+_, _*_, _-_, _≤_, _<_}
 use native.Mathlib.Omega.{arith}
-use lib.ListN.{length, length-append}
-use lib.Dec.{leb, ltb, eqb}
+use lib.ListN.{length, take, length-append}
+use lib.Dec.{leb, eqb}
 use Rattle.types.specs.declared.Refusal.{Refusal}
-use Rattle.types.specs.declared.Refusal.the-variants.{UnknownItem, ItemTooLarge}
 use Rattle.types.specs.Types.{stepItem, actItem, refusalLine}
-use Rattle.landlord.specs.Calls.{itemRefusal}
+use Rattle.landlord.specs.Catalog.{listed, catalogAfter}
+use Rattle.landlord.specs.Calls.{ifKnown, itemRefusal}
 use Rattle.landlord.proofs.Folds.{either}
 use Rattle.season_lines.specs.declared.Names.{Names}
 use Rattle.season_lines.specs.declared.Names.the-variants.{Form, Unknown}
 use Rattle.season_lines.specs.declared.Line.{Line}
 use Rattle.season_lines.specs.declared.Line.the-variants.{Sizes, Item as ItemLine, Step as StepLine, Act as ActLine, Refused}
 use Rattle.line_fields.specs.Fields.{split, fieldsOf}
-use Rattle.season_lines.specs.Lines.{formOf, itemFrom}
+use Rattle.season_lines.specs.Lines.{formOf}
 use Rattle.season_lines.proofs.Pieces.{Says, line-says}
-use Rattle.season_tables.specs.Tables.{Placed, Sofar, Led, on, stop, atStart, inTurn, takes, mayEnd, mustEnd, namedBy, leads, atEnd, goesOn, readFrom, readingTo, readingOf}
+use Rattle.season_tables.specs.Tables.{Placed, Sofar, Led, on, stop, atStart, inTurn, itemRefused, unlessRefused, takes, mayEnd, mustEnd, namedBy, leads, atEnd, goesOn, readFrom, readingTo, readingOf}
 use Rattle.season_tables.specs.Inner.{isBlank, isSized}
 use Rattle.season_tables.proofs.Sound.{split-few, accepted-ends}
 
@@ -57,6 +57,18 @@ abbrev ByLine : ℕ → Led → Type 0
 ByLine n (on w) = linesRead w ≤ n
 ByLine n (stop r) = refusalLine r ≡ n
 
+-- a line that is refused by its item names itself
+unless-by : (n number item : ℕ) (w : Sofar) → linesRead w ≤ n → ByLine n (unlessRefused number n item w)
+unless-by n number item w l = either (ByLine n) (eqb number 0) _ _ (λ e. l) (λ e. told)
+  where
+    Q : Refusal → Type 0
+    Q r = refusalLine r ≡ n
+
+    told : Q (itemRefused number n item)
+    told =
+        either Q (eqb number 6) _ _ (λ f. refl)
+        (λ f. either Q (eqb number 7) _ _ (λ g. refl) (λ g. either Q (eqb number 19) _ _ (λ h. refl) (λ h. refl)))
+
 -- any value line, and any line
 takes-by : (table fields n : ℕ) (v : Sofar) (x : Line) → linesRead v < n → Says table fields n x → ByLine n (takes v x n)
 unfolding takes
@@ -64,18 +76,14 @@ takes-by table fields n v (Sizes k h r) l o =
     either (ByLine n) (leb h k) _ _ (λ e. omega (arith, above-sizes (v .table) (v .k) k)) (λ e. refl)
 takes-by table fields n v (ItemLine i b c w) l o =
     either (ByLine n) (eqb i (length (v .catalog))) _ _
-    (λ e. omega (arith, length-append (v .catalog) (itemFrom b c w ∷ []))) (λ e. refl)
+    (λ e. omega (arith, length-append (v .catalog) (listed b c w ∷ []))) (λ e. refl)
 takes-by table fields n v (StepLine s) l o =
-    let number = itemRefusal (v .k) (v .catalog) s in
-    either (ByLine n) (eqb number 0) _ _
-    (λ e. omega (arith, length-append (v .steps) (s ∷ [])))
-    (λ e. either (λ r. refusalLine r ≡ n) (eqb number 6) (UnknownItem n (stepItem s)) (ItemTooLarge n (stepItem s)) (λ f. refl) (λ f. refl))
+    unless-by n (itemRefusal (v .k) (catalogAfter (v .catalog) (v .steps)) s) (stepItem s) _ (omega (arith, length-append (v .steps) (s ∷ [])))
 takes-by table fields n v (ActLine place act) l o =
     let a : Placed = record { place = place; act = act } in
+    let number = ifKnown (catalogAfter (v .catalog) (take place (v .steps))) (actItem act) 0 in
     either (ByLine n) (inTurn v place) _ _
-    (λ e. either (ByLine n) (ltb (actItem act) (length (v .catalog))) _ _
-    (λ k. omega (arith, length-append (v .acts) (a ∷ []))) (λ k. refl))
-    (λ e. refl)
+    (λ e. unless-by n number (actItem act) _ (omega (arith, length-append (v .acts) (a ∷ [])))) (λ e. refl)
 takes-by table fields n v (Refused r) l o =
     ⊎-elim (λ m. ap refusalLine m) (⊎-elim (λ m. ap refusalLine m) (λ m. ap refusalLine m)) o
 

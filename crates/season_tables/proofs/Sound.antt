@@ -1,24 +1,25 @@
 -- What an accepted text keeps (specs/InnerSound.antt), where its reading ends, and that it has no more steps and acts than bytes. What is
 -- claimed after i lines (After) holds before the first line, and each line that leads on keeps it. Assumes nothing.
-use mathlib.Core.Path.{_≡_, refl, subst, _∙_}
-use mathlib.Core.Bool.{Bool, true, false, cond, _&&_, false≢true}
+use mathlib.Core.Path.{_≡_, refl, sym, ap, subst, _∙_}
+use mathlib.Core.Bool.{Bool, true, false, cond, not, _&&_, false≢true}
 use mathlib.Core.List.{List, [], _∷_, _++_}
 use Prim.Native.Nat.{ℕ, suc, _+_, _-_, _≤_, _<_}
 use native.Mathlib.Omega.{arith}
 use native.Mathlib.Decide.{ℕ-discrete}
 use lib.ListN.{length, getD, length-append, List·getD-append}
-use lib.Seq.{getD-append-seam}
+use lib.Seq.{getD-append-seam, take-append-le, take-append-seam}
 use lib.Dec.{leb, ltb, eqb}
 use borrow.Author.Tests.{eqb-true, eqb-false, leb-true, ltb-true, lt-leb}
 use Rattle.types.specs.declared.Step.{Step}
-use Rattle.types.specs.declared.Step.the-variants.{Read, Write, Flush}
+use Rattle.types.specs.declared.Step.the-variants.{Flush}
 use Rattle.types.specs.declared.Act.{Act}
 use Rattle.types.specs.declared.Act.the-variants.{Fetch}
 use Rattle.types.specs.declared.Deduction.{Deduction}
-use Rattle.types.specs.Types.{stepKind, stepItem, stepMinutes, actItem}
+use Rattle.types.specs.Types.{numbersOf, actItem}
+use Rattle.types.proofs.Steps.{same-step}
 use Rattle.landlord.specs.Fold.{fold}
-use Rattle.landlord.specs.Catalog.{Catalog, noItem}
-use Rattle.landlord.specs.Calls.{callOf, stepOf, inRange, itemRefusal, refusalAt}
+use Rattle.landlord.specs.Catalog.{Catalog, noItem, listed, catalogAfter, noneLeft}
+use Rattle.landlord.specs.Calls.{callOf, inRange, ifKnown, itemRefusal, refusalAt}
 use Rattle.landlord.specs.Inner.{ItemFacts, CatalogFacts}
 use Rattle.landlord.proofs.Folds.{either, fold-append}
 use Rattle.landlord.proofs.Ranges.{item-facts, catalog-ok, capacity-ok}
@@ -27,26 +28,27 @@ use Rattle.season_lines.specs.declared.Names.the-variants.{Form, Unknown}
 use Rattle.season_lines.specs.declared.Line.{Line}
 use Rattle.season_lines.specs.declared.Line.the-variants.{Sizes, Item as ItemLine, Step as StepLine, Act as ActLine, Refused}
 use Rattle.line_fields.specs.Fields.{onto, split, fieldsOf}
-use Rattle.season_lines.specs.Lines.{formOf, itemFrom}
+use Rattle.season_lines.specs.Lines.{formOf}
 use Rattle.line_fields.proofs.Laws.{and-parts}
 use Rattle.season_lines.proofs.Pieces.{Says, line-says}
 use Rattle.season_tables.specs.Tables.{Placed, Sofar, Led, on, stop, atStart, nowNamed, nextTable, withSizes, withItem, withStep, withAct, inTurn, takes, mayEnd, mustEnd, namedBy, leads, atEnd, goesOn, readFrom, readingTo, readingOf}
 use Rattle.season_tables.specs.Inner.{isBlank, lastPlace}
-use Rattle.season_tables.specs.InnerSound.{placedAt, Sound}
+use Rattle.season_tables.specs.InnerSound.{placedAt, catalogBefore, Sound}
+use Rattle.season_items.proofs.Items.{known-below, known-stays}
 
 -- what is claimed of a reading where it leads on
 abbrev pub Leading : (Sofar → Type 0) → Led → Type 0
 Leading P (on w) = P w
 Leading P (stop r) = Unit {0}
 
--- a step of a text: in range, and its item known and not too large
+-- a step of a text: in range, and not refused by the catalog as the steps before it have left it
 record StepFits (k : ℕ) (cat : Catalog) (s : Step) : Type 0 where
-  ranged : inRange (stepKind s) (stepItem s) (stepMinutes s) ≡ true
+  ranged : inRange (numbersOf s) ≡ true
   taken : itemRefusal k cat s ≡ 0
 
--- an act of a text: of a known item, before some step, and no later than the last act
+-- an act of a text: of an item that is there, before some step, and no later than the last act
 record ActFits (v : Sofar) (a : Placed) : Type 0 where
-  known : actItem (a .act) < length (v .catalog)
+  known : ifKnown (catalogBefore v (a .place)) (actItem (a .act)) 0 ≡ 0
   within : a .place < length (v .steps)
   passed : a .place ≤ lastPlace (v .acts)
 
@@ -65,7 +67,8 @@ record Partial (v : Sofar) : Type 0 where
   noActs : v .table ≤ 2 → length (v .acts) ≡ 0
   sizes : SizesFit (v .k) (v .h)
   catalog : CatalogFacts (v .catalog)
-  steps : (j : ℕ) → j < length (v .steps) → StepFits (v .k) (v .catalog) (getD (v .steps) j Flush)
+  fresh : noneLeft (v .catalog) ≡ true
+  steps : (j : ℕ) → j < length (v .steps) → StepFits (v .k) (catalogBefore v j) (getD (v .steps) j Flush)
   acts : (j : ℕ) → j < length (v .acts) → ActFits v (placedAt (v .acts) j)
   inOrder : (i j : ℕ) → i ≤ j → j < length (v .acts) → placedAt (v .acts) i .place ≤ placedAt (v .acts) j .place
 
@@ -79,19 +82,27 @@ record After (u i : ℕ) (v : Sofar) : Type 0 where
 none : {A : Type 0} (n j : ℕ) → n ≡ 0 → j < n → A
 none n j e l = absurd (omega arith)
 
--- what holds of each element of a list, and of one more, holds of each of them
+-- what holds of each element of a list at its place, and of one more, holds of each of them
 each-more :
-    {A : Type 0} (P : A → Type 0) (d : A) (xs : List A) (x : A) →
-    ((j : ℕ) → j < length xs → P (getD xs j d)) →
-    P x →
-    (j : ℕ) → j < length (xs ++ (x ∷ [])) → P (getD (xs ++ (x ∷ [])) j d)
+    {A : Type 0} (P : ℕ → A → Type 0) (d : A) (xs : List A) (x : A) →
+    ((j : ℕ) → j < length xs → P j (getD xs j d)) →
+    P (length xs) x →
+    (j : ℕ) → j < length (xs ++ (x ∷ [])) → P j (getD (xs ++ (x ∷ [])) j d)
 each-more P d xs x h p j l = go (ℕ-discrete j (length xs))
   where
-    go : Dec (j ≡ length xs) → P (getD (xs ++ (x ∷ [])) j d)
+    go : Dec (j ≡ length xs) → P j (getD (xs ++ (x ∷ [])) j d)
     go (yes e) = rw (e, getD-append-seam xs x [] d) p
     go (no e) =
         let b : j < length xs = omega (arith, length-append xs (x ∷ [])) in
         rw (List·getD-append xs (x ∷ []) d j b) (h j b)
+
+-- one more item that has not left
+none-left-more : (cat : Catalog) (b l w : ℕ) → noneLeft cat ≡ true → noneLeft (cat ++ (listed b l w ∷ [])) ≡ true
+unfolding noneLeft
+none-left-more [] b l w e = refl
+none-left-more (x ∷ cat) b l w e =
+    let parts = and-parts (not (x .left)) (noneLeft cat) e in
+    rw (parts .0, none-left-more cat b l w (parts .1))
 
 start-after : (u : ℕ) → 1 ≤ u → After u 0 (atStart u)
 start-after u low =
@@ -107,21 +118,27 @@ start-after u low =
             noActs = λ l. refl;
             sizes = record { high = omega arith; rivalLow = λ l. absurd (omega arith); rivalHigh = omega arith };
             catalog = record { few = omega arith; each = λ i l. none 0 i refl l };
+            fresh = unfold noneLeft in refl;
             steps = λ j l. none 0 j refl l;
             acts = λ j l. none 0 j refl l;
             inOrder = λ i j m l. none 0 j refl l;
           };
     }
 
--- an act that fits still fits when more has been read
+-- an act that fits still fits when more acts have been read
 act-fits :
     (v w : Sofar) (a : Placed) →
-    length (v .catalog) ≤ length (w .catalog) →
+    catalogBefore w (a .place) ≡ catalogBefore v (a .place) →
     length (v .steps) ≤ length (w .steps) →
     lastPlace (v .acts) ≤ lastPlace (w .acts) →
     ActFits v a →
     ActFits w a
-act-fits v w a c s p f = record { known = omega (arith, f .known); within = omega (arith, f .within); passed = omega (arith, f .passed) }
+act-fits v w a c s p f =
+    record {
+      known = ap (λ (z : Catalog). ifKnown z (actItem (a .act)) 0) c ∙ f .known;
+      within = omega (arith, f .within);
+      passed = omega (arith, f .passed);
+    }
 
 -- ## Each line that leads on keeps it
 
@@ -141,8 +158,9 @@ named-after u i v f p =
             noActs = q .noActs;
             sizes = q .sizes;
             catalog = q .catalog;
+            fresh = q .fresh;
             steps = q .steps;
-            acts = λ j l. act-fits v (nowNamed v f) _ (omega arith) (omega arith) (omega arith) (q .acts j l);
+            acts = λ j l. act-fits v (nowNamed v f) _ refl (omega arith) (omega arith) (q .acts j l);
             inOrder = q .inOrder;
           };
     }
@@ -172,8 +190,9 @@ next-after u i v p e =
             noActs = λ l. q .noActs (omega arith);
             sizes = q .sizes;
             catalog = q .catalog;
+            fresh = q .fresh;
             steps = q .steps;
-            acts = λ j l. act-fits v (nextTable v) _ (omega arith) (omega arith) (omega arith) (q .acts j l);
+            acts = λ j l. act-fits v (nextTable v) _ refl (omega arith) (omega arith) (q .acts j l);
             inOrder = q .inOrder;
           };
     }
@@ -205,6 +224,7 @@ sizes-after u i fields n v k h r p s l =
             noActs = q .noActs;
             sizes = record { high = s .2; rivalLow = λ l. s .3; rivalHigh = l };
             catalog = q .catalog;
+            fresh = q .fresh;
             steps = λ j l. none _ j noSteps l;
             acts = λ j l. none _ j noActs l;
             inOrder = λ i j m l. none _ j noActs l;
@@ -234,9 +254,10 @@ item-after u i fields n v number b l w p s e =
             sizes = q .sizes;
             catalog =
                 record {
-                  few = omega (arith, length-append (v .catalog) (itemFrom b l w ∷ []));
-                  each = each-more ItemFacts noItem (v .catalog) (itemFrom b l w) (q .catalog .each) (item-facts (itemFrom b l w) (s .2));
+                  few = omega (arith, length-append (v .catalog) (listed b l w ∷ []));
+                  each = each-more (λ j. ItemFacts) noItem (v .catalog) (listed b l w) (q .catalog .each) (item-facts (listed b l w) (s .2));
                 };
+            fresh = none-left-more (v .catalog) b l w (q .fresh);
             steps = λ j l. none _ j noSteps l;
             acts = λ j l. none _ j noActs l;
             inOrder = λ i j m l. none _ j noActs l;
@@ -247,7 +268,7 @@ step-after :
     (u i fields n : ℕ) (v : Sofar) (s : Step) →
     After u i v →
     Says (v .table) fields n (StepLine s) →
-    itemRefusal (v .k) (v .catalog) s ≡ 0 →
+    itemRefusal (v .k) (catalogAfter (v .catalog) (v .steps)) s ≡ 0 →
     After u (suc i) (withStep v s)
 step-after u i fields n v s p r e =
     let q = p .so in
@@ -264,11 +285,22 @@ step-after u i fields n v s p r e =
             noActs = q .noActs;
             sizes = q .sizes;
             catalog = q .catalog;
-            steps = each-more (StepFits (v .k) (v .catalog)) Flush (v .steps) s (q .steps) (record { ranged = r .2; taken = e });
+            fresh = q .fresh;
+            steps =
+                each-more (λ j t. StepFits (v .k) (catalogBefore (withStep v s) j) t) Flush (v .steps) s
+                (λ j l. subst (λ (c : Catalog). StepFits (v .k) c (getD (v .steps) j Flush)) (front j (omega arith)) (q .steps j l))
+                (subst (λ (c : Catalog). StepFits (v .k) c s) all (record { ranged = r .2; taken = e }));
             acts = λ j l. none _ j noActs l;
             inOrder = λ i j m l. none _ j noActs l;
           };
     }
+  where
+    -- the steps before each of them, and before the new one
+    front : (j : ℕ) → j ≤ length (v .steps) → catalogBefore v j ≡ catalogBefore (withStep v s) j
+    front j l = ap (catalogAfter (v .catalog)) (sym (take-append-le j (v .steps) (s ∷ []) l))
+
+    all : catalogAfter (v .catalog) (v .steps) ≡ catalogBefore (withStep v s) (length (v .steps))
+    all = ap (catalogAfter (v .catalog)) (sym (take-append-seam (v .steps) (s ∷ [])))
 
 -- the last place is that of the act just read
 last-more : (acts : List Placed) (a : Placed) → lastPlace (acts ++ (a ∷ [])) ≡ a .place
@@ -280,7 +312,7 @@ act-after :
     After u i v →
     3 ≤ v .table →
     inTurn v place ≡ true →
-    actItem act < length (v .catalog) →
+    ifKnown (catalogBefore v place) (actItem act) 0 ≡ 0 →
     After u (suc i) (withAct v place act)
 act-after u i v place act p t e k =
     let q = p .so in
@@ -296,6 +328,7 @@ act-after u i v place act p t e k =
             noActs = λ l. absurd (omega arith);
             sizes = q .sizes;
             catalog = q .catalog;
+            fresh = q .fresh;
             steps = q .steps;
             acts = fits;
             inOrder = λ i j m l. order i j m l (ℕ-discrete j (length (v .acts)));
@@ -319,8 +352,8 @@ act-after u i v place act p t e k =
 
     fits : (j : ℕ) → j < length (w .acts) → ActFits w (placedAt (w .acts) j)
     fits =
-        each-more (ActFits w) (record { place = 0; act = Fetch 0 }) (v .acts) a
-        (λ j l. act-fits v w _ (omega arith) (omega arith) later (p .so .acts j l))
+        each-more (λ j. ActFits w) (record { place = 0; act = Fetch 0 }) (v .acts) a
+        (λ j l. act-fits v w _ refl (omega arith) later (p .so .acts j l))
         (record { known = k; within = ltb-true place (length (v .steps)) (turn .1); passed = omega (arith, last) })
 
     order : (i j : ℕ) → i ≤ j → j < length (w .acts) → Dec (j ≡ length (v .acts)) → placedAt (w .acts) i .place ≤ placedAt (w .acts) j .place
@@ -340,12 +373,13 @@ takes-after u i fields n v (ItemLine number b l w) p s =
     either (Leading (After u (suc i))) (eqb number (length (v .catalog))) _ _
     (λ e. item-after u i fields n v number b l w p s (eqb-true number (length (v .catalog)) e)) (λ e. tt)
 takes-after u i fields n v (StepLine s) p r =
-    either (Leading (After u (suc i))) (eqb (itemRefusal (v .k) (v .catalog) s) 0) _ _
-    (λ e. step-after u i fields n v s p r (eqb-true (itemRefusal (v .k) (v .catalog) s) 0 e)) (λ e. tt)
+    let number = itemRefusal (v .k) (catalogAfter (v .catalog) (v .steps)) s in
+    either (Leading (After u (suc i))) (eqb number 0) _ _ (λ e. step-after u i fields n v s p r (eqb-true number 0 e)) (λ e. tt)
 takes-after u i fields n v (ActLine place act) p t =
+    let number = ifKnown (catalogBefore v place) (actItem act) 0 in
     either (Leading (After u (suc i))) (inTurn v place) _ _
-    (λ e. either (Leading (After u (suc i))) (ltb (actItem act) (length (v .catalog))) _ _
-    (λ k. act-after u i v place act p (t .0) e (ltb-true (actItem act) (length (v .catalog)) k)) (λ k. tt))
+    (λ e. either (Leading (After u (suc i))) (eqb number 0) _ _
+    (λ k. act-after u i v place act p (t .0) e (eqb-true number 0 k)) (λ k. tt))
     (λ e. tt)
 takes-after u i fields n v (Refused r) p s = tt
 
@@ -439,12 +473,10 @@ accepted-ends s v e = let a = accepted 3 s v (omega arith) e in (a .named, a .ta
 pub accepted-few : (s : List ℕ) (v : Sofar) → readingOf s ≡ on v → length (v .steps) + length (v .acts) ≤ length s
 accepted-few s v e = accepted 3 s v (omega arith) e .few
 
--- the table lets a step through that is in range, of a known item not too large, and not behind too many others
+-- the table lets a step through that is in range, not refused by its item, and not behind too many others
 let-through : (k : ℕ) (cat : Catalog) (j : ℕ) (s : Step) → j < 1000000 → StepFits k cat s → refusalAt k cat j false (callOf s) ≡ 0
-unfolding refusalAt stepOf
-let-through k cat j (Read i) l f = rw (lt-leb 1000000 j l, f .ranged) (f .taken)
-let-through k cat j (Write i m) l f = rw (lt-leb 1000000 j l, f .ranged) (f .taken)
-let-through k cat j Flush l f = rw (lt-leb 1000000 j l)
+unfolding refusalAt
+let-through k cat j s l f = rw (lt-leb 1000000 j l, f .ranged, same-step s) (f .taken)
 
 -- and what it says is sound
 pub accepted-sound : (s : List ℕ) (v : Sofar) → length s ≤ 65536 → readingOf s ≡ on v → Sound v
@@ -457,9 +489,16 @@ accepted-sound s v l e =
       rivalLow = p .sizes .rivalLow k;
       rivalHigh = p .sizes .rivalHigh;
       catalog = catalog-ok (v .catalog) (p .catalog);
-      allowed = record { each = λ j b. let-through (v .k) (v .catalog) j (getD (v .steps) j Flush) (omega arith) (p .steps j b) };
+      fresh = p .fresh;
+      allowed = record { each = λ j b. let-through (v .k) (catalogBefore v j) j (getD (v .steps) j Flush) (omega arith) (p .steps j b) };
       each =
           λ j b.
           let f = p .acts j b in
-          record { known = f .known; within = f .within; inOrder = λ i m. p .inOrder i j m b };
+          let a = placedAt (v .acts) j in
+          record {
+            known = known-below (catalogBefore v (a .place)) (actItem (a .act)) (f .known);
+            there = known-stays (catalogBefore v (a .place)) (actItem (a .act)) (f .known);
+            within = f .within;
+            inOrder = λ i m. p .inOrder i j m b;
+          };
     }

@@ -1,15 +1,16 @@
--- How the program holds what has been read: the sizes and counts in a struct, the catalog as bytes in one lent slice, the steps and
--- acts as numbers in two; and what a line leaves of them as it was. Assumes nothing.
+-- How the program holds what has been read: the sizes and counts in a struct, with what is known of the items; the items as bytes in one
+-- lent slice, the steps and acts as numbers in two; and what a line leaves of them as it was. Assumes nothing.
 use lib.{ListN.{length, take, drop}, Dec.{eqb, leb}}
-use Rattle.types.specs.{declared.{Step.Step, Deduction.the-variants.WriteFirst, Refusal.{Refusal, the-variants.Heading}}, Types.{stepKind, stepItem, stepMinutes, actKind, actItem}}
-use Rattle.landlord.specs.Fold.{fold}
-use mathlib.Core.{Bool.{Bool, true, false, cond, not, _&&_}, List.{List, [], _∷_, _++_, map}, Path._≡_}
+use Rattle.types.specs.{declared.{Step.Step, Act.Act, Deduction.the-variants.WriteFirst, Refusal.{Refusal, the-variants.Heading}}, Types.{numbersOf, actKind, actItem}}
+use Rattle.landlord.specs.{Fold.fold, Catalog.catalogAfter, Calls.inRange}
+use mathlib.Core.{Bool.{Bool, true, false, cond, not, _&&_}, List.{List, [], _∷_, map}, Path._≡_}
 use Rattle.season_tables.specs.declared.{Seen.Seen, Scanned.Scanned, Verdict.{Verdict, the-variants.{Taken, Refused}}}
 use Rattle.season_tables.specs.Tables.{Placed, Sofar, Led, on, stop, mayEnd, mustEnd}
-use Prim.Native.Nat.{ℕ, _+_, _*_, _≤_}
+use Prim.Native.Nat.{ℕ, _*_, _≤_}
 use Rattle.catalog_bytes.specs.Inner.{catalogOfFirst}
 use Rattle.line_fields.specs.{declared.Field.Field, Fields.fieldsOf, Inner.heldField}
 use Rattle.season_lines.specs.{declared.Line.{Line, the-variants.{Sizes, Item as ItemLine, Step as StepLine, Act as ActLine, Refused as RefusedLine}}, Inner.Judgeable}
+use Rattle.season_items.specs.Inner.{callNumbers, HasItems, Tells, nonePresent}
 
 -- a blank line
 abbrev pub isBlank : List ℕ → Bool
@@ -23,21 +24,14 @@ lastPlace acts = fold (λ (p : ℕ) (a : Placed). a .place) 0 acts
 abbrev pub isSized : ℕ → Bool
 isSized k = leb 1 k
 
--- the steps as calls, four numbers each: 0, and then kind, item and minutes
-unfoldable pub callNumbers : List Step → List ℕ
-callNumbers [] = []
-callNumbers (s ∷ steps) = 0 ∷ stepKind s ∷ stepItem s ∷ stepMinutes s ∷ callNumbers steps
-
 -- the acts, three numbers each: place, kind and item
 unfoldable pub actNumbers : List Placed → List ℕ
 actNumbers [] = []
 actNumbers (a ∷ acts) = a .place ∷ actKind (a .act) ∷ actItem (a .act) ∷ actNumbers acts
 
--- the list with xs in it from place i on
-unfoldable pub putAt : List ℕ → ℕ → List ℕ → List ℕ
-putAt l i xs = take i l ++ (xs ++ drop (i + length xs) l)
-
--- the struct and the slices hold what has been read
+-- The struct and the slices hold what has been read. Behind the catalog's items the bytes have those that arrived. What is known of the
+-- items is known as all steps have left them, and as the steps before the last act's place have; no act stands behind the last step, and
+-- no step before the end of the catalog.
 pub record Holds (q : Seen) (catalog calls acts : List ℕ) (v : Sofar) : Type 0 where
   pub table : q .table ≡ v .table
   pub upto : q .upto ≡ v .upto
@@ -45,19 +39,39 @@ pub record Holds (q : Seen) (catalog calls acts : List ℕ) (v : Sofar) : Type 0
   pub form : q .form ≡ v .form
   pub k : q .k ≡ v .k
   pub h : q .h ≡ v .h
-  pub few : q .n ≤ 256
+  pub few : q .present .n ≤ 256
   pub items : catalogOfFirst (q .n) catalog ≡ v .catalog
   pub itemCount : q .n ≡ length (v .catalog)
   pub stepCount : q .steps ≡ length (v .steps)
   pub actCount : q .acts ≡ length (v .acts)
   pub last : q .last ≡ lastPlace (v .acts)
-  pub stepsNoted : take (4 * q .steps) calls ≡ callNumbers (v .steps)
+  pub stepsNoted : take (7 * q .steps) calls ≡ callNumbers (v .steps)
   pub actsNoted : take (3 * q .acts) acts ≡ actNumbers (v .acts)
   pub rule : q .rule ≡ v .rule
+  pub present : Tells (catalogAfter (v .catalog) (v .steps)) (q .present)
+  pub earlier : Tells (catalogAfter (v .catalog) (take (q .last) (v .steps))) (q .earlier)
+  pub stored : HasItems (catalogAfter (v .catalog) (v .steps)) catalog
+  pub passed : q .last ≤ q .steps
+  pub unstepped : q .table ≤ 1 → q .steps ≡ 0
 
 -- the struct before the first line of a text whose last table is the one numbered `upto`
 abbrev pub nothingRead : ℕ → Seen
-nothingRead upto = record { table = 0; named = false; k = 0; h = 0; n = 0; steps = 0; acts = 0; last = 0; upto = upto; form = 0; rule = WriteFirst }
+nothingRead upto =
+    record {
+      table = 0;
+      named = false;
+      k = 0;
+      h = 0;
+      n = 0;
+      steps = 0;
+      acts = 0;
+      last = 0;
+      upto = upto;
+      form = 0;
+      rule = WriteFirst;
+      present = nonePresent;
+      earlier = nonePresent;
+    }
 
 -- the verdict at the input's end, on line n
 abbrev pub endVerdict : Seen → ℕ → Verdict
@@ -90,13 +104,14 @@ LeadsBy q led r = (catalog calls acts : List ℕ) → LeadsFrom q catalog calls 
 abbrev pub NotesItem : Seen → List ℕ → (Sofar → Led) → Scanned → List ℕ → Type 0
 NotesItem q catalog led r after = (calls acts : List ℕ) → LeadsFrom q catalog calls acts led r after calls acts
 
--- and only a step is
-abbrev pub NotesStep : Seen → List ℕ → List ℕ → (Sofar → Led) → Scanned → List ℕ → Type 0
-NotesStep q catalog calls led r after = (acts : List ℕ) → LeadsFrom q catalog calls acts led r catalog after acts
+-- and only a step is, with the item that arrives
+abbrev pub NotesStep : Seen → List ℕ → List ℕ → (Sofar → Led) → Scanned → List ℕ → List ℕ → Type 0
+NotesStep q catalog calls led r catalog-after calls-after =
+    (acts : List ℕ) → LeadsFrom q catalog calls acts led r catalog-after calls-after acts
 
 -- and only an act is
-abbrev pub NotesAct : Seen → List ℕ → (Sofar → Led) → Scanned → List ℕ → Type 0
-NotesAct q acts led r after = (catalog calls : List ℕ) → LeadsFrom q catalog calls acts led r catalog calls after
+abbrev pub NotesAct : Seen → List ℕ → List ℕ → (Sofar → Led) → Scanned → List ℕ → Type 0
+NotesAct q calls acts led r after = (catalog : List ℕ) → LeadsFrom q catalog calls acts led r catalog calls after
 
 -- a refusal hands back the struct that was handed in
 abbrev pub KeepsSeen : Seen → Scanned → Type 0
@@ -109,8 +124,8 @@ KeepsPast m q before r after =
 
 -- past what has been noted the slices are as they were
 pub record Untouched (q : Seen) (catalog calls acts catalog-after calls-after acts-after : List ℕ) : Type 0 where
-  pub pastItems : drop (5 * q .n) catalog-after ≡ drop (5 * q .n) catalog
-  pub pastSteps : drop (4 * q .steps) calls-after ≡ drop (4 * q .steps) calls
+  pub pastItems : drop (5 * q .present .n) catalog-after ≡ drop (5 * q .present .n) catalog
+  pub pastSteps : drop (7 * q .steps) calls-after ≡ drop (7 * q .steps) calls
   pub pastActs : drop (3 * q .acts) acts-after ≡ drop (3 * q .acts) acts
 
 -- the struct and the slices are all as they were
@@ -129,28 +144,39 @@ pub record Keeps (q : Seen) (catalog calls acts : List ℕ) (r : Scanned) (catal
 -- one more
 pub record Roomy (catalog calls acts : List ℕ) : Type 0 where
   pub forItems : 1280 ≤ length catalog
-  pub forSteps : 43692 ≤ length calls
+  pub forSteps : 76461 ≤ length calls
   pub forActs : 32769 ≤ length acts
 
 -- and a place is left
 pub record Room (q : Seen) (catalog calls acts : List ℕ) : Type 0 where
-  pub forStep : 4 * q .steps ≤ 43688
+  pub forStep : 7 * q .steps ≤ 76454
   pub forAct : 3 * q .acts ≤ 32766
   pub roomy : Roomy catalog calls acts
 
--- an item's number that has a place
-abbrev pub ItemPlaced : Line → Type 0
-ItemPlaced (Sizes k h r) = Unit {0}
-ItemPlaced (ItemLine i b l w) = i ≤ 255
-ItemPlaced (StepLine s) = Unit {0}
-ItemPlaced (ActLine place act) = Unit {0}
-ItemPlaced (RefusedLine r) = Unit {0}
+-- a line of its table: an item has a number that has a place, and stands before the steps; a step is in range, and stands behind the items
+abbrev pub OfTable : ℕ → Line → Type 0
+OfTable table (Sizes k h r) = Unit {0}
+OfTable table (ItemLine i b l w) = (i ≤ 255) × (table ≤ 1)
+OfTable table (StepLine s) = (inRange (numbersOf s) ≡ true) × (2 ≤ table)
+OfTable table (ActLine place act) = Unit {0}
+OfTable table (RefusedLine r) = Unit {0}
 
 -- a line that a line writer may take
 pub record Takeable (q : Seen) (line : Line) (catalog calls acts : List ℕ) : Type 0 where
   pub room : Room q catalog calls acts
-  pub few : q .n ≤ 256
-  pub numbered : ItemPlaced line
+  pub read : Sofar
+  pub holds : Holds q catalog calls acts read
+  pub ofTable : OfTable (q .table) line
+
+-- a step that may be taken, whatever acts there are
+pub record StepTakeable (q : Seen) (s : Step) (catalog calls : List ℕ) : Type 0 where
+  pub acts : List ℕ
+  pub line : Takeable q (StepLine s) catalog calls acts
+
+-- an act that may be taken, whatever items there are
+pub record ActTakeable (q : Seen) (place : ℕ) (act : Act) (calls acts : List ℕ) : Type 0 where
+  pub catalog : List ℕ
+  pub line : Takeable q (ActLine place act) catalog calls acts
 
 -- what a line asks: the struct and the slices hold what has been read, and its fields were looked at
 pub record Leadable (q : Seen) (l : List ℕ) (fields : List Field) (count : ℕ) (catalog calls acts : List ℕ) : Type 0 where

@@ -2,13 +2,13 @@
 -- says no'. Assumes nothing.
 use mathlib.Core.{Bool.{Bool, true, false, cond, _&&_}, List.{List, [], _∷_, _++_}}
 use Prim.Native.Nat.{ℕ, suc}
-use lib.{ListN.length, Dec.{leb, ltb, eqb}}
-use Rattle.types.specs.declared.{Step.Step, Act.Act, Deduction.{Deduction, the-variants.WriteFirst}, Refusal.{Refusal, the-variants.{Malformed, Heading, OutOfSequence, PlanTooLarge, UnknownItem, ItemTooLarge, ActOutOfOrder}}}
+use lib.{ListN.{length, take}, Dec.{leb, ltb, eqb}}
+use Rattle.types.specs.declared.{Step.Step, Act.Act, Deduction.{Deduction, the-variants.WriteFirst}, Refusal.{Refusal, the-variants.{Malformed, Heading, OutOfSequence, PlanTooLarge, UnknownItem, ItemTooLarge, ActOutOfOrder, NotNextNumber, RetiredItem}}}
 use Rattle.types.specs.Types.{stepItem, actItem}
-use Rattle.landlord.specs.{Fold.fold, Catalog.Catalog, Calls.itemRefusal}
+use Rattle.landlord.specs.{Fold.fold, Catalog.{Catalog, listed, catalogAfter}, Calls.{ifKnown, itemRefusal}}
 use Rattle.season_lines.specs.declared.{Names.{Names, the-variants.{Form, Unknown}}, Line.{Line, the-variants.{Sizes, Item as ItemLine, Step as StepLine, Act as ActLine, Refused}}}
 use Rattle.line_fields.specs.Fields.{split, fieldsOf}
-use Rattle.season_lines.specs.Lines.{formOf, itemFrom, lineIn}
+use Rattle.season_lines.specs.Lines.{formOf, lineIn}
 
 -- an act of the text: the 0-based step before which it stands, and what it does
 pub record Placed : Type 0 where
@@ -16,8 +16,8 @@ pub record Placed : Type 0 where
   pub act : Act
 
 -- What has been read: in which table, the tables counted from 0, and which of them is the last; whether behind the table's line of
--- names, and which of its headings that was, 0 before it; and what the value lines said. Before the line of sizes k is 0, and the rule
--- write-first.
+-- names, and which of its headings that was, 0 before it; and what the value lines said. The catalog is that of its table: what arrives
+-- and leaves is among the steps. Before the line of sizes k is 0, and the rule write-first.
 pub record Sofar : Type 0 where
   pub table : ℕ
   pub upto : ℕ
@@ -55,7 +55,7 @@ withSizes v k h r =
 
 abbrev pub withItem : Sofar → ℕ → ℕ → ℕ → Sofar
 withItem v b l w =
-    record { table = v .table; upto = v .upto; named = v .named; form = v .form; k = v .k; h = v .h; catalog = v .catalog ++ (itemFrom b l w ∷ []); steps = v .steps; acts = v .acts; rule = v .rule }
+    record { table = v .table; upto = v .upto; named = v .named; form = v .form; k = v .k; h = v .h; catalog = v .catalog ++ (listed b l w ∷ []); steps = v .steps; acts = v .acts; rule = v .rule }
 
 abbrev pub withStep : Sofar → Step → Sofar
 withStep v s =
@@ -69,18 +69,30 @@ withAct v place act =
 abbrev pub inTurn : Sofar → ℕ → Bool
 inTurn v place = leb (fold (λ (p : ℕ) (a : Placed). a .place) 0 (v .acts)) place && ltb place (length (v .steps))
 
--- 6 or 7, told on line n of an item; 0 is neither
-abbrev pub unlessRefused : ℕ → ℕ → ℕ → Sofar → Led
-unlessRefused number n item w = cond (eqb number 0) (on w) (stop (cond (eqb number 6) (UnknownItem n item) (ItemTooLarge n item)))
+-- 6, 7, 19 or else 20, told on line n of an item
+abbrev pub itemRefused : ℕ → ℕ → ℕ → Refusal
+itemRefused number n item =
+    cond (eqb number 6) (UnknownItem n item)
+    (cond (eqb number 7) (ItemTooLarge n item)
+    (cond (eqb number 19) (NotNextNumber n item)
+    (RetiredItem n item)))
 
--- A value line that is shaped and in range, on line n: "then for `locker rival` 5, for sails 4, for steps 6, 7, for acts 10, 6".
+-- 0 is no refusal
+abbrev pub unlessRefused : ℕ → ℕ → ℕ → Sofar → Led
+unlessRefused number n item w = cond (eqb number 0) (on w) (stop (itemRefused number n item))
+
+-- A value line that is shaped and in range, on line n: "then for `locker rival` 5, for sails 4, for steps 6, 7, for acts 10, 6", with 19
+-- for an arrival, and "20 when a step or act names a sail whose Q is at an earlier step, straight after 6". A step goes by the catalog as
+-- the steps before it have left it, and an act as the steps before its place have: "To steps before its A, and to acts at or before it, a
+-- sail is a stranger".
 unfoldable pub takes : Sofar → Line → ℕ → Led
 takes v (Sizes k h r) n = cond (leb h k) (on (withSizes v k h r)) (stop (PlanTooLarge n))
 takes v (ItemLine i b l w) n = cond (eqb i (length (v .catalog))) (on (withItem v b l w)) (stop (OutOfSequence n))
-takes v (StepLine s) n = unlessRefused (itemRefusal (v .k) (v .catalog) s) n (stepItem s) (withStep v s)
+takes v (StepLine s) n =
+    unlessRefused (itemRefusal (v .k) (catalogAfter (v .catalog) (v .steps)) s) n (stepItem s) (withStep v s)
 takes v (ActLine place act) n =
     cond (inTurn v place)
-    (cond (ltb (actItem act) (length (v .catalog))) (on (withAct v place act)) (stop (UnknownItem n (actItem act))))
+    (unlessRefused (ifKnown (catalogAfter (v .catalog) (take place (v .steps))) (actItem act) 0) n (actItem act) (withAct v place act))
     (stop (ActOutOfOrder n))
 takes v (Refused r) n = stop r
 

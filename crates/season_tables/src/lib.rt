@@ -1,19 +1,16 @@
 // The text input's tables, read line by line up to the first faulty line.
 ghost use mathlib.Core.Path.{_≡_};
 ghost use mathlib.Core.Bool.{cond};
-ghost use mathlib.Core.List.{[], _∷_};
-ghost use Prim.Native.Nat.{_+_, _*_, _≤_};
+ghost use Prim.Native.Nat.{_*_, _≤_};
 ghost use lib.ListN.{length};
 ghost use lib.Dec.{eqb};
-ghost use Rattle.types.specs.declared.Step.the-variants.{Read};
 ghost use Rattle.types.specs.declared.Refusal.the-variants.{Malformed};
-ghost use Rattle.landlord.specs.Calls.{itemRefusal};
-ghost use Rattle.catalog_bytes.specs.Inner.{catalogOfFirst};
 ghost use Rattle.season_lines.specs.declared.Line.the-variants.{Sizes, Item as ItemLine, Step as StepLine, Act as ActLine};
 ghost use Rattle.season_tables.specs.declared.Verdict.the-variants.{Taken, Refused};
 ghost use Rattle.season_tables.specs.Tables.{on, stop, mayEnd, mustEnd, namedBy, nextTable, takes, leads, atEnd};
-ghost use Rattle.season_tables.specs.Inner.{nothingRead, endVerdict, LeadsFrom, LeadsBy, NotesItem, NotesStep, NotesAct, KeepsSeen, KeepsPast, Keeps, Takeable, Leadable, wantsValues, callNumbers, actNumbers, putAt};
+ghost use Rattle.season_tables.specs.Inner.{nothingRead, endVerdict, LeadsFrom, LeadsBy, NotesItem, NotesStep, NotesAct, KeepsSeen, KeepsPast, Keeps, Takeable, StepTakeable, ActTakeable, Leadable, wantsValues};
 use line_fields::Field;
+use season_items::Present;
 use season_lines::Line;
 use season_lines::Names;
 use types::Act;
@@ -21,9 +18,10 @@ use types::Deduction;
 use types::Refusal;
 use types::Step;
 
-// What has been read: in which table, and whether behind its line of names; the sizes, k 0 before they are read; how many items,
-// steps and acts, which stand in lent slices; the place of the last act; which table is the last, and which of its headings this table
-// has, 0 before its line of names; the rule of deduction, write-first before the sizes are read.
+// What has been read: in which table, and whether behind its line of names; the sizes, k 0 before they are read; how many items of the
+// catalogue, steps and acts, which stand in lent slices; the place of the last act; which table is the last, and which of its headings
+// this table has, 0 before its line of names; the rule of deduction, write-first before the sizes are read; and the items as all steps
+// have left them, and as the steps before the place of the last act have.
 pub struct Seen {
     pub table: u32,
     pub named: bool,
@@ -36,6 +34,8 @@ pub struct Seen {
     pub upto: u32,
     pub form: u32,
     pub rule: Deduction,
+    pub present: Present,
+    pub earlier: Present,
 }
 
 pub enum Verdict {
@@ -100,6 +100,8 @@ pub fn at_start(upto: u32) -> Seen
         upto: upto,
         form: 0,
         rule: Deduction::WriteFirst,
+        present: season_items::none_present(),
+        earlier: season_items::none_present(),
     }
 }
 
@@ -161,6 +163,8 @@ fn take_sizes(seen: Seen, k: u32, h: u32, rule: Deduction, at: u32) -> Scanned
     if k < h {
         return stopped(seen, Refusal::PlanTooLarge { line: at });
     }
+    let present = seen.present;
+    let earlier = seen.earlier;
     taken(Seen {
         table: seen.table,
         named: seen.named,
@@ -173,6 +177,8 @@ fn take_sizes(seen: Seen, k: u32, h: u32, rule: Deduction, at: u32) -> Scanned
         upto: seen.upto,
         form: seen.form,
         rule: rule,
+        present: present,
+        earlier: earlier,
     })
 }
 
@@ -185,9 +191,9 @@ fn take_item(
     at: u32,
     catalog: &mut [u8],
 ) -> Scanned
-    requires { ⌜ (number ≤ 255) × (1280 ≤ length (now catalog)) ⌝ }
+    requires { ⌜ (number ≤ 255) × (seen .table ≤ 1) × (1280 ≤ length (now catalog)) ⌝ }
     ensures { λ r. ⌜ NotesItem seen (now (catalog .entry)) (λ v. takes v (ItemLine number blocks load write) at) r (now (catalog .exit)) ⌝ }
-    ensures { λ r. ⌜ KeepsPast (5 * r .seen .n) seen (now (catalog .entry)) r (now (catalog .exit)) ⌝ }
+    ensures { λ r. ⌜ KeepsPast (5 * r .seen .present .n) seen (now (catalog .entry)) r (now (catalog .exit)) ⌝ }
 {
     let i = number as usize;
     if i != seen.n {
@@ -195,77 +201,37 @@ fn take_item(
     }
     catalog_bytes::put(catalog, i, blocks, load, write);
     let mut q = seen;
-    q.n = i + 1;
+    let n = i + 1;
+    q.n = n;
+    q.present.n = n;
+    q.earlier.n = n;
     taken(q)
 }
 
-// The number that the table of refusals gives the item of a step: 6, 7, or 0.
-fn item_refused(seen: Seen, catalog: &[u8], item: u32) -> u32
-    requires { ⌜ (seen .n ≤ 256) × (1280 ≤ length (now catalog)) ⌝ }
-    ensures { λ r. ⌜ r ≡ itemRefusal (seen .k) (catalogOfFirst (seen .n) (now (catalog .entry))) (Read item) ⌝ }
+fn take_step(seen: Seen, step: Step, at: u32, catalog: &mut [u8], calls: &mut [u32]) -> Scanned
+    requires { ⌜ StepTakeable seen step (now catalog) (now calls) ⌝ }
+    ensures { λ r. ⌜ NotesStep seen (now (catalog .entry)) (now (calls .entry)) (λ v. takes v (StepLine step) at) r (now (catalog .exit)) (now (calls .exit)) ⌝ }
+    ensures { λ r. ⌜ KeepsPast (5 * r .seen .present .n) seen (now (catalog .entry)) r (now (catalog .exit)) ⌝ }
+    ensures { λ r. ⌜ KeepsPast (7 * r .seen .steps) seen (now (calls .entry)) r (now (calls .exit)) ⌝ }
 {
-    let i = item as usize;
-    if seen.n <= i {
-        return 6;
-    }
-    if seen.k < (catalog_bytes::blocks(catalog, i) as u32) {
-        return 7;
-    }
-    0
-}
-
-// And a step: a flush has no item.
-fn step_refused(seen: Seen, catalog: &[u8], step: Step) -> u32
-    requires { ⌜ (seen .n ≤ 256) × (1280 ≤ length (now catalog)) ⌝ }
-    ensures { λ r. ⌜ r ≡ itemRefusal (seen .k) (catalogOfFirst (seen .n) (now (catalog .entry))) step ⌝ }
-{
-    match step {
-        Step::Read { item } => item_refused(seen, catalog, item),
-        Step::Write { item, minutes: _ } => item_refused(seen, catalog, item),
-        Step::Flush => 0,
-    }
-}
-
-// Notes a step as a call's four numbers, from place `i` on.
-fn put_step(calls: &mut [u32], i: usize, step: Step)
-    requires { ⌜ (i + 4 ≤ length (now calls)) × (i ≤ 43688) ⌝ }
-    ensures { λ _. ⌜ now (calls .exit) ≡ putAt (now (calls .entry)) i (callNumbers (step ∷ [])) ⌝ }
-{
-    calls[i] = 0;
-    calls[i + 1] = step.kind();
-    calls[i + 2] = step.item();
-    calls[i + 3] = step.minutes();
-}
-
-fn take_step(seen: Seen, step: Step, at: u32, catalog: &[u8], calls: &mut [u32]) -> Scanned
-    requires { ⌜ (seen .n ≤ 256) × (1280 ≤ length (now catalog)) × (4 * seen .steps ≤ 43688) × (43692 ≤ length (now calls)) ⌝ }
-    ensures { λ r. ⌜ NotesStep seen (now (catalog .entry)) (now (calls .entry)) (λ v. takes v (StepLine step) at) r (now (calls .exit)) ⌝ }
-    ensures { λ r. ⌜ KeepsPast (4 * r .seen .steps) seen (now (calls .entry)) r (now (calls .exit)) ⌝ }
-{
-    let number = step_refused(seen, catalog, step);
+    let number = season_items::step_refused(seen.k, seen.present, catalog, step);
     if number != 0 {
         return stopped(seen, types::refusal_of(number, at, step.item()));
     }
     let steps = seen.steps;
-    put_step(calls, 4 * steps, step);
+    let numbers = step.numbers();
+    season_items::put_arrival(catalog, numbers);
+    season_items::put_step(calls, 7 * steps, step);
+    let present = season_items::advanced(seen.present, numbers);
     let mut q = seen;
     q.steps = steps + 1;
+    q.present = present;
     taken(q)
 }
 
-// Notes an act's three numbers, from place `i` on.
-fn put_act(acts: &mut [u32], i: usize, place: u32, act: Act)
-    requires { ⌜ (i + 3 ≤ length (now acts)) × (i ≤ 32766) ⌝ }
-    ensures { λ _. ⌜ now (acts .exit) ≡ putAt (now (acts .entry)) i (actNumbers (record { place = place; act = act } ∷ [])) ⌝ }
-{
-    acts[i] = place;
-    acts[i + 1] = act.kind();
-    acts[i + 2] = act.item();
-}
-
-fn take_act(seen: Seen, place: u32, act: Act, at: u32, acts: &mut [u32]) -> Scanned
-    requires { ⌜ (3 * seen .acts ≤ 32766) × (32769 ≤ length (now acts)) ⌝ }
-    ensures { λ r. ⌜ NotesAct seen (now (acts .entry)) (λ v. takes v (ActLine place act) at) r (now (acts .exit)) ⌝ }
+fn take_act(seen: Seen, place: u32, act: Act, at: u32, calls: &[u32], acts: &mut [u32]) -> Scanned
+    requires { ⌜ ActTakeable seen place act (now calls) (now acts) ⌝ }
+    ensures { λ r. ⌜ NotesAct seen (now (calls .entry)) (now (acts .entry)) (λ v. takes v (ActLine place act) at) r (now (acts .exit)) ⌝ }
     ensures { λ r. ⌜ KeepsPast (3 * r .seen .acts) seen (now (acts .entry)) r (now (acts .exit)) ⌝ }
 {
     let item = act.item();
@@ -273,20 +239,17 @@ fn take_act(seen: Seen, place: u32, act: Act, at: u32, acts: &mut [u32]) -> Scan
     if place < seen.last || seen.steps <= place as usize {
         return stopped(seen, Refusal::ActOutOfOrder { line: at });
     }
-    if seen.n <= item as usize {
-        return stopped(
-            seen,
-            Refusal::UnknownItem {
-                line: at,
-                item: item,
-            },
-        );
+    let earlier = season_items::caught_up(seen.earlier, calls, seen.last as usize, place as usize);
+    let number = season_items::known(earlier, item);
+    if number != 0 {
+        return stopped(seen, types::refusal_of(number, at, item));
     }
     let count = seen.acts;
-    put_act(acts, 3 * count, place, act);
+    season_items::put_act(acts, 3 * count, place, act);
     let mut q = seen;
     q.acts = count + 1;
     q.last = place;
+    q.earlier = earlier;
     taken(q)
 }
 
@@ -312,7 +275,7 @@ fn take_line(
             write,
         } => take_item(seen, number, blocks, load, write, at, catalog),
         Line::Step(step) => take_step(seen, step, at, catalog, calls),
-        Line::Act { place, act } => take_act(seen, place, act, at, acts),
+        Line::Act { place, act } => take_act(seen, place, act, at, calls, acts),
         Line::Refused(r) => stopped(seen, r),
     }
 }
@@ -321,7 +284,7 @@ fn take_line(
 pub fn lead(
     seen: Seen,
     text: &[u8],
-    fields: [Field; 4],
+    fields: [Field; 6],
     count: usize,
     at: u32,
     catalog: &mut [u8],

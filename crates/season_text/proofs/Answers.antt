@@ -1,9 +1,8 @@
 -- Laws of `answer` and `output`: what each way through them says of the text. Assumes nothing.
 use mathlib.Core.Path.{_≡_, refl, sym, ap, subst, _∙_}
 use mathlib.Core.List.{List}
-use Prim.Native.Nat.{ℕ, _*_, _≤_, _<_}
-use lib.ListN.{length, take}
-use lib.Seq.{length-take-le, take-take}
+use Prim.Native.Nat.{ℕ, _≤_, _<_}
+use lib.ListN.{length}
 use native.Mathlib.Omega.{arith}
 use borrow.Author.Tests.{le-leb, lt-leb}
 use Rattle.types.specs.declared.Refusal.{Refusal}
@@ -12,8 +11,8 @@ use Rattle.types.specs.Types.{Told, told}
 use Rattle.types.proofs.Refusals.{refused-some}
 use Rattle.landlord.specs.Figures.{Standing}
 use Rattle.landlord.specs.Plan.{faultRefusal, Priced, costs, fault}
+use Rattle.landlord.proofs.Ranges.{catalog-facts}
 use Rattle.cache_state.specs.Cache.{view}
-use Rattle.catalog_bytes.specs.Catalogs.{catalogIn}
 use Rattle.layout.specs.Layout.{cacheOf}
 use Rattle.report_lines.specs.declared.Rival.the-variants.{Against}
 use Rattle.report.specs.declared.Written.{Written}
@@ -38,16 +37,17 @@ use Rattle.season_tables.proofs.Sound.{accepted-sound}
 use Rattle.report.proofs.Longest.{no-longer}
 use Rattle.season_text.proofs.Season.{season-capacity}
 
--- an accepted text in the slices, of which the first has the bytes of its items alone
+-- an accepted text in the slices
 pub record Reads (s : List ℕ) (x : Seen) (xs calls acts : List ℕ) : Type 0 where
   pub text : Sofar
   pub reads : readingOf s ≡ on text
   pub holds : Holds x xs calls acts text
   pub sound : Sound text
-  pub items : length xs ≡ 5 * x .n
+  pub fewItems : x .n ≤ 256
   pub fewSteps : x .steps ≤ 10922
   pub fewActs : x .acts ≤ 10922
-  pub forSteps : length calls ≡ 43692
+  pub forItems : length xs ≡ 1280
+  pub forSteps : length calls ≡ 76461
   pub forActs : length acts ≡ 32769
 
 -- what a verdict holds, told apart by its case
@@ -62,32 +62,6 @@ isStopped (Stopped x) = Unit {0}
 not-taken : (x : Refusal) → Stopped x ≡ Taken → ⊥
 not-taken x e = subst isStopped e tt
 
--- what has been read is held in the bytes of the items read
-items-hold : (x : Seen) (catalog calls acts : List ℕ) (v : Sofar) → Holds x catalog calls acts v → Holds x (take (5 * x .n) catalog) calls acts v
-items-hold x catalog calls acts v h =
-    record {
-      table = h .table;
-      upto = h .upto;
-      named = h .named;
-      form = h .form;
-      k = h .k;
-      h = h .h;
-      few = h .few;
-      items = ap catalogIn (take-take (5 * x .n) (5 * x .n) catalog (omega arith)) ∙ h .items;
-      itemCount = h .itemCount;
-      stepCount = h .stepCount;
-      actCount = h .actCount;
-      last = h .last;
-      stepsNoted = h .stepsNoted;
-      actsNoted = h .actsNoted;
-      rule = h .rule;
-    }
-
--- no more items are read than a catalog may have
-pub items-few : (led : Led) (r : Scanned) (catalog calls acts : List ℕ) → Leads led r catalog calls acts → r .verdict ≡ Taken → r .seen .n ≤ 256
-items-few (on v) r catalog calls acts l e = l .1 .few
-items-few (stop x) r catalog calls acts l e = absurd (not-taken x (sym l ∙ e))
-
 -- the scan took every line
 pub taken-reads :
     (s : List ℕ) (r : Scanned) (catalog calls acts : List ℕ) →
@@ -95,22 +69,24 @@ pub taken-reads :
     Leads (readingOf s) r catalog calls acts →
     Few (readingOf s) r →
     length catalog ≡ 1280 →
-    length calls ≡ 43692 →
+    length calls ≡ 76461 →
     length acts ≡ 32769 →
     r .verdict ≡ Taken →
-    Reads s (r .seen) (take (5 * r .seen .n) catalog) calls acts
+    Reads s (r .seen) catalog calls acts
 taken-reads s r catalog calls acts short leads few forItems forSteps forActs e = go (readingOf s) refl leads few
   where
-    go : (led : Led) → readingOf s ≡ led → Leads led r catalog calls acts → Few led r → Reads s (r .seen) (take (5 * r .seen .n) catalog) calls acts
+    go : (led : Led) → readingOf s ≡ led → Leads led r catalog calls acts → Few led r → Reads s (r .seen) catalog calls acts
     go (on v) is l f =
+        let sound = accepted-sound s v short is in
         record {
           text = v;
           reads = is;
-          holds = items-hold (r .seen) catalog calls acts v (l .1);
-          sound = accepted-sound s v short is;
-          items = length-take-le (5 * r .seen .n) catalog (omega (arith, l .1 .few, forItems));
+          holds = l .1;
+          sound = sound;
+          fewItems = omega (arith, l .1 .itemCount, catalog-facts (v .catalog) (sound .catalog) .few);
           fewSteps = f .0;
           fewActs = f .1;
+          forItems = forItems;
           forSteps = forSteps;
           forActs = forActs;
         }
@@ -122,9 +98,9 @@ priceable r =
       text = r .text;
       holds = r .holds;
       sound = r .sound;
-      items = r .items;
       fewSteps = r .fewSteps;
       fewActs = r .fewActs;
+      forItems = r .forItems;
       forSteps = r .forSteps;
       forActs = r .forActs;
     }
@@ -137,8 +113,9 @@ reportable {acts = acts} r small =
       holds = r .holds;
       sound = r .sound;
       few = r .fewSteps;
+      fewItems = r .fewItems;
       places = r .forSteps;
-      items = r .items;
+      items = r .forItems;
       small = small;
     }
 

@@ -7,12 +7,12 @@ use Prim.Native.Nat.{ℕ, zero, suc, _≤_, _<_}
 use native.Mathlib.Omega.{arith}
 use native.Mathlib.Decide.{ℕ-discrete}
 use lib.ListN.{length, getD, take, length-append, length-map}
-use lib.Seq.{length-take-le, getD-take, getD-at}
+use lib.Seq.{length-take-le, take-take, getD-take, getD-at}
 use Rattle.types.specs.declared.Deduction.{Deduction}
 use Rattle.types.specs.declared.Step.{Step}
 use Rattle.types.specs.declared.Step.the-variants.{Flush}
 use Rattle.landlord.specs.Fold.{fold}
-use Rattle.landlord.specs.Catalog.{Catalog}
+use Rattle.landlord.specs.Catalog.{Catalog, catalogAfter}
 use Rattle.types.specs.Types.{deductionNumber}
 use Rattle.landlord.specs.Slot.{splitOf}
 use Rattle.landlord.specs.Figures.{ran, totalCost, leftSide, rightSide}
@@ -53,8 +53,10 @@ calls-before (s ∷ steps) (suc i) l = ap (λ (z : List Call). callOf s ∷ z) (
 allowed-first : (k : ℕ) (cat : Catalog) (steps : List Step) (i : ℕ) → i ≤ length steps → AllowedLog k cat steps → AllowedLog k cat (take i steps)
 allowed-first k cat steps i l a = record { each = λ j b. at j (omega (arith, length-take-le i steps l)) }
   where
-    at : (j : ℕ) → j < i → refusalAt k cat j false (callOf (getD (take i steps) j Flush)) ≡ 0
-    at j b = rw (getD-take i steps j Flush b) (a .each j (omega arith))
+    at : (j : ℕ) → j < i → refusalAt k (catalogAfter cat (take j (take i steps))) j false (callOf (getD (take i steps) j Flush)) ≡ 0
+    at j b =
+        (λ z. refusalAt k (catalogAfter cat (take-take j i steps (omega arith) z)) j false (callOf (getD-take i steps j Flush b z)))
+        ∙ a .each j (omega arith)
 
 module _ (v : Sofar) (ok : Sound v) where
   -- the log before call i: the steps before it, not closed
@@ -81,21 +83,24 @@ module _ (v : Sofar) (ok : Sound v) where
       let k = v .k in
       let cat = v .catalog in
       let steps = v .steps in
-      closes-stands k cat (length steps) (ran (splitOf (v .rule)) k cat steps)
+      closes-stands k (catalogAfter cat steps) (length steps) (ran (splitOf (v .rule)) k cat steps)
       (ran-stands (splitOf (v .rule)) k cat steps (deduction-ok (v .rule)) (ok .catalog) (all-served k cat steps (ok .allowed))) .capacity
 
   -- "The steps of an accepted text, with its closing, are such a list."
   pub calls-accepted : AllAccepted v
   calls-accepted =
       record {
-        opening = opening-accepts (v .k) (deductionNumber (v .rule)) (v .catalog) (ok .capacity) (ok .catalog) (deduction-number (v .rule) .1);
+        opening = opening-accepts (v .k) (deductionNumber (v .rule)) (v .catalog) (ok .capacity) (ok .catalog) (ok .fresh) (deduction-number (v .rule) .1);
         each = λ i l. at i (ℕ-discrete i (length (v .steps))) (omega (arith, length-append (map callOf (v .steps)) (close ∷ []), length-map (v .steps) callOf));
       }
     where
-      asked : (i : ℕ) (call : Call) → i ≤ length (v .steps) → refusal (v .k) (v .catalog) (take i (callsIn v)) call ≡ refusalAt (v .k) (v .catalog) i false call
+      asked :
+          (i : ℕ) (call : Call) →
+          i ≤ length (v .steps) →
+          refusal (v .k) (v .catalog) (take i (callsIn v)) call ≡ refusalAt (v .k) (catalogAfter (v .catalog) (take i (v .steps))) i false call
       asked i call l =
           ap (λ (z : Log). refusalIn (v .k) (v .catalog) z call) (log-before i l)
-          ∙ ap (λ (t : ℕ). refusalAt (v .k) (v .catalog) t false call) (length-take-le i (v .steps) l)
+          ∙ ap (λ (t : ℕ). refusalAt (v .k) (catalogAfter (v .catalog) (take i (v .steps))) t false call) (length-take-le i (v .steps) l)
 
       at : (i : ℕ) → Dec (i ≡ length (v .steps)) → i ≤ length (v .steps) → refusal (v .k) (v .catalog) (take i (callsIn v)) (getD (callsIn v) i close) ≡ 0
       at i (yes e) l = unfold refusalAt in rw (asked i, getD-at (map callOf (v .steps)) close [] close i (length-map (v .steps) callOf ∙ (omega arith)))

@@ -5,32 +5,34 @@ use mathlib.Core.Bool.{Bool, true, false, cond, _&&_, false≢true}
 use mathlib.Core.List.{List, [], _∷_, _++_, append-nil}
 use Prim.Native.Nat.{ℕ, zero, suc, _+_, _-_, _≤_}
 use native.Mathlib.Omega.{arith}
-use lib.ListN.{length, length-append}
-use lib.Dec.{leb, ltb, eqb}
+use lib.ListN.{length, take, length-append}
+use lib.Dec.{leb, eqb}
 use borrow.Author.Tests.{eqb-true, eqb-false, ne-eqb, le-leb}
 use Rattle.types.specs.declared.Step.{Step}
-use Rattle.types.specs.declared.Refusal.the-variants.{Malformed}
-use Rattle.types.specs.Types.{actItem}
-use Rattle.landlord.specs.Calls.{itemRefusal}
+use Rattle.types.specs.declared.Refusal.{Refusal}
+use Rattle.types.specs.declared.Refusal.the-variants.{Malformed, OutOfRange}
+use Rattle.types.specs.Types.{numbersFrom, stepOf, actItem}
+use Rattle.landlord.specs.Catalog.{catalogAfter}
+use Rattle.landlord.specs.Calls.{ifKnown, inRange, itemRefusal}
 use Rattle.landlord.proofs.Folds.{either}
 use Rattle.decimal.specs.Decimal.{textOf, sameText}
 use Rattle.season_lines.specs.declared.Names.{Names}
 use Rattle.season_lines.specs.declared.Names.the-variants.{Form, Unknown}
 use Rattle.season_lines.specs.declared.Line.{Line}
 use Rattle.season_lines.specs.declared.Line.the-variants.{Sizes, Item as ItemLine, Step as StepLine, Act as ActLine, Refused}
-use Rattle.line_fields.specs.Fields.{onto, split, allFields, fieldsOf, noneEmpty}
-use Rattle.season_lines.specs.Lines.{headings, namesIn, formAmong, formOf, valuesIn, lineIn}
+use Rattle.line_fields.specs.declared.Field.{Field}
+use Rattle.line_fields.specs.Fields.{onto, split, allFields, fieldsOf, fieldAt, isLetter, valueIn, noneEmpty}
+use Rattle.season_lines.specs.Lines.{headings, namesIn, formAmong, formOf, shapeThenRange, kindUnder, valueField, stepShape, stepLine, valuesIn, lineIn}
 use Rattle.line_fields.proofs.Laws.{and-parts}
-use Rattle.season_lines.proofs.Laws.{names-2}
 use Rattle.line_fields.proofs.Pieces.{no-bytes}
 use Rattle.season_lines.proofs.Pieces.{empty-malformed, Says, line-says}
 use Rattle.season_tables.specs.Tables.{Sofar, Led, on, atStart, nowNamed, nextTable, withStep, inTurn, takes, mayEnd, mustEnd, namedBy, leads, atEnd, readFrom, readingOf}
 use Rattle.season_tables.specs.Inner.{isBlank}
 use Rattle.season_tables.proofs.Sound.{Leading, goes-on}
-use Rattle.season_log.specs.Log.{Logged, steps, fault, ahead, logText, follows, readLines, headed, readTable, readLog, stepsInRange}
-use Rattle.season_log.proofs.Lines.{lacks, split-first, step-written, step-reads}
+use Rattle.season_log.specs.Log.{Logged, steps, fault, ahead, isHeading, logText, follows, readLines, headed, readTable, readLog, stepsInRange}
+use Rattle.season_log.proofs.Lines.{lacks, split-first}
 use Rattle.season_log.proofs.OneText.{onward, onward-none, onward-more, lines-first, table-first, one-text}
-use Rattle.season_text.specs.ThirdTable.{tableText, behindBlank, thirdTable, TwoReaders}
+use Rattle.season_text.specs.ThirdTable.{tableText, behindBlank, thirdTable, formNumber, firstForm, headingIn, TwoReaders}
 
 -- ## The lines of a table and its text
 
@@ -110,13 +112,20 @@ abbrev tableAlone : List (List ℕ) → Logged
 tableAlone ls = readTable (split 10 (tableText ls))
 
 -- what it will say to the lines ls that are left, besides the steps that were read: in which table they begin, and whether behind its
--- names; inside the third table its own next line is line n
-abbrev due : ℕ → Bool → ℕ → List (List ℕ) → Logged
-due zero named n ls = tableAlone (behindBlank (behindBlank ls))
-due (suc zero) named n ls = tableAlone (behindBlank ls)
-due (suc (suc zero)) false n ls = tableAlone ls
-due (suc (suc zero)) true n ls = readLines n (split 10 (tableText ls))
-due (suc (suc (suc t))) named n ls = steps []
+-- names; the log's heading, once it is read; and inside the third table its own next line is line n
+abbrev due : ℕ → Bool → ℕ → ℕ → List (List ℕ) → Logged
+due zero named form n ls = tableAlone (behindBlank (behindBlank ls))
+due (suc zero) named form n ls = tableAlone (behindBlank ls)
+due (suc (suc zero)) false form n ls = tableAlone ls
+due (suc (suc zero)) true form n ls = readLines form n (split 10 (tableText ls))
+due (suc (suc (suc t))) named form n ls = steps form []
+
+-- the log's heading behind the names of a table: heading f of the third, and no other is one of the log's
+abbrev headingBehind : ℕ → ℕ → ℕ → ℕ
+headingBehind zero form f = form
+headingBehind (suc zero) form f = form
+headingBehind (suc (suc zero)) form f = f
+headingBehind (suc (suc (suc t))) form f = form
 
 -- no heading is empty
 blank-unnamed : (table : ℕ) → formOf table [] ≡ Unknown
@@ -128,7 +137,7 @@ blank-unnamed table = go (eqb table 0) (eqb table 1) (eqb table 2)
         formAmong 0
         (cond p (textOf "locker rival" ∷ textOf "locker rival rule" ∷ [])
         (cond q (textOf "sail blocks load write" ∷ [])
-        (cond r (textOf "step sail minutes" ∷ [])
+        (cond r (textOf "step sail minutes" ∷ textOf "step sail minutes blocks load write" ∷ [])
         (textOf "at act sail" ∷ []))))
         [] ≡ Unknown
     go true q r = refl
@@ -149,57 +158,82 @@ unfolding split allFields
 blank-refused table form [] n z = empty-malformed table form (fieldsOf []) n 0 (omega arith) (rw no-bytes)
 blank-refused table form (x ∷ l) n z = absurd (omega arith)
 
--- a step line is one under any heading of the table and on any line
-step-anywhere : (l : List ℕ) (form m n : ℕ) (s : Step) → lineIn 2 form (fieldsOf l) m ≡ StepLine s → lineIn 2 0 (fieldsOf l) n ≡ StepLine s
-unfolding lineIn valuesIn
-step-anywhere l form m n s e =
-    let fs = fieldsOf l in
-    let names : namesIn 2 0 ≡ namesIn 2 form = names-2 2 0 refl ∙ sym (names-2 2 form refl) in
-    let first : lineIn 2 0 fs m ≡ lineIn 2 form fs m =
-    ap (λ (k : ℕ). cond (eqb (length fs) k && noneEmpty fs) (valuesIn 2 form fs m) (Refused (Malformed m))) names in
-    let w = step-written l m s (first ∙ e) in
-    step-reads l n s (w .1) (w .0)
+abbrev isStep : Line → Type 0
+isStep (StepLine s) = Unit {0}
+isStep (Sizes k h r) = ⊥
+isStep (ItemLine i b l w) = ⊥
+isStep (ActLine place act) = ⊥
+isStep (Refused r) = ⊥
+
+not-step : (r : Refusal) (s : Step) → Refused r ≡ StepLine s → ⊥
+not-step r s e = subst isStep (sym e) tt
+
+-- a line of the third table goes by its number only where it is refused
+on-any-line :
+    (counted shape range : Bool) (x : Line) (m n : ℕ) (s : Step) →
+    cond counted (shapeThenRange shape range x m) (Refused (Malformed m)) ≡ StepLine s →
+    cond counted (shapeThenRange shape range x n) (Refused (Malformed n)) ≡ StepLine s
+on-any-line true true true x m n s e = e
+on-any-line true true false x m n s e = absurd (not-step (OutOfRange m) s e)
+on-any-line true false range x m n s e = absurd (not-step (Malformed m) s e)
+on-any-line false shape range x m n s e = absurd (not-step (Malformed m) s e)
+
+step-anywhere : (form : ℕ) (fs : List Field) (m n : ℕ) (s : Step) → lineIn 2 form fs m ≡ StepLine s → lineIn 2 form fs n ≡ StepLine s
+unfolding lineIn valuesIn stepLine
+step-anywhere form fs m n s e =
+    let kind = fieldAt fs 0 in
+    let item = fieldAt fs 1 in
+    let minutes = fieldAt fs 2 in
+    let blocks = valueField form (fieldAt fs 3) in
+    let load = valueField form (fieldAt fs 4) in
+    let write = valueField form (fieldAt fs 5) in
+    let letter = kindUnder form (valueIn kind) in
+    let numbers = numbersFrom letter (valueIn item) (valueIn minutes) (valueIn blocks) (valueIn load) (valueIn write) in
+    on-any-line (eqb (length fs) (namesIn 2 form) && noneEmpty fs) (isLetter kind && stepShape letter item minutes blocks load write)
+    (inRange numbers) (StepLine (stepOf numbers)) m n s e
 
 -- what each line that leads on leaves to be said
 module _ (n : ℕ) (l : List ℕ) (rest : List (List ℕ)) where
-  due-names : (table f : ℕ) → formOf table l ≡ Form f → lacks 10 l ≡ true → due table true 2 rest ≡ due table false n (l ∷ rest)
-  due-names zero f e h = ap (λ (ls : List (List ℕ)). tableAlone (behindBlank ls)) (sym (behind-more l rest (names-some 0 l f e)))
-  due-names (suc zero) f e h = ap tableAlone (sym (behind-more l rest (names-some 1 l f e)))
-  due-names (suc (suc zero)) f e h =
+  due-names :
+      (table form f : ℕ) → formOf table l ≡ Form f → lacks 10 l ≡ true → due table true (headingBehind table form f) 2 rest ≡ due table false form n (l ∷ rest)
+  due-names zero form f e h = ap (λ (ls : List (List ℕ)). tableAlone (behindBlank ls)) (sym (behind-more l rest (names-some 0 l f e)))
+  due-names (suc zero) form f e h = ap tableAlone (sym (behind-more l rest (names-some 1 l f e)))
+  due-names (suc (suc zero)) form f e h =
       sym
       (ap readTable (text-first l rest h (names-some 2 l f e))
       ∙ table-first l (tableText rest)
-      ∙ ap (λ (x : Names). headed x (readLines 2 (split 10 (tableText rest)))) e)
-  due-names (suc (suc (suc t))) f e h = refl
+      ∙ ap (λ (x : Names). headed x (split 10 (tableText rest))) e)
+  due-names (suc (suc (suc t))) form f e h = refl
 
-  due-blank : (table : ℕ) → length l ≡ 0 → due (suc table) false n rest ≡ due table true n (l ∷ rest)
-  unfolding split readLines
-  due-blank zero e = ap (λ (ls : List (List ℕ)). tableAlone (behindBlank ls)) (sym (behind-first l rest e))
-  due-blank (suc zero) e = ap tableAlone (sym (behind-first l rest e))
-  due-blank (suc (suc zero)) e = ap (λ (t : List ℕ). readLines n (split 10 t)) (sym (text-ended l rest e))
-  due-blank (suc (suc (suc t))) e = refl
+  module _ (form : ℕ) where
+    due-blank : (table : ℕ) → length l ≡ 0 → due (suc table) false form n rest ≡ due table true form n (l ∷ rest)
+    unfolding split readLines
+    due-blank zero e = ap (λ (ls : List (List ℕ)). tableAlone (behindBlank ls)) (sym (behind-first l rest e))
+    due-blank (suc zero) e = ap tableAlone (sym (behind-first l rest e))
+    due-blank (suc (suc zero)) e = ap (λ (t : List ℕ). readLines form n (split 10 t)) (sym (text-ended l rest e))
+    due-blank (suc (suc (suc t))) e = refl
 
-  due-value : (table : ℕ) → (table ≡ 2 → ⊥) → (length l ≡ 0 → ⊥) → due table true n rest ≡ due table true n (l ∷ rest)
-  due-value zero t some = ap (λ (ls : List (List ℕ)). tableAlone (behindBlank ls)) (sym (behind-more l rest some))
-  due-value (suc zero) t some = ap tableAlone (sym (behind-more l rest some))
-  due-value (suc (suc zero)) t some = absurd (t refl)
-  due-value (suc (suc (suc k))) t some = refl
+    due-value : (table : ℕ) → (table ≡ 2 → ⊥) → (length l ≡ 0 → ⊥) → due table true form n rest ≡ due table true form n (l ∷ rest)
+    due-value zero t some = ap (λ (ls : List (List ℕ)). tableAlone (behindBlank ls)) (sym (behind-more l rest some))
+    due-value (suc zero) t some = ap tableAlone (sym (behind-more l rest some))
+    due-value (suc (suc zero)) t some = absurd (t refl)
+    due-value (suc (suc (suc k))) t some = refl
 
-  due-step :
-      (table form m : ℕ) (s : Step) →
-      table ≡ 2 →
-      lineIn table form (fieldsOf l) m ≡ StepLine s →
-      lacks 10 l ≡ true →
-      (length l ≡ 0 → ⊥) →
-      ahead s (due table true (suc n) rest) ≡ due table true n (l ∷ rest)
-  due-step zero form m s t e h some = absurd (omega arith)
-  due-step (suc zero) form m s t e h some = absurd (omega arith)
-  due-step (suc (suc zero)) form m s t e h some =
-      sym
-      (ap (readLines n) (text-first l rest h some)
-      ∙ lines-first n l (tableText rest)
-      ∙ ap (λ (x : Line). follows x (readLines (suc n) (split 10 (tableText rest)))) (step-anywhere l form m n s e))
-  due-step (suc (suc (suc k))) form m s t e h some = absurd (omega arith)
+    due-step :
+        (table m : ℕ) (s : Step) →
+        table ≡ 2 →
+        lineIn table form (fieldsOf l) m ≡ StepLine s →
+        lacks 10 l ≡ true →
+        (length l ≡ 0 → ⊥) →
+        ahead s (due table true form (suc n) rest) ≡ due table true form n (l ∷ rest)
+    due-step zero m s t e h some = absurd (omega arith)
+    due-step (suc zero) m s t e h some = absurd (omega arith)
+    due-step (suc (suc zero)) m s t e h some =
+        sym
+        (ap (readLines form n) (text-first l rest h some)
+        ∙ lines-first form n l (tableText rest)
+        ∙ ap (λ (x : Line). follows x (readLines form (suc n) (split 10 (tableText rest)))) (step-anywhere form (fieldsOf l) m n s e))
+    due-step (suc (suc (suc k))) m s t e h some = absurd (omega arith)
 
 -- ## Each line that leads on keeps it
 
@@ -207,12 +241,14 @@ module _ (n : ℕ) (l : List ℕ) (rest : List (List ℕ)) where
 record Kept (x : Logged) (ls : List (List ℕ)) (v : Sofar) : Type 0 where
   last : v .upto ≡ 3
   line : ℕ
-  says : onward (v .steps) (due (v .table) (v .named) line ls) ≡ x
+  form : ℕ
+  its : v .table ≡ 2 → v .named ≡ true → form ≡ v .form
+  says : onward (v .steps) (due (v .table) (v .named) form line ls) ≡ x
 
 module _ (x : Logged) (l : List ℕ) (rest : List (List ℕ)) (h : lacks 10 l ≡ true) (v : Sofar) (q : Kept x (l ∷ rest) v) where
   -- which is said here, behind the table's names or before them
-  here : (named : Bool) → v .named ≡ named → onward (v .steps) (due (v .table) named (q .line) (l ∷ rest)) ≡ x
-  here named b = ap (λ (z : Bool). onward (v .steps) (due (v .table) z (q .line) (l ∷ rest))) (sym b) ∙ q .says
+  here : (named : Bool) → v .named ≡ named → onward (v .steps) (due (v .table) named (q .form) (q .line) (l ∷ rest)) ≡ x
+  here named b = ap (λ (z : Bool). onward (v .steps) (due (v .table) z (q .form) (q .line) (l ∷ rest))) (sym b) ∙ q .says
 
   -- the line of names, or the blank line
   names-kept : (f : ℕ) → v .named ≡ false → formOf (v .table) l ≡ Form f → Kept x rest (nowNamed v f)
@@ -220,7 +256,9 @@ module _ (x : Logged) (l : List ℕ) (rest : List (List ℕ)) (h : lacks 10 l �
       record {
         last = q .last;
         line = 2;
-        says = ap (onward (v .steps)) (due-names (q .line) l rest (v .table) f e h) ∙ here false b;
+        form = headingBehind (v .table) (q .form) f;
+        its = λ t z. ap (λ (table : ℕ). headingBehind table (q .form) f) t;
+        says = ap (onward (v .steps)) (due-names (q .line) l rest (v .table) (q .form) f e h) ∙ here false b;
       }
 
   blank-kept : v .named ≡ true → length l ≡ 0 → Kept x rest (nextTable v)
@@ -228,28 +266,35 @@ module _ (x : Logged) (l : List ℕ) (rest : List (List ℕ)) (h : lacks 10 l �
       record {
         last = q .last;
         line = q .line;
-        says = ap (onward (v .steps)) (due-blank (q .line) l rest (v .table) e) ∙ here true b;
+        form = q .form;
+        its = λ t z. absurd (false≢true z);
+        says = ap (onward (v .steps)) (due-blank (q .line) l rest (q .form) (v .table) e) ∙ here true b;
       }
 
   -- a value line, which is not blank
   module _ (b : v .named ≡ true) (some : length l ≡ 0 → ⊥) where
     -- of another table
-    other : (v .table ≡ 2 → ⊥) → onward (v .steps) (due (v .table) (v .named) (q .line) rest) ≡ x
+    other : (v .table ≡ 2 → ⊥) → onward (v .steps) (due (v .table) (v .named) (q .form) (q .line) rest) ≡ x
     other t =
-        ap (λ (z : Bool). onward (v .steps) (due (v .table) z (q .line) rest)) b
-        ∙ ap (onward (v .steps)) (due-value (q .line) l rest (v .table) t some)
+        ap (λ (z : Bool). onward (v .steps) (due (v .table) z (q .form) (q .line) rest)) b
+        ∙ ap (onward (v .steps)) (due-value (q .line) l rest (q .form) (v .table) t some)
         ∙ here true b
 
     -- or of the third
     step-kept : (n : ℕ) (s : Step) → v .table ≡ 2 → lineIn (v .table) (v .form) (fieldsOf l) n ≡ StepLine s → Kept x rest (withStep v s)
     step-kept n s t e =
+        let judged : lineIn (v .table) (q .form) (fieldsOf l) n ≡ StepLine s =
+        ap (λ (form : ℕ). lineIn (v .table) form (fieldsOf l) n) (q .its t b) ∙ e
+        in
         record {
           last = q .last;
           line = suc (q .line);
+          form = q .form;
+          its = q .its;
           says =
-              onward-more (v .steps) s (due (v .table) (v .named) (suc (q .line)) rest)
-              ∙ ap (λ (z : Bool). onward (v .steps) (ahead s (due (v .table) z (suc (q .line)) rest))) b
-              ∙ ap (onward (v .steps)) (due-step (q .line) l rest (v .table) (v .form) n s t e h some)
+              onward-more (v .steps) s (due (v .table) (v .named) (q .form) (suc (q .line)) rest)
+              ∙ ap (λ (z : Bool). onward (v .steps) (ahead s (due (v .table) z (q .form) (suc (q .line)) rest))) b
+              ∙ ap (onward (v .steps)) (due-step (q .line) l rest (q .form) (v .table) n s t judged h some)
               ∙ here true b;
         }
 
@@ -261,16 +306,16 @@ module _ (x : Logged) (l : List ℕ) (rest : List (List ℕ)) (h : lacks 10 l �
     unfolding takes
     takes-kept n (Sizes k j r) e s =
         either (Leading (Kept x rest)) (leb j k) _ _
-        (λ _. record { last = q .last; line = q .line; says = other (λ t. omega (arith, s .0)) }) (λ _. tt)
+        (λ _. record { last = q .last; line = q .line; form = q .form; its = q .its; says = other (λ t. omega (arith, s .0)) }) (λ _. tt)
     takes-kept n (ItemLine i c d w) e s =
         either (Leading (Kept x rest)) (eqb i (length (v .catalog))) _ _
-        (λ _. record { last = q .last; line = q .line; says = other (λ t. omega (arith, s .0)) }) (λ _. tt)
+        (λ _. record { last = q .last; line = q .line; form = q .form; its = q .its; says = other (λ t. omega (arith, s .0)) }) (λ _. tt)
     takes-kept n (StepLine z) e s =
-        either (Leading (Kept x rest)) (eqb (itemRefusal (v .k) (v .catalog) z) 0) _ _ (λ _. step-kept n z (s .0) e) (λ _. tt)
+        either (Leading (Kept x rest)) (eqb (itemRefusal (v .k) (catalogAfter (v .catalog) (v .steps)) z) 0) _ _ (λ _. step-kept n z (s .0) e) (λ _. tt)
     takes-kept n (ActLine place act) e s =
         either (Leading (Kept x rest)) (inTurn v place) _ _
-        (λ _. either (Leading (Kept x rest)) (ltb (actItem act) (length (v .catalog))) _ _
-        (λ _. record { last = q .last; line = q .line; says = other (λ t. omega (arith, s .0)) }) (λ _. tt))
+        (λ _. either (Leading (Kept x rest)) (eqb (ifKnown (catalogAfter (v .catalog) (take place (v .steps))) (actItem act) 0) 0) _ _
+        (λ _. record { last = q .last; line = q .line; form = q .form; its = q .its; says = other (λ t. omega (arith, s .0)) }) (λ _. tt))
         (λ _. tt)
     takes-kept n (Refused r) e s = tt
 
@@ -309,9 +354,10 @@ module _ (x : Logged) (l : List ℕ) (rest : List (List ℕ)) (h : lacks 10 l �
 
 -- ## The whole text
 
--- where all is read, the log's reader says the steps
-abbrev Agrees : Logged → Sofar → Type 0
-Agrees x v = x ≡ steps (v .steps)
+-- where all is read, the log's reader says the steps, under a heading
+record Agrees (x : Logged) (v : Sofar) : Type 0 where
+  form : ℕ
+  says : x ≡ steps form (v .steps)
 
 end-agrees : (x : Logged) (n : ℕ) (ls : List (List ℕ)) (v : Sofar) → Kept x ls v → Leading (Agrees x) (atEnd v n)
 end-agrees x n ls v q =
@@ -321,7 +367,13 @@ end-agrees x n ls v q =
     done : eqb (v .table) (v .upto) ≡ true → Agrees x v
     done e =
         let t : v .table ≡ 3 = eqb-true (v .table) (v .upto) e ∙ q .last in
-        sym (q .says) ∙ ap (λ (table : ℕ). onward (v .steps) (due table (v .named) (q .line) ls)) t ∙ ap steps (append-nil (v .steps))
+        record {
+          form = q .form;
+          says =
+              sym (q .says)
+              ∙ ap (λ (table : ℕ). onward (v .steps) (due table (v .named) (q .form) (q .line) ls)) t
+              ∙ ap (steps (q .form)) (append-nil (v .steps));
+        }
 
 read-agrees : (x : Logged) (n : ℕ) (ls : List (List ℕ)) (v : Sofar) → AllLack ls → Kept x ls v → Leading (Agrees x) (readFrom n ls v)
 unfolding readFrom AllLack
@@ -336,26 +388,70 @@ short-log : (t : List ℕ) → length t ≤ 65536 → readTable (split 10 t) ≡
 unfolding readLog
 short-log t few = rw (le-leb (length t) 65536 few)
 
+-- ## The heading that the log's reader tells is that of the table's first line
+
+-- what is read, if anything is, is read under this heading
+abbrev Under : ℕ → Logged → Type 0
+Under form (steps f ss) = f ≡ form
+Under form (fault r) = Unit {0}
+
+ahead-under : (form : ℕ) (s : Step) (x : Logged) → Under form x → Under form (ahead s x)
+ahead-under form s (steps f ss) u = u
+ahead-under form s (fault r) u = tt
+
+follows-under : (form : ℕ) (y : Line) (x : Logged) → Under form x → Under form (follows y x)
+follows-under form (StepLine s) x u = ahead-under form s x u
+follows-under form (Sizes k h r) x u = tt
+follows-under form (ItemLine i b l w) x u = tt
+follows-under form (ActLine place act) x u = tt
+follows-under form (Refused r) x u = tt
+
+lines-under : (form n : ℕ) (ls : List (List ℕ)) → Under form (readLines form n ls)
+unfolding readLines
+lines-under form n [] = refl
+lines-under form n (l ∷ []) = either (Under form) (isBlank l) _ _ (λ e. refl) (λ e. tt)
+lines-under form n (l ∷ m ∷ rest) =
+    follows-under form (lineIn 2 form (fieldsOf l) n) (readLines form (suc n) (m ∷ rest)) (lines-under form (suc n) (m ∷ rest))
+
+headed-under : (names : Names) (ls : List (List ℕ)) → Under (formNumber names) (headed names ls)
+headed-under (Form form) ls = lines-under form 2 ls
+headed-under Unknown ls = tt
+
+table-under : (ls : List (List ℕ)) → Under (firstForm ls) (readTable ls)
+unfolding readTable
+table-under [] = tt
+table-under (l ∷ []) = tt
+table-under (l ∷ m ∷ rest) = headed-under (formOf 2 l) (m ∷ rest)
+
+log-under : (t : List ℕ) → Under (headingIn t) (readLog t)
+unfolding readLog
+log-under t = either (Under (headingIn t)) (leb (length t) 65536) _ _ (λ e. table-under (split 10 t)) (λ e. tt)
+
 pub two-readers : TwoReaders
 two-readers s v few e =
     let x = readLog (thirdTable s) in
     let third = tableAlone (behindBlank (behindBlank (split 10 s))) in
     let start : onward [] third ≡ x = onward-none third ∙ short-log (thirdTable s) (omega (arith, third-few s)) in
+    let agrees : Agrees x v =
     subst (Leading (Agrees x)) e
-    (read-agrees x 1 (split 10 s) (atStart 3) (lines-lack s) (record { last = refl; line = 0; says = start }))
+    (read-agrees x 1 (split 10 s) (atStart 3) (lines-lack s)
+    (record { last = refl; line = 0; form = 0; its = λ t z. absurd (false≢true z); says = start }))
+    in
+    agrees .says ∙ ap (λ (form : ℕ). steps form (v .steps)) (subst (Under (headingIn (thirdTable s))) (agrees .says) (log-under (thirdTable s)))
 
--- an accepted text whose third table is what the writer makes of some steps has those steps
+-- an accepted text whose third table is what the writer makes of some steps under a heading has those steps
 pub written-is-read :
-    (s : List ℕ) (v : Sofar) (ss : List Step) →
+    (s : List ℕ) (v : Sofar) (form : ℕ) (ss : List Step) →
     length s ≤ 65536 →
     readingOf s ≡ on v →
-    stepsInRange ss ≡ true →
-    thirdTable s ≡ logText ss →
+    isHeading form ≡ true →
+    stepsInRange form ss ≡ true →
+    thirdTable s ≡ logText form ss →
     v .steps ≡ ss
-written-is-read s v ss few e r t =
-    let short : length (logText ss) ≤ 65536 = subst (λ (z : List ℕ). length z ≤ 65536) t (omega (arith, third-few s)) in
-    ap stepsIn (sym (two-readers s v few e) ∙ ap readLog t ∙ one-text .writtenReads ss r short)
+written-is-read s v form ss few e head r t =
+    let short : length (logText form ss) ≤ 65536 = subst (λ (z : List ℕ). length z ≤ 65536) t (omega (arith, third-few s)) in
+    ap stepsIn (sym (two-readers s v few e) ∙ ap readLog t ∙ one-text .writtenReads form ss head r short)
   where
     stepsIn : Logged → List Step
-    stepsIn (steps xs) = xs
+    stepsIn (steps f xs) = xs
     stepsIn (fault f) = []

@@ -1,6 +1,6 @@
 -- What the inner functions ask and give. Assumes nothing.
 use mathlib.Core.{Path._≡_, List.List}
-use Prim.Native.Nat.{ℕ, _*_, _≤_}
+use Prim.Native.Nat.{ℕ, _≤_}
 use lib.ListN.{length}
 use Rattle.cache_state.specs.Cache.{view}
 use Rattle.types.specs.Types.{refusalLine}
@@ -25,11 +25,12 @@ pub record ClosedAt (v : Standing) (b : List ℕ) : Type 0 where
   pub valid : ValidBytes b
   pub stands : view (cacheOf b) ≡ v
 
--- the slice has a place for the closing behind the steps; the catalog's bytes are those of the text's items alone
+-- the slices have the catalogue's items, and a place for the closing behind the steps
 pub record Closable (x : Seen) (xs calls state : List ℕ) : Type 0 where
   pub few : x .steps ≤ 10922
-  pub places : length calls ≡ 43692
-  pub items : length xs ≡ 5 * x .n
+  pub fewItems : x .n ≤ 256
+  pub places : length calls ≡ 76461
+  pub items : length xs ≡ 1280
   pub room : length state ≡ stateBytes
 
 -- whatever accepted text the slices hold, these are the bytes of its closed season
@@ -43,8 +44,9 @@ pub record Reportable (x : Seen) (xs calls : List ℕ) (cost : ℕ) : Type 0 whe
   pub holds : Holds x xs calls acts text
   pub sound : Sound text
   pub few : x .steps ≤ 10922
-  pub places : length calls ≡ 43692
-  pub items : length xs ≡ 5 * x .n
+  pub fewItems : x .n ≤ 256
+  pub places : length calls ≡ 76461
+  pub items : length xs ≡ 1280
   pub small : cost ≤ 1000000000000
 
 -- and this is its report, on the page

@@ -1,9 +1,10 @@
--- The third table of an input, taken alone: the log's reader finds in it the steps that the reader of four tables found. Paper 02, 'Two'.
--- Assumes nothing.
+-- The third table of an input, taken alone: the log's reader finds in it its heading and the steps that the reader of four tables found.
+-- Paper 02, 'Two' and 'Six'. Assumes nothing.
 use mathlib.Core.{Path._≡_, Bool.cond, List.{List, [], _∷_, _++_}}
 use Prim.Native.Nat.{ℕ, _≤_}
 use lib.{ListN.length, Dec.eqb}
 use Rattle.line_fields.specs.Fields.{split}
+use Rattle.season_lines.specs.{declared.Names.{Names, the-variants.{Form, Unknown}}, Lines.formOf}
 use Rattle.season_tables.specs.Tables.{Sofar, on, readingOf}
 use Rattle.season_log.specs.Log.{steps, readLog}
 
@@ -21,6 +22,24 @@ behindBlank (l ∷ rest) = cond (eqb (length l) 0) rest (behindBlank rest)
 abbrev pub thirdTable : List ℕ → List ℕ
 thirdTable s = tableText (behindBlank (behindBlank (split 10 s)))
 
+-- the number of a heading; a line that is none has 0
+abbrev pub formNumber : Names → ℕ
+formNumber (Form f) = f
+formNumber Unknown = 0
+
+-- which heading of the log stands on the first line
+abbrev pub firstForm : List (List ℕ) → ℕ
+firstForm [] = 0
+firstForm (l ∷ rest) = formNumber (formOf 2 l)
+
+-- and so of a table alone
+abbrev pub headingIn : List ℕ → ℕ
+headingIn s = firstForm (split 10 s)
+
 -- the two readers agree (proofs/ThirdTable.antt)
 abbrev pub TwoReaders : Type 0
-TwoReaders = (s : List ℕ) (v : Sofar) → length s ≤ 65536 → readingOf s ≡ on v → readLog (thirdTable s) ≡ steps (v .steps)
+TwoReaders =
+    (s : List ℕ) (v : Sofar) →
+    length s ≤ 65536 →
+    readingOf s ≡ on v →
+    readLog (thirdTable s) ≡ steps (headingIn (thirdTable s)) (v .steps)

@@ -10,14 +10,15 @@ use season_tables::Seen;
 use season_tables::Verdict;
 use types::Refusal;
 
-// Runs the steps of an accepted text and the closing, as calls on a new state.
+// Runs the steps of an accepted text and the closing, as calls on a new state. The opening takes the items of the text's catalogue; behind
+// them in `catalog` stand those that arrive.
 fn close_season(seen: Seen, catalog: &[u8], calls: &mut [u32], state: &mut [u8])
     requires { ⌜ Closable seen (now catalog) (now calls) (now state) ⌝ }
     ensures { λ _. ⌜ Closes seen (now (catalog .entry)) (now (calls .entry)) (now (state .exit)) ⌝ }
 {
     let steps = seen.steps;
-    let end = 4 * steps;
-    // The closing stands behind the steps, as a call's four numbers of which the first is not 0.
+    let end = 7 * steps;
+    // The closing stands behind the steps, as a call's seven numbers of which the first is not 0.
     calls[end] = 1;
     // Every call is accepted, so no answer is kept.
     let mut answers = [0u32; 1];
@@ -26,8 +27,8 @@ fn close_season(seen: Seen, catalog: &[u8], calls: &mut [u32], state: &mut [u8])
         state,
         seen.k,
         rule.number(),
-        catalog,
-        &calls[..end + 4],
+        &catalog[..5 * seen.n],
+        &calls[..end + 7],
         &mut answers,
     );
 }
@@ -61,20 +62,17 @@ pub fn answer(text: &[u8], page: &mut [u8]) -> Written
         return Written::Refused(Refusal::InputTooLong { line: 0 });
     }
     let mut catalog = [0u8; catalog_bytes::MOST_BYTES];
-    let mut calls = [0u32; 43692];
+    let mut calls = [0u32; 76461];
     let mut acts = [0u32; 32769];
     let scanned = season_scan::scan(text, 3, &mut catalog, &mut calls, &mut acts);
     let verdict = scanned.verdict;
     let seen = scanned.seen;
     match verdict {
         Verdict::Refused(r) => Written::Refused(r),
-        Verdict::Taken => {
-            let bytes = 5 * seen.n;
-            match season_plan::price_plan(seen, &catalog[..bytes], &calls, &acts) {
-                Price::Refused(r) => Written::Refused(r),
-                Price::Cost(cost) => report_season(seen, &catalog[..bytes], cost, &mut calls, page),
-            }
-        }
+        Verdict::Taken => match season_plan::price_plan(seen, &catalog, &calls, &acts) {
+            Price::Refused(r) => Written::Refused(r),
+            Price::Cost(cost) => report_season(seen, &catalog, cost, &mut calls, page),
+        },
     }
 }
 

@@ -5,13 +5,13 @@ use Prim.Native.Nat.{ℕ, _≤_}
 use native.Mathlib.Omega.{arith}
 use lib.ListN.{getD}
 use Rattle.types.specs.declared.Refusal.{Refusal}
-use Rattle.types.specs.declared.Refusal.the-variants.{Malformed, Heading, OutOfRange, OutOfSequence, PlanTooLarge, UnknownItem, ItemTooLarge, LogFull, Closed, ActOutOfOrder, NotHeld, AlreadyHeld, OverCapacity, RequestNotHeld, ShortBuffer, InputTooLong, InvalidState, UnknownRule}
+use Rattle.types.specs.declared.Refusal.the-variants.{Malformed, Heading, OutOfRange, OutOfSequence, PlanTooLarge, UnknownItem, ItemTooLarge, LogFull, Closed, ActOutOfOrder, NotHeld, AlreadyHeld, OverCapacity, RequestNotHeld, ShortBuffer, InputTooLong, InvalidState, UnknownRule, NotNextNumber, RetiredItem}
 use Rattle.types.specs.Types.{Told, told, refusalNumber}
 
 -- the refusals on a line and about an item, in the order of the table
 abbrev refusals : ℕ → ℕ → List Refusal
 refusals l i =
-    Malformed l ∷ Heading l ∷ OutOfRange l ∷ OutOfSequence l ∷ PlanTooLarge l ∷ UnknownItem l i ∷ ItemTooLarge l i ∷ LogFull l ∷ Closed l ∷ ActOutOfOrder l ∷ NotHeld l i ∷ AlreadyHeld l i ∷ OverCapacity l ∷ RequestNotHeld l i ∷ ShortBuffer l ∷ InputTooLong l ∷ InvalidState l ∷ UnknownRule l ∷ []
+    Malformed l ∷ Heading l ∷ OutOfRange l ∷ OutOfSequence l ∷ PlanTooLarge l ∷ UnknownItem l i ∷ ItemTooLarge l i ∷ LogFull l ∷ Closed l ∷ ActOutOfOrder l ∷ NotHeld l i ∷ AlreadyHeld l i ∷ OverCapacity l ∷ RequestNotHeld l i ∷ ShortBuffer l ∷ InputTooLong l ∷ InvalidState l ∷ UnknownRule l ∷ NotNextNumber l i ∷ RetiredItem l i ∷ []
 
 -- the refusal that tells so much; nothing has number 0
 abbrev refusalFrom : Told → Refusal
@@ -36,13 +36,15 @@ refusal-back (ShortBuffer l) = refl
 refusal-back (InputTooLong l) = refl
 refusal-back (InvalidState l) = refl
 refusal-back (UnknownRule l) = refl
+refusal-back (NotNextNumber l i) = refl
+refusal-back (RetiredItem l i) = refl
 
 -- two refusals that tell the same are the same
 pub refusal-one : (r z : Refusal) → told r ≡ told z → r ≡ z
 refusal-one r z e = sym (refusal-back r) ∙ ap refusalFrom e ∙ refusal-back z
 
 -- a refusal's number is one of the table's
-pub refusal-range : (r : Refusal) → (1 ≤ refusalNumber r) × (refusalNumber r ≤ 18)
+pub refusal-range : (r : Refusal) → (1 ≤ refusalNumber r) × (refusalNumber r ≤ 20)
 refusal-range (Malformed l) = omega arith
 refusal-range (Heading l) = omega arith
 refusal-range (OutOfRange l) = omega arith
@@ -61,6 +63,8 @@ refusal-range (ShortBuffer l) = omega arith
 refusal-range (InputTooLong l) = omega arith
 refusal-range (InvalidState l) = omega arith
 refusal-range (UnknownRule l) = omega arith
+refusal-range (NotNextNumber l i) = omega arith
+refusal-range (RetiredItem l i) = omega arith
 
 -- so it is not 0
 pub refused-some : (r : Refusal) → refusalNumber r ≡ 0 → ⊥

@@ -3,25 +3,33 @@
 use mathlib.Core.Bool.{Bool, cond, _||_}
 use Prim.Native.Nat.{ℕ}
 use lib.Dec.{leb, eqb}
-use Rattle.types.specs.declared.{Step.{Step, the-variants.{Read, Write, Flush}}, Act.{Act, the-variants.{Evict, Fetch}}, Deduction.{Deduction, the-variants.{WriteFirst, LoadFirst}}, Refusal.{Refusal, the-variants.{Malformed, Heading, OutOfRange, OutOfSequence, PlanTooLarge, UnknownItem, ItemTooLarge, LogFull, Closed, ActOutOfOrder, NotHeld, AlreadyHeld, OverCapacity, RequestNotHeld, ShortBuffer, InputTooLong, InvalidState, UnknownRule}}}
+use Rattle.types.specs.declared.{Step.{Step, the-variants.{Read, Write, Flush, Arrive, Retire}}, Numbers.Numbers, Act.{Act, the-variants.{Evict, Fetch}}, Deduction.{Deduction, the-variants.{WriteFirst, LoadFirst}}, Refusal.{Refusal, the-variants.{Malformed, Heading, OutOfRange, OutOfSequence, PlanTooLarge, UnknownItem, ItemTooLarge, LogFull, Closed, ActOutOfOrder, NotHeld, AlreadyHeld, OverCapacity, RequestNotHeld, ShortBuffer, InputTooLong, InvalidState, UnknownRule, NotNextNumber, RetiredItem}}}
 
--- a step's letter, as its code: R is 82, W is 87, L is 76
-abbrev pub stepKind : Step → ℕ
-stepKind (Read i) = 82
-stepKind (Write i m) = 87
-stepKind Flush = 76
+-- a step's numbers: the code of its letter, the item, the minutes, the blocks, the load cost and the write cost
+abbrev pub numbersFrom : ℕ → ℕ → ℕ → ℕ → ℕ → ℕ → Numbers
+numbersFrom kind item minutes blocks load write =
+    record { kind = kind; item = item; minutes = minutes; blocks = blocks; load = load; write = write }
+
+-- A step as a call names it: R is 82, W is 87, L is 76, A is 65, Q is 81. What a step lacks is 0.
+abbrev pub numbersOf : Step → Numbers
+numbersOf (Read i) = numbersFrom 82 i 0 0 0 0
+numbersOf (Write i m) = numbersFrom 87 i m 0 0 0
+numbersOf Flush = numbersFrom 76 0 0 0 0 0
+numbersOf (Arrive i b l w) = numbersFrom 65 i 0 b l w
+numbersOf (Retire i) = numbersFrom 81 i 0 0 0 0
 
 -- the item that a step names; a flush names none, and it is not looked at
 abbrev pub stepItem : Step → ℕ
-stepItem (Read i) = i
-stepItem (Write i m) = i
-stepItem Flush = 0
+stepItem s = numbersOf s .item
 
--- the minutes of a write; other steps have none, and they are not looked at
-abbrev pub stepMinutes : Step → ℕ
-stepMinutes (Read i) = 0
-stepMinutes (Write i m) = m
-stepMinutes Flush = 0
+-- the step that numbers of a known kind mean; values that a step lacks are not looked at
+unfoldable pub stepOf : Numbers → Step
+stepOf n =
+    cond (eqb (n .kind) 82) (Read (n .item))
+    (cond (eqb (n .kind) 87) (Write (n .item) (n .minutes))
+    (cond (eqb (n .kind) 65) (Arrive (n .item) (n .blocks) (n .load) (n .write))
+    (cond (eqb (n .kind) 81) (Retire (n .item))
+    Flush)))
 
 -- an act's letter, as its code: D is 68, F is 70
 abbrev pub actKind : Act → ℕ
@@ -89,6 +97,8 @@ told (ShortBuffer l) = telling 15 l 0
 told (InputTooLong l) = telling 16 l 0
 told (InvalidState l) = telling 17 l 0
 told (UnknownRule l) = telling 18 l 0
+told (NotNextNumber l i) = telling 19 l i
+told (RetiredItem l i) = telling 20 l i
 
 abbrev pub refusalNumber : Refusal → ℕ
 refusalNumber r = told r .number

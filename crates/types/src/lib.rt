@@ -1,15 +1,41 @@
-// The types that every part of the library shares: a step of the log, an act of a rival plan, a rule of deduction, and a refusal.
+// The types that every part of the library shares: a step of the log, a step's numbers, an act of a rival plan, a rule of deduction, and a refusal.
 // specs/Types.antt gives the papers' number, letter and values for each of their cases.
 ghost use mathlib.Core.Path.{_≡_};
 ghost use Prim.Native.Nat.{_≤_};
-ghost use Rattle.types.specs.Types.{stepKind, stepItem, stepMinutes, actKind, actItem, deductionNumber, deductionOf, told, telling, refusalNumber, refusalLine, refusalItem};
+ghost use Rattle.types.specs.Types.{numbersFrom, numbersOf, stepOf, stepItem, actKind, actItem, deductionNumber, deductionOf, told, telling, refusalNumber, refusalLine, refusalItem};
 
 // A step of the log. Its numbers are as given: nothing here says that they are in range.
 pub enum Step {
-    Read { item: u32 },
-    Write { item: u32, minutes: u32 },
+    Read {
+        item: u32,
+    },
+    Write {
+        item: u32,
+        minutes: u32,
+    },
     // paper 01: a landing
     Flush,
+    // paper 02: A, adds the next sail number with its three values
+    Arrive {
+        item: u32,
+        blocks: u32,
+        load: u32,
+        write: u32,
+    },
+    // paper 02: Q, retires a sail
+    Retire {
+        item: u32,
+    },
+}
+
+// A step as a call names it: the code of its letter, and then its values. What a step lacks is not looked at, and is 0 where it is told.
+pub struct Numbers {
+    pub kind: u32,
+    pub item: u32,
+    pub minutes: u32,
+    pub blocks: u32,
+    pub load: u32,
+    pub write: u32,
 }
 
 // An act of a plan, done before a step is served.
@@ -67,20 +93,41 @@ pub enum Refusal {
     InvalidState { line: u32 },
     // 18, odd rule
     UnknownRule { line: u32 },
+    // 19, misnumbered
+    NotNextNumber { line: u32, item: u32 },
+    // 20, gone
+    RetiredItem { line: u32, item: u32 },
+}
+
+fn six_numbers(kind: u32, item: u32, minutes: u32, blocks: u32, load: u32, write: u32) -> Numbers
+    ensures { λ r. ⌜ r ≡ numbersFrom kind item minutes blocks load write ⌝ }
+{
+    Numbers {
+        kind: kind,
+        item: item,
+        minutes: minutes,
+        blocks: blocks,
+        load: load,
+        write: write,
+    }
 }
 
 impl Step {
-    // The letter that stands for the step in the log, as its code: R, W or L.
-    pub fn kind(self) -> u32
-        ensures { λ r. ⌜ r ≡ stepKind self ⌝ }
+    // The step's numbers. Its letter stands for it in the log, as its code: R, W, L, A or Q.
+    pub fn numbers(self) -> Numbers
+        ensures { λ r. ⌜ r ≡ numbersOf self ⌝ }
     {
         match self {
-            Step::Read { item: _ } => 82,
-            Step::Write {
-                item: _,
-                minutes: _,
-            } => 87,
-            Step::Flush => 76,
+            Step::Read { item } => six_numbers(82, item, 0, 0, 0, 0),
+            Step::Write { item, minutes } => six_numbers(87, item, minutes, 0, 0, 0),
+            Step::Flush => six_numbers(76, 0, 0, 0, 0, 0),
+            Step::Arrive {
+                item,
+                blocks,
+                load,
+                write,
+            } => six_numbers(65, item, 0, blocks, load, write),
+            Step::Retire { item } => six_numbers(81, item, 0, 0, 0, 0),
         }
     }
 }
@@ -94,19 +141,42 @@ impl Step {
             Step::Read { item } => item,
             Step::Write { item, minutes: _ } => item,
             Step::Flush => 0,
+            Step::Arrive {
+                item,
+                blocks: _,
+                load: _,
+                write: _,
+            } => item,
+            Step::Retire { item } => item,
         }
     }
+}
 
-    // The minutes of a write; 0 for other steps, which have none.
-    pub fn minutes(self) -> u32
-        ensures { λ r. ⌜ r ≡ stepMinutes self ⌝ }
-    {
-        match self {
-            Step::Read { item: _ } => 0,
-            Step::Write { item: _, minutes } => minutes,
-            Step::Flush => 0,
-        }
+// The step of a known kind; every other kind is a flush here: whoever takes numbers asks first whether the kind is one.
+pub fn step_of(n: Numbers) -> Step
+    ensures { λ r. ⌜ r ≡ stepOf n ⌝ }
+{
+    if n.kind == 82 {
+        return Step::Read { item: n.item };
     }
+    if n.kind == 87 {
+        return Step::Write {
+            item: n.item,
+            minutes: n.minutes,
+        };
+    }
+    if n.kind == 65 {
+        return Step::Arrive {
+            item: n.item,
+            blocks: n.blocks,
+            load: n.load,
+            write: n.write,
+        };
+    }
+    if n.kind == 81 {
+        return Step::Retire { item: n.item };
+    }
+    Step::Flush
 }
 
 impl Act {
@@ -179,6 +249,8 @@ impl Refusal {
             Refusal::InputTooLong { line: _ } => 16,
             Refusal::InvalidState { line: _ } => 17,
             Refusal::UnknownRule { line: _ } => 18,
+            Refusal::NotNextNumber { line: _, item: _ } => 19,
+            Refusal::RetiredItem { line: _, item: _ } => 20,
         }
     }
 }
@@ -207,6 +279,8 @@ impl Refusal {
             Refusal::InputTooLong { line } => line,
             Refusal::InvalidState { line } => line,
             Refusal::UnknownRule { line } => line,
+            Refusal::NotNextNumber { line, item: _ } => line,
+            Refusal::RetiredItem { line, item: _ } => line,
         }
     }
 }
@@ -235,13 +309,15 @@ impl Refusal {
             Refusal::InputTooLong { line: _ } => 0,
             Refusal::InvalidState { line: _ } => 0,
             Refusal::UnknownRule { line: _ } => 0,
+            Refusal::NotNextNumber { line: _, item } => item,
+            Refusal::RetiredItem { line: _, item } => item,
         }
     }
 }
 
 // The refusal of a number of the table, told on a line of the text. The item is looked at where the number names one.
 pub fn refusal_of(number: u32, line: u32, item: u32) -> Refusal
-    requires { ⌜ (1 ≤ number) × (number ≤ 18) ⌝ }
+    requires { ⌜ (1 ≤ number) × (number ≤ 20) ⌝ }
     ensures { λ r. ⌜ told r ≡ telling number line item ⌝ }
 {
     match number {
@@ -277,6 +353,14 @@ pub fn refusal_of(number: u32, line: u32, item: u32) -> Refusal
         15 => Refusal::ShortBuffer { line: line },
         16 => Refusal::InputTooLong { line: line },
         17 => Refusal::InvalidState { line: line },
-        _ => Refusal::UnknownRule { line: line },
+        18 => Refusal::UnknownRule { line: line },
+        19 => Refusal::NotNextNumber {
+            line: line,
+            item: item,
+        },
+        _ => Refusal::RetiredItem {
+            line: line,
+            item: item,
+        },
     }
 }

@@ -29,17 +29,19 @@ pub record EntryOk (blocks load write : ℕ) (held dirty closed : Bool) (loadCre
 pub record CountsOk (k : ℕ) (t : Totals) : Type 0 where
   pub low : 1 ≤ k
   pub high : k ≤ 4096
-  pub steps : t .hits + t .loads + t .flushes ≡ t .steps
+  pub steps : t .hits + t .loads + t .flushes + t .arrivals + t .retirements ≡ t .steps
   pub taken : t .steps ≤ 1000000
   pub dirtyEvictions : t .dirtyEvictions ≤ t .evictions
   pub dirtyWritten : t .dirtyEvictions ≤ t .writebacks
   pub loadCost : t .loadCost ≤ 65535 * t .loads
   pub writeCost : t .writeCost ≤ 65535 * t .writebacks
 
--- what is asked of the sums over the items: the blocks held, the items held, the marks set, the loads and the writebacks
-pub record SumsOk (k blocks evictions held loads writebacks marked steps itemLoads itemWritebacks : ℕ) : Type 0 where
+-- what is asked of the sums over the items: the blocks held, the items held, those marked dirty, the loads, the writebacks and those
+-- that have left
+pub record SumsOk (k blocks evictions held loads writebacks marked steps itemLoads itemWritebacks retirements left : ℕ) : Type 0 where
   pub room : blocks ≤ k
   pub kept : evictions + held ≡ loads
   pub due : writebacks + marked ≤ steps
   pub loadsAdd : itemLoads ≡ loads
   pub writebacksAdd : itemWritebacks ≡ writebacks
+  pub gone : retirements ≡ left

@@ -81,8 +81,10 @@ pub fn counts_ok(
     writebacks: u32,
     writecost: u64,
     flushes: u32,
+    arrivals: u32,
+    retirements: u32,
 ) -> bool
-    ensures { λ r. ⌜ Decided (CountsOk k (totalsOf steps hits loads loadcost evictions dirtyevictions writebacks writecost flushes)) r ⌝ }
+    ensures { λ r. ⌜ Decided (CountsOk k (totalsOf steps hits loads loadcost evictions dirtyevictions writebacks writecost flushes arrivals retirements)) r ⌝ }
 {
     if k < 1 {
         return false;
@@ -93,7 +95,9 @@ pub fn counts_ok(
     if steps > 1000000 {
         return false;
     }
-    if (hits as u64) + (loads as u64) + (flushes as u64) != (steps as u64) {
+    if (hits as u64) + (loads as u64) + (flushes as u64) + (arrivals as u64) + (retirements as u64)
+        != (steps as u64)
+    {
         return false;
     }
     if dirtyevictions > evictions {
@@ -120,8 +124,10 @@ pub fn balanced(
     steps: u32,
     itemloads: u64,
     itemwritebacks: u64,
+    retirements: u32,
+    left: u32,
 ) -> bool
-    ensures { λ r. ⌜ Decided (SumsOk k blocks evictions held loads writebacks marked steps itemloads itemwritebacks) r ⌝ }
+    ensures { λ r. ⌜ Decided (SumsOk k blocks evictions held loads writebacks marked steps itemloads itemwritebacks retirements left) r ⌝ }
 {
     if blocks > k {
         return false;
@@ -135,5 +141,8 @@ pub fn balanced(
     if itemloads != (loads as u64) {
         return false;
     }
-    itemwritebacks == (writebacks as u64)
+    if itemwritebacks != (writebacks as u64) {
+        return false;
+    }
+    retirements == left
 }

@@ -61,7 +61,7 @@ fn misses(r: &mut Random, catalog: &[Item], k: u32, sails: usize) -> Vec<Step> {
     steps
 }
 
-/// A plan of `h` blocks for steps without flushes. Before the first step it fetches what is asked for first, as far as there is
+/// A plan of `h` blocks for reads and writes. Before the first step it fetches what is asked for first, as far as there is
 /// room. Later it makes room by evicting what is asked for last.
 fn plan(catalog: &[Item], h: u32, steps: &[Step]) -> Vec<(usize, Act)> {
     const NEVER: usize = usize::MAX;
@@ -69,7 +69,7 @@ fn plan(catalog: &[Item], h: u32, steps: &[Step]) -> Vec<(usize, Act)> {
         .iter()
         .map(|&step| match step {
             Step::Read { item } | Step::Write { item, .. } => item,
-            Step::Flush => unreachable!("there are no flushes"),
+            _ => unreachable!("there are reads and writes alone"),
         })
         .collect();
 
@@ -139,7 +139,16 @@ fn main() {
     let mut steps = misses(r, &catalog, k, sails);
 
     // The most steps for which there is room, together with the acts that they need.
-    let with_plan = |steps: &[Step]| text([k, k], None, &catalog, steps, &plan(&catalog, k, steps));
+    let with_plan = |steps: &[Step]| {
+        text(
+            [k, k],
+            None,
+            &catalog,
+            steps,
+            &plan(&catalog, k, steps),
+            false,
+        )
+    };
     let (mut fits, mut too_many) = (0, steps.len());
     while fits + 1 < too_many {
         let middle = (fits + too_many) / 2;

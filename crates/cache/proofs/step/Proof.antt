@@ -16,7 +16,7 @@ same-length c = search needs
 returns : tie.Need-returns
 returns c =
     let a = c .before .before .before .before .args in
-    invalid-called lent (a .b .now) (stepCall (a .kind) (a .item) (a .minutes)) (denied (c .before .valid .ensures) (c .if1 .taken))
+    invalid-called lent (a .b .now) (stepCall (a .n)) (denied (c .before .valid .ensures) (c .if1 .taken))
 
 step-valid-requires : tie.Need-step-valid-requires
 step-valid-requires c κs = granted (c .before .before .valid .ensures) (c .before .if1 .left)
@@ -27,7 +27,7 @@ same-length-2 c = search needs
 returns-2 : tie.Need-returns-2
 returns-2 c =
     let a = c .before .before .before .before .before .before .before .before .args in
-    answers-called lent (a .b .now) _ (stepCall (a .kind) (a .item) (a .minutes)) _ (granted (c .before .before .before .before .before .valid .ensures) (c .before .before .before .before .if1 .left)) (c .before .before .step-valid .ensures)
+    answers-called lent (a .b .now) _ (stepCall (a .n)) _ (granted (c .before .before .before .before .before .valid .ensures) (c .before .before .before .before .if1 .left)) (c .before .before .step-valid .ensures)
 
 pub step-spec : {M : Type 1} → statement M
 step-spec =

@@ -16,7 +16,7 @@ same-length c = search needs
 returns : tie.Need-returns
 returns c =
     let a = c .before .before .before .before .args in
-    refused-answers lent (a .b .now) (stepCall (a .kind) (a .item) (a .minutes)) _ (c .before .before .before .before .pre) (c .before .refused .ensures) (c .if1 .taken)
+    refused-answers lent (a .b .now) (stepCall (a .n)) _ (c .before .before .before .before .pre) (c .before .refused .ensures) (c .if1 .taken)
 
 serve-requires : tie.Need-serve-requires
 serve-requires c κs = record { valid = c .before .before .before .before .before .pre; free = sym (c .before .before .refused .ensures) ∙ c .before .if1 .left }
@@ -27,7 +27,7 @@ same-length-2 c = search needs
 returns-2 : tie.Need-returns-2
 returns-2 c =
     let a = c .before .before .before .before .before .before .before .before .args in
-    step-answers (a .b .now) _ (a .kind) (a .item) (a .minutes) (c .before .before .before .before .before .before .before .before .pre) (sym (c .before .before .before .before .if1 .left) ∙ c .before .before .before .before .before .refused .ensures) (c .before .before .serve .ensures)
+    step-answers (a .b .now) _ (a .n) (c .before .before .before .before .before .before .before .before .pre) (sym (c .before .before .before .before .if1 .left) ∙ c .before .before .before .before .before .refused .ensures) (c .before .before .serve .ensures)
 
 pub step-valid-spec : {M : Type 1} → statement M
 step-valid-spec =

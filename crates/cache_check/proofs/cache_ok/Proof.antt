@@ -1,4 +1,4 @@
--- `cache_check::cache_ok` meets its contract: the five tests find the parts of which validity is made. Assumes nothing.
+-- `cache_check::cache_ok` meets its contract: the six tests find the parts of which validity is made. Assumes nothing.
 use mathlib.Core.List.{List}
 use Prim.Native.Nat.{ℕ}
 use native.Mathlib.Omega.{arith}
@@ -39,26 +39,33 @@ entries-ok-requires c κs = search needs
 returns-3 : tie.Need-returns-3
 returns-3 c = no (λ v. denied (c .before .entries-ok .ensures) (c .if3 .taken) (parts-of (cacheOf (c .before .before .before .before .before .before .before .args .b .now)) v .entries))
 
+left-ok-requires : tie.Need-left-ok-requires
+left-ok-requires c κs = search needs
+
+returns-4 : tie.Need-returns-4
+returns-4 c = no (λ v. denied (c .before .left-ok .ensures) (c .if4 .taken) (parts-of (cacheOf (c .before .before .before .before .before .before .before .before .before .args .b .now)) v .left))
+
 sums-ok-requires : tie.Need-sums-ok-requires
 sums-ok-requires c κs = search needs
 
-returns-4 : tie.Need-returns-4
-returns-4 c = no (λ v. denied (c .before .sums-ok .ensures) (c .if4 .taken) (parts-of (cacheOf (c .before .before .before .before .before .before .before .before .before .args .b .now)) v .sums))
+returns-5 : tie.Need-returns-5
+returns-5 c = no (λ v. denied (c .before .sums-ok .ensures) (c .if5 .taken) (parts-of (cacheOf (c .before .before .before .before .before .before .before .before .before .before .before .args .b .now)) v .sums))
 
 counts-ok-requires : tie.Need-counts-ok-requires
 counts-ok-requires c κs = search needs
 
-returns-5 : tie.Need-returns-5
-returns-5 c =
-    let b = c .before .before .before .before .before .before .before .before .before .before .args .b .now in
+returns-6 : tie.Need-returns-6
+returns-6 c =
+    let b = c .before .before .before .before .before .before .before .before .before .before .before .before .args .b .now in
     record {
       yes = λ e.
-          valid-of (cacheOf b) (costs b (λ j. omega (arith, c .before .before .before .before .before .before .before .before .before .shared-slice-known .given j)))
+          valid-of (cacheOf b) (costs b (λ j. omega (arith, c .before .before .before .before .before .before .before .before .before .before .before .shared-slice-known .given j)))
           record {
-            few = omega (arith, c .before .before .before .before .before .before .before .before .count .ensures .0);
-            past = granted (c .before .before .before .before .before .before .past-ok .ensures) (c .before .before .before .before .before .if2 .left);
-            entries = granted (c .before .before .before .before .entries-ok .ensures) (c .before .before .before .if3 .left);
-            sums = granted (c .before .before .sums-ok .ensures) (c .before .if4 .left);
+            few = omega (arith, c .before .before .before .before .before .before .before .before .before .before .count .ensures .0);
+            past = granted (c .before .before .before .before .before .before .before .before .past-ok .ensures) (c .before .before .before .before .before .before .before .if2 .left);
+            entries = granted (c .before .before .before .before .before .before .entries-ok .ensures) (c .before .before .before .before .before .if3 .left);
+            left = granted (c .before .before .before .before .left-ok .ensures) (c .before .before .before .if4 .left);
+            sums = granted (c .before .before .sums-ok .ensures) (c .before .if5 .left);
             counts = c .counts-ok .ensures .yes e;
           };
       only = λ v. c .counts-ok .ensures .only (parts-of (cacheOf b) v .counts);
@@ -74,7 +81,9 @@ cache-ok-spec =
     returns-2
     entries-ok-requires
     returns-3
-    sums-ok-requires
+    left-ok-requires
     returns-4
+    sums-ok-requires
+    returns-5
     counts-ok-requires
-    returns-5)
+    returns-6)

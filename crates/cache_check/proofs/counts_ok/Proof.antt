@@ -33,12 +33,18 @@ write-cost-requires c κs = search needs
 flushes-requires : tie.Need-flushes-requires
 flushes-requires c κs = search needs
 
+arrivals-requires : tie.Need-arrivals-requires
+arrivals-requires c κs = search needs
+
+retirements-requires : tie.Need-retirements-requires
+retirements-requires c κs = search needs
+
 counts-ok-requires : tie.Need-counts-ok-requires
 counts-ok-requires c κs = search needs
 
 returns : tie.Need-returns
 returns c =
-    rw (c .before .before .before .before .before .before .before .before .before .before .capacity .ensures, c .before .before .before .before .before .before .before .before .before .steps .ensures, c .before .before .before .before .before .before .before .before .hits .ensures, c .before .before .before .before .before .before .before .loads .ensures, c .before .before .before .before .before .before .load-cost .ensures, c .before .before .before .before .before .evictions .ensures, c .before .before .before .before .dirty-evictions .ensures, c .before .before .before .writebacks .ensures, c .before .before .write-cost .ensures, c .before .flushes .ensures)
+    rw (c .before .before .before .before .before .before .before .before .before .before .before .before .capacity .ensures, c .before .before .before .before .before .before .before .before .before .before .before .steps .ensures, c .before .before .before .before .before .before .before .before .before .before .hits .ensures, c .before .before .before .before .before .before .before .before .before .loads .ensures, c .before .before .before .before .before .before .before .before .load-cost .ensures, c .before .before .before .before .before .before .before .evictions .ensures, c .before .before .before .before .before .before .dirty-evictions .ensures, c .before .before .before .before .before .writebacks .ensures, c .before .before .before .before .write-cost .ensures, c .before .before .before .flushes .ensures, c .before .before .arrivals .ensures, c .before .retirements .ensures)
     at (c .counts-ok .ensures)
 
 pub counts-ok-spec : {M : Type 1} → statement M
@@ -55,5 +61,7 @@ counts-ok-spec =
     writebacks-requires
     write-cost-requires
     flushes-requires
+    arrivals-requires
+    retirements-requires
     counts-ok-requires
     returns)

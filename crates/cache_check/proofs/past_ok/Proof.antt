@@ -1,8 +1,10 @@
--- `cache_check::past_ok` meets its contract: nine tests of runs and one of the marks find that every place is blank. Assumes nothing.
+-- `cache_check::past_ok` meets its contract: the tests of runs and of marks find that every place is blank. Assumes nothing.
 use borrow.Author.Needs.{needs}
 use Rattle.cache_state.specs.InnerParts.{PastOk}
 use Rattle.validity.proofs.Decides.{no, denied, granted}
 use Rattle.layout.specs.Layout.{cacheOf}
+use Rattle.layout.specs.InnerRows.{atLoadCredits}
+use Rattle.cache_check.specs.Inner.{BlankRun}
 use Rattle.cache_check.proofs.Past.{RunsBlank, runs-blank, past-so}
 use Rattle.cache_check.proofs.past_ok.Statement.{statement}
 use Rattle.cache_check.proofs.past_ok.Tie as tie
@@ -68,23 +70,36 @@ returns-9 c = no (λ p. denied (c .before .flags-blank .ensures) (c .if9 .taken)
 dirty-requires : tie.Need-dirty-requires
 dirty-requires c κs = search needs
 
-next-requires : tie.Need-next-requires
-next-requires c κs = search needs
+marks-blank-requires : tie.Need-marks-blank-requires
+marks-blank-requires c κs = c .before .before .before .before .before .before .before .before .before .before .before .before .before .before .before .before .before .before .before .before .pre .few
 
 returns-10 : tie.Need-returns-10
-returns-10 c =
-    past-so (c .before .before .before .before .before .before .before .before .before .before .before .before .before .before .before .before .before .before .before .before .before .args .b .now) (c .before .before .before .before .before .before .before .before .before .before .before .before .before .before .before .before .before .before .before .before .before .args .n) (c .before .before .before .before .before .before .before .before .before .before .before .before .before .before .before .before .before .before .before .before .before .pre .count) (c .next .result) (c .before .before .before .before .before .before .before .before .before .before .before .before .before .before .before .before .before .before .before .before .before .pre .few) (rw (c .before .dirty .ensures) at (c .next .ensures))
+returns-10 c = no (λ p. denied (rw (c .before .before .dirty .ensures) at (c .before .marks-blank .ensures)) (c .if10 .taken) (runs (c .before .before .before .before .before .before .before .before .before .before .before .before .before .before .before .before .before .before .before .before .before .before) p .dirty))
+
+left-requires : tie.Need-left-requires
+left-requires c κs = c .before .before .before .before .before .before .before .before .before .before .before .before .before .before .before .before .before .before .before .before .before .before .pre .size
+
+marks-blank-requires-2 : tie.Need-marks-blank-requires-2
+marks-blank-requires-2 c κs = c .before .before .before .before .before .before .before .before .before .before .before .before .before .before .before .before .before .before .before .before .before .before .before .pre .few
+
+returns-11 : tie.Need-returns-11
+returns-11 c =
+    let s = c .before .before .before .before .before .before .before .before .before .before .before .before .before .before .before .before .before .before .before .before .before .before .before .before in
+    let b = s .args .b .now in
+    past-so b (s .args .n) (s .pre .count)
     record {
-      loadCredit = granted (c .before .before .before .before .before .before .before .before .before .before .before .before .before .before .before .before .before .before .before .run-blank .ensures) (c .before .before .before .before .before .before .before .before .before .before .before .before .before .before .before .before .before .before .if1 .left);
-      writeCredit = granted (c .before .before .before .before .before .before .before .before .before .before .before .before .before .before .before .before .before .run-blank2 .ensures) (c .before .before .before .before .before .before .before .before .before .before .before .before .before .before .before .before .if2 .left);
-      minutes = granted (c .before .before .before .before .before .before .before .before .before .before .before .before .before .before .before .run-blank3 .ensures) (c .before .before .before .before .before .before .before .before .before .before .before .before .before .before .if3 .left);
-      loads = granted (c .before .before .before .before .before .before .before .before .before .before .before .before .before .run-blank4 .ensures) (c .before .before .before .before .before .before .before .before .before .before .before .before .if4 .left);
-      writebacks = granted (c .before .before .before .before .before .before .before .before .before .before .before .run-blank5 .ensures) (c .before .before .before .before .before .before .before .before .before .before .if5 .left);
-      load = granted (c .before .before .before .before .before .before .before .before .before .run-blank6 .ensures) (c .before .before .before .before .before .before .before .before .if6 .left);
-      write = granted (c .before .before .before .before .before .before .before .run-blank7 .ensures) (c .before .before .before .before .before .before .if7 .left);
-      blocks = granted (c .before .before .before .before .before .run-blank8 .ensures) (c .before .before .before .before .if8 .left);
-      held = granted (c .before .before .before .flags-blank .ensures) (c .before .before .if9 .left);
+      loadCredit = granted {A = BlankRun b atLoadCredits 8 (s .args .n)} (c .before .before .before .before .before .before .before .before .before .before .before .before .before .before .before .before .before .before .before .before .before .before .run-blank .ensures) (c .before .before .before .before .before .before .before .before .before .before .before .before .before .before .before .before .before .before .before .before .before .if1 .left);
+      writeCredit = granted (c .before .before .before .before .before .before .before .before .before .before .before .before .before .before .before .before .before .before .before .before .run-blank2 .ensures) (c .before .before .before .before .before .before .before .before .before .before .before .before .before .before .before .before .before .before .before .if2 .left);
+      minutes = granted (c .before .before .before .before .before .before .before .before .before .before .before .before .before .before .before .before .before .before .run-blank3 .ensures) (c .before .before .before .before .before .before .before .before .before .before .before .before .before .before .before .before .before .if3 .left);
+      loads = granted (c .before .before .before .before .before .before .before .before .before .before .before .before .before .before .before .before .run-blank4 .ensures) (c .before .before .before .before .before .before .before .before .before .before .before .before .before .before .before .if4 .left);
+      writebacks = granted (c .before .before .before .before .before .before .before .before .before .before .before .before .before .before .run-blank5 .ensures) (c .before .before .before .before .before .before .before .before .before .before .before .before .before .if5 .left);
+      load = granted (c .before .before .before .before .before .before .before .before .before .before .before .before .run-blank6 .ensures) (c .before .before .before .before .before .before .before .before .before .before .before .if6 .left);
+      write = granted (c .before .before .before .before .before .before .before .before .before .before .run-blank7 .ensures) (c .before .before .before .before .before .before .before .before .before .if7 .left);
+      blocks = granted (c .before .before .before .before .before .before .before .before .run-blank8 .ensures) (c .before .before .before .before .before .before .before .if8 .left);
+      held = granted (c .before .before .before .before .before .before .flags-blank .ensures) (c .before .before .before .before .before .if9 .left);
+      dirty = granted (rw (c .before .before .before .before .dirty .ensures) at (c .before .before .before .marks-blank .ensures)) (c .before .before .if10 .left);
     }
+    (rw (c .before .left .ensures) at (c .marks-blank2 .ensures))
 
 pub past-ok-spec : {M : Type 1} → statement M
 past-ok-spec =
@@ -109,5 +124,8 @@ past-ok-spec =
     flags-blank-requires
     returns-9
     dirty-requires
-    next-requires
-    returns-10)
+    marks-blank-requires
+    returns-10
+    left-requires
+    marks-blank-requires-2
+    returns-11)

@@ -36,12 +36,18 @@ loads-counted-requires c κs = search needs
 writebacks-counted-requires : tie.Need-writebacks-counted-requires
 writebacks-counted-requires c κs = search needs
 
+retirements-requires : tie.Need-retirements-requires
+retirements-requires c κs = search needs
+
+left-count-requires : tie.Need-left-count-requires
+left-count-requires c κs = search needs
+
 balanced-requires : tie.Need-balanced-requires
 balanced-requires c κs = search needs
 
 returns : tie.Need-returns
 returns c =
-    rw (c .before .before .before .before .before .before .before .before .before .before .before .capacity .ensures, c .before .before .before .before .before .before .before .before .before .before .used .ensures, c .before .before .before .before .before .before .before .before .before .evictions .ensures, c .before .before .before .before .before .before .before .before .held-count .ensures, c .before .before .before .before .before .before .before .loads .ensures, c .before .before .before .before .before .before .writebacks .ensures, c .before .before .before .before .count .ensures, c .before .before .before .before .before .dirty .ensures, c .before .before .before .steps .ensures, c .before .before .loads-counted .ensures, c .before .writebacks-counted .ensures, c .before .before .before .before .before .before .before .before .before .before .before .before .before .pre .count)
+    rw (c .before .before .before .before .before .before .before .before .before .before .before .before .before .capacity .ensures, c .before .before .before .before .before .before .before .before .before .before .before .before .used .ensures, c .before .before .before .before .before .before .before .before .before .before .before .evictions .ensures, c .before .before .before .before .before .before .before .before .before .before .held-count .ensures, c .before .before .before .before .before .before .before .before .before .loads .ensures, c .before .before .before .before .before .before .before .before .writebacks .ensures, c .before .before .before .before .before .before .count .ensures, c .before .before .before .before .before .before .before .dirty .ensures, c .before .before .before .before .before .steps .ensures, c .before .before .before .before .loads-counted .ensures, c .before .before .before .writebacks-counted .ensures, c .before .before .retirements .ensures, c .before .left-count .ensures, c .before .before .before .before .before .before .before .before .before .before .before .before .before .before .before .pre .count)
     at (c .balanced .ensures)
 
 pub sums-ok-spec : {M : Type 1} → statement M
@@ -59,5 +65,7 @@ sums-ok-spec =
     steps-requires
     loads-counted-requires
     writebacks-counted-requires
+    retirements-requires
+    left-count-requires
     balanced-requires
     returns)

@@ -1,12 +1,17 @@
 -- `cache_check::valid` meets its contract: the length, the values that the layout allows, and the cache. Assumes nothing.
+use mathlib.Core.Path.{_≡_}
 use native.Mathlib.Omega.{arith}
+use lib.ListN.{length}
 use borrow.Author.Needs.{needs}
 use Rattle.validity.proofs.Decides.{no, denied, granted}
+use Rattle.layout.specs.Layout.{stateBytes}
 use Rattle.cache_check.proofs.valid.Statement.{statement}
 use Rattle.cache_check.proofs.valid.Tie as tie
 
 returns : tie.Need-returns
-returns c = no (λ v. omega (arith, v .size))
+returns c =
+    let other : length (c .before .before .args .b .now) ≡ stateBytes → ⊥ = λ e. omega arith in
+    no (λ v. other (v .size))
 
 allowed-requires : tie.Need-allowed-requires
 allowed-requires c κs = search needs

@@ -6,13 +6,13 @@ use lib.ListN.{length}
 use lib.Seq.{length-sets}
 use borrow.Author.Needs.{needs}
 use Rattle.cache.specs.Contract.{lent, callsOf}
-use Rattle.cache_run.proofs.Runs.{count-is, call-at, CallsGoing, going-starts, going-on, going-ends}
+use Rattle.cache_run.proofs.Runs.{count-is, call-is, CallsGoing, going-starts, going-on, going-ends}
 use Rattle.cache_run.proofs.run_calls.Statement.{statement}
 use Rattle.cache_run.proofs.run_calls.Tie as tie
 
 abbrev Inv-loop : tie.InvT-loop
 Inv-loop b₀ calls answers₀ count at₀ i₀ b answers at i =
-    (i ≤ count) × (at ≡ 4 * i) × (count ≡ length calls / 4) × CallsGoing lent b₀ (callsOf calls) answers₀ i b answers
+    (i ≤ count) × (at ≡ 7 * i) × (count ≡ length calls / 7) × CallsGoing lent b₀ (callsOf calls) answers₀ i b answers
 
 abbrev μ-loop : tie.MeasureT-loop
 μ-loop b₀ calls answers₀ count at₀ i₀ b answers at i = count - i
@@ -20,41 +20,8 @@ abbrev μ-loop : tie.MeasureT-loop
 loop-holds : tie.Need-loop-holds Inv-loop μ-loop
 loop-holds c = (omega arith, omega arith, refl, going-starts lent _ _ _ (c .before .before .before .pre))
 
-mul-call : tie.Need-mul-call Inv-loop μ-loop
-mul-call c = search needs
-
-shared-slice-read-call : tie.Need-shared-slice-read-call Inv-loop μ-loop
-shared-slice-read-call c = omega arith
-
-add-call : tie.Need-add-call Inv-loop μ-loop
-add-call c = omega arith
-
-mul-call-2 : tie.Need-mul-call-2 Inv-loop μ-loop
-mul-call-2 c = search needs
-
-shared-slice-read-call-2 : tie.Need-shared-slice-read-call-2 Inv-loop μ-loop
-shared-slice-read-call-2 c = omega arith
-
-add-call-2 : tie.Need-add-call-2 Inv-loop μ-loop
-add-call-2 c = omega arith
-
-mul-call-3 : tie.Need-mul-call-3 Inv-loop μ-loop
-mul-call-3 c = search needs
-
-shared-slice-read-call-3 : tie.Need-shared-slice-read-call-3 Inv-loop μ-loop
-shared-slice-read-call-3 c = omega arith
-
-add-call-3 : tie.Need-add-call-3 Inv-loop μ-loop
-add-call-3 c = omega arith
-
-mul-call-4 : tie.Need-mul-call-4 Inv-loop μ-loop
-mul-call-4 c = search needs
-
-shared-slice-read-call-4 : tie.Need-shared-slice-read-call-4 Inv-loop μ-loop
-shared-slice-read-call-4 c = omega arith
-
 call-requires : tie.Need-call-requires Inv-loop μ-loop
-call-requires c κs = c .before .before .before .before .before .before .loop .inv .3 .valid
+call-requires c κs = (c .before .before .loop .inv .3 .valid, omega arith)
 
 note-requires : tie.Need-note-requires Inv-loop μ-loop
 note-requires c κs = search needs
@@ -70,14 +37,14 @@ loop-less c = omega arith
 
 loop-again : tie.Need-loop-again Inv-loop μ-loop
 loop-again c =
-    let a = c .before .before .before .before .before .before .before .before .before .before .before .before .before .before .before .before .before .args in
-    let w = c .before .before .before .before .before .before .before .before .before .before .before .before .before .loop in
+    let a = c .before .before .before .before .before .before .before .before .before .before .before .before .before .args in
+    let w = c .before .before .before .before .before .before .before .before .before .loop in
     let xs = a .calls .now in (
       omega arith,
       omega arith,
       refl,
       going-on lent (a .b .now) (w .b) _ (callsOf xs) (a .answers .now) (w .answers) _ (w .i) _ (c .before .before .before .before .before .before .call .result)
-          (omega (arith, count-is xs)) (call-at xs (w .i) (w .at) (omega arith) (w .inv .1)) (c .before .before .before .before .before .before .call .ensures) (c .before .before .note .ensures) (w .inv .3),
+          (omega (arith, count-is xs)) (call-is xs (w .i) (w .at) (omega arith) (w .inv .1)) (c .before .before .before .before .before .before .call .ensures) (c .before .before .note .ensures) (w .inv .3),
     )
 
 same-length : tie.Need-same-length Inv-loop μ-loop
@@ -99,17 +66,6 @@ run-calls-spec =
     Inv-loop
     μ-loop
     loop-holds
-    mul-call
-    shared-slice-read-call
-    add-call
-    mul-call-2
-    shared-slice-read-call-2
-    add-call-2
-    mul-call-3
-    shared-slice-read-call-3
-    add-call-3
-    mul-call-4
-    shared-slice-read-call-4
     call-requires
     note-requires
     add-at

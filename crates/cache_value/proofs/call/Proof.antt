@@ -8,7 +8,7 @@ use Rattle.cache_value.proofs.call.Statement.{statement}
 use Rattle.cache_value.proofs.call.Tie as tie
 
 returns : tie.Need-returns
-returns c = let a = c .before .before .args in many-called (a .c) (callFrom (a .which) (a .kind) (a .item) (a .minutes)) (omega arith)
+returns c = let a = c .before .before .args in many-called (a .c) (callFrom (a .which) (a .n)) (omega arith)
 
 slice-aggregate-encode : tie.Need-slice-aggregate-encode
 slice-aggregate-encode c = search needs
@@ -25,7 +25,7 @@ call-bytes-requires c κs = search needs
 returns-2 : tie.Need-returns-2
 returns-2 c =
     let a = c .before .before .before .before .before .before .before .before .before .args in
-    refused-called (a .c) (stands (c .before .before .before .before .before .encode .ensures .0) (c .before .before .before .before .before .encode .ensures .1 (omega arith))) (callFrom (a .which) (a .kind) (a .item) (a .minutes)) _ (c .before .before .call-bytes .ensures) (c .if2 .taken)
+    refused-called (a .c) (stands (c .before .before .before .before .before .encode .ensures .0) (c .before .before .before .before .before .encode .ensures .1 (omega arith))) (callFrom (a .which) (a .n)) _ (c .before .before .call-bytes .ensures) (c .if2 .taken)
 
 slice-aggregate-decode : tie.Need-slice-aggregate-decode
 slice-aggregate-decode c = search needs
@@ -36,7 +36,7 @@ decode-requires c κs = search needs
 returns-3 : tie.Need-returns-3
 returns-3 c =
     let a = c .before .before .before .before .before .before .before .before .before .before .before .args in
-    taken-called (a .c) (stands (c .before .before .before .before .before .before .before .encode .ensures .0) (c .before .before .before .before .before .before .before .encode .ensures .1 (omega arith))) (callFrom (a .which) (a .kind) (a .item) (a .minutes)) _ (c .decode .result) (c .before .before .before .before .call-bytes .ensures) (c .before .before .if2 .left) (c .decode .ensures)
+    taken-called (a .c) (stands (c .before .before .before .before .before .before .before .encode .ensures .0) (c .before .before .before .before .before .before .before .encode .ensures .1 (omega arith))) (callFrom (a .which) (a .n)) _ (c .decode .result) (c .before .before .before .before .call-bytes .ensures) (c .before .before .if2 .left) (c .decode .ensures)
 
 pub call-spec : {M : Type 1} → statement M
 call-spec =

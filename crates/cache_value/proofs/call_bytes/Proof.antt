@@ -11,7 +11,7 @@ same-length : tie.Need-same-length
 same-length c = search needs
 
 returns : tie.Need-returns
-returns c = let a = c .before .before .before .before .before .before .args in call-takes (a .b .now) _ (a .which) (a .kind) (a .item) (a .minutes) _ (c .before .before .before .before .if1 .taken) (c .before .before .step .ensures)
+returns c = let a = c .before .before .before .before .before .before .args in call-takes (a .b .now) _ (a .which) _ (a .n) (c .before .before .before .before .if1 .taken) (c .before .before .step .ensures)
 
 close-requires : tie.Need-close-requires
 close-requires c κs = search needs
@@ -20,7 +20,7 @@ same-length-2 : tie.Need-same-length-2
 same-length-2 c = search needs
 
 returns-2 : tie.Need-returns-2
-returns-2 c = let a = c .before .before .before .before .before .before .args in call-closes (a .b .now) _ (a .which) (a .kind) (a .item) (a .minutes) _ (c .before .before .before .before .if1 .left) (c .before .before .close .ensures)
+returns-2 c = let a = c .before .before .before .before .before .before .args in call-closes (a .b .now) _ (a .which) _ (a .n) (c .before .before .before .before .if1 .left) (c .before .before .close .ensures)
 
 pub call-bytes-spec : {M : Type 1} → statement M
 call-bytes-spec =

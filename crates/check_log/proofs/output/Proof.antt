@@ -8,7 +8,8 @@ use lib.ListN.{length, take}
 use lib.Seq.{length-take-le}
 use denote.Ref
 use Rattle.season_log.specs.Log.{listed, readLog}
-use Rattle.season_log.proofs.Answers.{read-within, written-within}
+use Rattle.season_log.proofs.Answers.{written-within}
+use Rattle.log_reader.proofs.Answers.{read-within}
 use Rattle.check_log.proofs.output.Statement.{statement}
 use Rattle.check_log.proofs.output.Tie as tie
 
@@ -24,16 +25,16 @@ enum-known-r c = search needs
 put-refusal-requires : tie.Need-put-refusal-requires
 put-refusal-requires c κs = search needs
 
-enum-known-steps : tie.Need-enum-known-steps
-enum-known-steps c = search needs
+enum-known-heading : tie.Need-enum-known-heading
+enum-known-heading c = search needs
 
 -- the steps that were read are within the list
-steps-within : (c : tie.After-known-told2) → 12 * (c .before .steps .given .0 .0) ≤ length (c .before .before .before .before .read-log .last .1 .0)
+steps-within : (c : tie.After-known-told2) → 24 * (c .before .heading .given .0 .1 .0) ≤ length (c .before .before .before .before .read-log .last .1 .0)
 steps-within c =
     let a = c .before .before .before .before .before .before .before .before .args in
     let r = c .before .before .before .before .read-log in
-    let n = c .before .steps .given in
-    read-within (readLog (denote.Ref.now (a .text))) _ (r .last .1 .0) (n .0 .0) (sym (n .1) ∙ r .ensures .0) (r .ensures .1)
+    let n = c .before .heading .given in
+    read-within (readLog (denote.Ref.now (a .text))) _ (r .last .1 .0) (n .0 .0) (n .0 .1 .0) (sym (n .1) ∙ r .ensures .0) (r .ensures .1)
 
 mul-bytes : tie.Need-mul-bytes
 mul-bytes c = omega (arith, steps-within c, c .before .before .before .list2 .given)
@@ -78,7 +79,8 @@ returns-3 c =
     let list = e .before .before .before .before .read-log .last .1 .0 in
     let w = c .before .before .before .before .before .write-log in
     let n = c .before .n .given in
-    written-within (listed (take (12 * (e .before .steps .given .0 .0)) list)) _ (w .last .1 .0) (n .0 .0) (sym (n .1) ∙ w .ensures .0) (w .ensures .1)
+    let h = e .before .heading .given .0 in
+    written-within (listed (h .0) (take (24 * (h .1 .0)) list)) _ (w .last .1 .1 .0) (n .0 .0) (sym (n .1) ∙ w .ensures .0) (w .ensures .1)
 
 pub output-spec : {M : Type 1} → statement M
 output-spec =
@@ -88,7 +90,7 @@ output-spec =
     read-log-requires
     enum-known-r
     put-refusal-requires
-    enum-known-steps
+    enum-known-heading
     mul-bytes
     array-share-prefix-list
     slice-aggregate-write-log

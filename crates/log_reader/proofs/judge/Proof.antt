@@ -1,138 +1,128 @@
--- `log_reader::judge` meets its contract: its two spaces are found, and its three fields judged. Assumes nothing.
-use mathlib.Core.Path.{_∙_}
+-- `log_reader::judge` meets its contract. The loop's invariant is `Fielded`, of proofs/Judging.antt. Assumes nothing.
+use mathlib.Core.Path.{_≡_, refl, sym, subst, _∙_}
+use mathlib.Core.Bool.{Bool, true, false, cond}
+use mathlib.Core.Logic.{inl, inr, ⊎-elim}
+use Prim.Native.Nat.{_+_, _-_, _≤_, _<_}
 use native.Mathlib.Omega.{arith}
 use borrow.Author.Needs.{needs}
-use lib.Seq.{length-take-le}
-use Rattle.line_fields.proofs.Pieces.{before-le}
-use Rattle.log_reader.proofs.Reading.{FoundTwo, FoundThree, one-field, second-le, two-fields, third-le, four-fields, three-fields}
+use borrow.Author.Tests.{leb-true, leb-false}
+use lib.ListN.{length}
+use Rattle.season_lines.specs.Inner.{Judgeable}
+use Rattle.log_reader.proofs.Judging.{Fielded, fieldsLeft, fields-begin, field-le, field-more, field-malformed, fields-judged, fewer-left}
 use Rattle.log_reader.proofs.judge.Statement.{statement}
 use Rattle.log_reader.proofs.judge.Tie as tie
 
--- what is known of the line where its second field is found, and its third
-two : (c : tie.After-find2) → FoundTwo (c .before .before .before .before .before .args .l .now) (c .before .before .before .find .result) (c .find2 .result)
-two c = record { first = c .before .before .before .find .ensures; more = c .before .before .if1 .left; second = c .find2 .ensures }
+abbrev Inv-loop : tie.InvT-loop
+Inv-loop heading l line fields₀ count₀ at₀ more₀ fields count at more = Fielded l fields count at more
 
-three : (c : tie.After-find3) → FoundThree (c .before .before .before .before .before .before .before .before .args .l .now) (c .before .before .before .before .before .before .find .result) (c .before .before .before .find2 .result) (c .find3 .result)
-three c = record { two = two (c .before .before .before); more = c .before .before .if2 .left; third = c .find3 .ensures }
+abbrev μ-loop : tie.MeasureT-loop
+μ-loop heading l line fields₀ count₀ at₀ more₀ fields count at more = fieldsLeft (length l) at more
 
-find-requires : tie.Need-find-requires
-find-requires c κs = search needs
+loop-holds : tie.Need-loop-holds Inv-loop μ-loop
+loop-holds c = fields-begin (c .before .args .l .now) _ refl
 
-returns : tie.Need-returns
-returns c = let a = c .before .before .before .args in one-field (a .l .now) (a .line) (c .before .find .result) (c .before .find .ensures) (c .if1 .taken)
+-- a field is left
+here : (c : tie.In-loop Inv-loop μ-loop) → (let l = c .before .loop in Fielded (c .before .before .before .args .l .now) (l .fields) (l .count) (l .at) true)
+here c = let l = c .before .loop in subst (λ (t : Bool). Fielded (c .before .before .before .args .l .now) (l .fields) (l .count) (l .at) t) (c .loop-test .taken) (l .inv)
 
-add-p : tie.Need-add-p
-add-p c = search needs
+sub-find : tie.Need-sub-find Inv-loop μ-loop
+sub-find c = here c .going refl
 
-sub-find : tie.Need-sub-find
-sub-find c = search needs
+part-find-start : tie.Need-part-find-start Inv-loop μ-loop
+part-find-start c = sub-find c
 
-part-find-start : tie.Need-part-find-start
-part-find-start c = search needs
-
-part-find-end : tie.Need-part-find-end
+part-find-end : tie.Need-part-find-end Inv-loop μ-loop
 part-find-end c = search needs
 
-find-requires-2 : tie.Need-find-requires-2
-find-requires-2 c κs = search needs
+find-requires : tie.Need-find-requires Inv-loop μ-loop
+find-requires c κs = search needs
 
-add-b : tie.Need-add-b
-add-b c = omega (arith, second-le (two c))
+end : (c : tie.After-find Inv-loop μ-loop) → c .before .before .before .loop .at + c .find .result ≤ length (c .before .before .before .before .before .args .l .now)
+end c = let l = c .before .before .before .loop in field-le (c .before .before .before .before .before .args .l .now) (l .fields) (l .count) (l .at) (c .find .result) (here (c .before .before)) (c .find .ensures)
 
-returns-2 : tie.Need-returns-2
-returns-2 c = two-fields (two (c .before)) (c .before .before .before .before .before .before .args .line) (c .if2 .taken)
+add-end : tie.Need-add-end Inv-loop μ-loop
+add-end c = omega (arith, end c)
 
-add-q : tie.Need-add-q
-add-q c = search needs
+sub-field-of : tie.Need-sub-field-of Inv-loop μ-loop
+sub-field-of c = omega arith
 
-sub-find-2 : tie.Need-sub-find-2
-sub-find-2 c = search needs
+part-field-of-start : tie.Need-part-field-of-start Inv-loop μ-loop
+part-field-of-start c = sub-field-of c
 
-part-find-start-2 : tie.Need-part-find-start-2
-part-find-start-2 c = search needs
+part-field-of-end : tie.Need-part-field-of-end Inv-loop μ-loop
+part-field-of-end c = end c
 
-part-find-end-2 : tie.Need-part-find-end-2
-part-find-end-2 c = search needs
-
-find-requires-3 : tie.Need-find-requires-3
-find-requires-3 c κs = search needs
-
-add-c : tie.Need-add-c
-add-c c = omega (arith, third-le (three c))
-
-returns-3 : tie.Need-returns-3
-returns-3 c = four-fields (three (c .before)) (c .before .before .before .before .before .before .before .before .before .args .line) (c .if3 .taken)
-
-slice-aggregate-field-of : tie.Need-slice-aggregate-field-of
-slice-aggregate-field-of c =
-    let l = c .before .before .before .before .before .before .before .before .before .before .args .l .now in
-    let f = c .before .before .before .before .before .before .before .before .find in
-    omega (arith, length-take-le (f .result) l (omega (arith, f .ensures, before-le 32 l)))
-
-field-of-requires : tie.Need-field-of-requires
+field-of-requires : tie.Need-field-of-requires Inv-loop μ-loop
 field-of-requires c κs = search needs
 
-sub-field-of : tie.Need-sub-field-of
-sub-field-of c = search needs
+is-empty-requires : tie.Need-is-empty-requires Inv-loop μ-loop
+is-empty-requires c κs = search needs
 
-part-field-of-start : tie.Need-part-field-of-start
-part-field-of-start c = search needs
+returns : tie.Need-returns Inv-loop μ-loop
+returns c =
+    let l = c .before .before .before .before .before .before .before .loop in
+    field-malformed (c .before .before .before .before .before .before .before .before .before .args .l .now) (l .fields) (l .count) (l .at) (c .before .before .before .before .find .result) (c .before .before .field-of .result) (here (c .before .before .before .before .before .before)) (c .before .before .before .before .find .ensures) (c .before .before .field-of .ensures)
+    (c .before .before .before .before .before .before .before .before .before .args .heading) (c .before .before .before .before .before .before .before .before .before .args .line)
+    (⊎-elim (λ w. inl (sym (c .before .is-empty .ensures) ∙ w .taken)) (λ w. inr (leb-true 6 (l .count) (w .1 .taken))) (c .if1 .came))
 
-part-field-of-end : tie.Need-part-field-of-end
-part-field-of-end c = search needs
+-- there is a place for it in the array
+few : (c : tie.Else2 Inv-loop μ-loop) → c .before .before .before .before .before .before .before .before .loop .count < 6
+few c = leb-false 6 (c .before .before .before .before .before .before .before .before .loop .count) (c .if2 .left)
 
-field-of-requires-2 : tie.Need-field-of-requires-2
-field-of-requires-2 c κs = search needs
+mul-fields : tie.Need-mul-fields Inv-loop μ-loop
+mul-fields c = omega (arith, few c)
 
-sub-field-of-2 : tie.Need-sub-field-of-2
-sub-field-of-2 c = search needs
+array-set-from-fields : tie.Need-array-set-from-fields Inv-loop μ-loop
+array-set-from-fields c = few c
 
-part-field-of-start-2 : tie.Need-part-field-of-start-2
-part-field-of-start-2 c = search needs
+add-count : tie.Need-add-count Inv-loop μ-loop
+add-count c = omega (arith, few c)
 
-part-field-of-end-2 : tie.Need-part-field-of-end-2
-part-field-of-end-2 c = search needs
+add-at : tie.Need-add-at Inv-loop μ-loop
+add-at c = omega (arith, end (c .before .before .before .before .before))
 
-field-of-requires-3 : tie.Need-field-of-requires-3
-field-of-requires-3 c κs = search needs
+loop-less : tie.Need-loop-less Inv-loop μ-loop
+loop-less c = fewer-left (length (c .before .before .before .before .before .before .before .before .before .before .args .l .now)) (c .before .before .before .before .before .before .before .before .loop .at) (c .before .before .before .before .before .find .result) (c .before .before .before .before .before .before .before .before .loop .more) (c .before .before .before .before .before .before .before .loop-test .taken) (here (c .before .before .before .before .before .before .before) .going refl)
 
-step-line-requires : tie.Need-step-line-requires
-step-line-requires c κs = search needs
+loop-again : tie.Need-loop-again Inv-loop μ-loop
+loop-again c =
+    let l = c .before .before .before .before .before .before .before .before .loop in
+    field-more (c .before .before .before .before .before .before .before .before .before .before .args .l .now) (l .fields) (l .count) (l .at) (c .before .before .before .before .before .find .result) (c .before .before .before .field-of .result) (here (c .before .before .before .before .before .before .before)) (c .before .before .before .before .before .find .ensures) (c .before .before .before .field-of .ensures)
+    _ refl (few c) (sym (c .before .before .is-empty .ensures) ∙ c .before .if1 .left)
 
-returns-4 : tie.Need-returns-4
-returns-4 c =
-    c .step-line .ensures
-    ∙ three-fields (three (c .before .before .before .before .before .before .before .before)) (c .before .before .before .before .before .before .before .before .before .before .before .before .before .before .before .before .args .line) _ _ _ (c .before .before .before .before .before .before .before .if3 .left) (c .before .before .before .before .before .field-of .ensures) (c .before .before .before .field-of2 .ensures) (c .before .field-of3 .ensures)
+-- no field is left
+done : (c : tie.After-loop Inv-loop μ-loop) → (let l = c .before .loop in Fielded (c .before .before .before .args .l .now) (l .fields) (l .count) (l .at) false)
+done c = let l = c .before .loop in subst (λ (t : Bool). Fielded (c .before .before .before .args .l .now) (l .fields) (l .count) (l .at) t) (c .loop-test .left) (l .inv)
+
+line-in-requires : tie.Need-line-in-requires Inv-loop μ-loop
+line-in-requires c κs = let f = done c in record { few = f .few; some = f .some }
+
+returns-2 : tie.Need-returns-2 Inv-loop μ-loop
+returns-2 c = c .line-in .ensures ∙ fields-judged (c .before .before .before .before .args .l .now) (c .before .before .loop .fields) (c .before .before .loop .count) (c .before .before .loop .at) (c .before .before .before .before .args .heading) (c .before .before .before .before .args .line) (done (c .before))
 
 pub judge-spec : {M : Type 1} → statement M
 judge-spec =
     tie.close
     (tie.spec
-    find-requires
-    returns
-    add-p
+    Inv-loop
+    μ-loop
+    loop-holds
     sub-find
     part-find-start
     part-find-end
-    find-requires-2
-    add-b
-    returns-2
-    add-q
-    sub-find-2
-    part-find-start-2
-    part-find-end-2
-    find-requires-3
-    add-c
-    returns-3
-    slice-aggregate-field-of
-    field-of-requires
+    find-requires
+    add-end
     sub-field-of
     part-field-of-start
     part-field-of-end
-    field-of-requires-2
-    sub-field-of-2
-    part-field-of-start-2
-    part-field-of-end-2
-    field-of-requires-3
-    step-line-requires
-    returns-4)
+    field-of-requires
+    is-empty-requires
+    returns
+    mul-fields
+    array-set-from-fields
+    add-count
+    add-at
+    loop-less
+    loop-again
+    line-in-requires
+    returns-2)

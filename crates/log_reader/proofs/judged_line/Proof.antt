@@ -15,7 +15,7 @@ find-requires c κs = search needs
 returns : tie.Need-returns
 returns c =
     let a = c .before .before .before .args in
-    first-unfed (a .line) (a .text .now) (c .before .find .result) (c .before .find .ensures) (c .if1 .taken)
+    first-unfed (a .heading) (a .line) (a .text .now) (c .before .find .result) (c .before .find .ensures) (c .if1 .taken)
 
 slice-aggregate-judge : tie.Need-slice-aggregate-judge
 slice-aggregate-judge c =
@@ -35,17 +35,17 @@ returns-2 : tie.Need-returns-2
 returns-2 c =
     let a = c .before .before .before .before .before .before .before .args in
     let j = c .before .before .judge in
-    first-refused (a .line) (a .text .now) (c .before .before .before .before .before .find .result) (c .before .before .before .before .before .find .ensures) (j .result) (c .before .before .before .before .if1 .left) (j .ensures) _
+    first-refused (a .heading) (a .line) (a .text .now) (c .before .before .before .before .before .find .result) (c .before .before .before .before .before .find .ensures) (j .result) (c .before .before .before .before .if1 .left) (j .ensures) _
     (λ s e. no-two (tagOf the-type (j .result)) (ap (tagOf the-type) e) (c .before .match .keys2)) (c .refusal-in .ensures)
 
-add-t6 : tie.Need-add-t6
-add-t6 c = search needs
+add-t7 : tie.Need-add-t7
+add-t7 c = search needs
 
 returns-3 : tie.Need-returns-3
 returns-3 c =
     let a = c .before .before .before .before .before .before .before .before .args in
     let j = c .before .before .before .judge in
-    first-step (a .line) (a .text .now) (c .before .before .before .before .before .before .find .result) (c .before .before .before .before .before .before .find .ensures) (j .result) (c .before .before .before .before .before .if1 .left) (j .ensures) _ (c .before .judged .given .1)
+    first-step (a .heading) (a .line) (a .text .now) (c .before .before .before .before .before .before .find .result) (c .before .before .before .before .before .before .find .ensures) (j .result) (c .before .before .before .before .before .if1 .left) (j .ensures) _ (c .before .judged .given .1)
 
 pub judged-line-spec : {M : Type 1} → statement M
 judged-line-spec =
@@ -58,5 +58,5 @@ judged-line-spec =
     enum-known-judged
     refusal-in-requires
     returns-2
-    add-t6
+    add-t7
     returns-3)

@@ -20,15 +20,15 @@ read-table-requires c κs = search needs
 enum-known-r : tie.Need-enum-known-r
 enum-known-r c = search needs
 
-enum-known-count : tie.Need-enum-known-count
-enum-known-count c = search needs
+enum-known-heading : tie.Need-enum-known-heading
+enum-known-heading c = search needs
 
 -- no text has more steps than there is room for
-few : (c : tie.After-known-told2) → c .before .count .given .0 .0 ≤ 10922
+few : (c : tie.After-known-told2) → c .before .heading .given .0 .1 .0 ≤ 10922
 few c =
     let a = c .before .before .before .before .before .before .before .before .before .args in
     let r = c .before .before .before .before .read-table in
-    answer-few (a .text .now) (a .list .now) _ _ (r .result) (c .before .before .before .before .before .before .if1 .left) (r .ensures) _ (c .before .count .given .1)
+    answer-few (a .text .now) (a .list .now) _ _ (r .result) (c .before .before .before .before .before .before .if1 .left) (r .ensures) _ _ (c .before .heading .given .1)
 
 mul-bytes : tie.Need-mul-bytes
 mul-bytes c = record { fits = omega (arith, few c) }
@@ -37,7 +37,7 @@ returns-2 : tie.Need-returns-2
 returns-2 c =
     let a = c .before .before .before .before .before .before .before .before .before .before .args in
     let r = c .before .before .before .before .before .read-table in
-    answer-short (a .text .now) (a .list .now) _ _ (r .result) (c .before .before .before .before .before .before .before .if1 .left) (r .ensures) _ (c .before .before .count .given .1) (c .if2 .taken)
+    answer-short (a .text .now) (a .list .now) _ _ (r .result) (c .before .before .before .before .before .before .before .if1 .left) (r .ensures) _ _ (c .before .before .heading .given .1) (c .if2 .taken)
 
 array-share-prefix-room : tie.Need-array-share-prefix-room
 array-share-prefix-room c = omega (arith, few (c .before))
@@ -47,8 +47,8 @@ slice-aggregate-put-text c = sym (length-take-le _ _ (omega (arith, few (c .befo
 
 put-text-requires : tie.Need-put-text-requires
 put-text-requires c κs =
-    let n = c .before .before .before .before .count .given .0 .0 in
-    omega (arith, length-take-le (12 * n) (c .before .before .before .before .before .before .before .read-table .last .1 .0) (omega (arith, few (c .before .before .before))))
+    let n = c .before .before .before .before .heading .given .0 .1 .0 in
+    omega (arith, length-take-le (24 * n) (c .before .before .before .before .before .before .before .read-table .last .1 .0) (omega (arith, few (c .before .before .before))))
 
 returns-3 : tie.Need-returns-3
 returns-3 c =
@@ -63,7 +63,7 @@ returns-4 : tie.Need-returns-4
 returns-4 c =
     let a = c .before .before .before .before .before .before .before .before .before .before .before .before .before .before .before .args in
     let r = c .before .before .before .before .before .before .before .before .before .before .read-table in
-    answer-stored (a .text .now) (a .list .now) _ _ (r .result) (c .before .before .before .before .before .before .before .before .before .before .before .before .if1 .left) (r .ensures) _ (c .before .before .before .before .before .before .before .count .given .1) _ (c .before .before .before .before .before .if2 .left) (c .before .before .put-text .ensures .1)
+    answer-stored (a .text .now) (a .list .now) _ _ (r .result) (c .before .before .before .before .before .before .before .before .before .before .before .before .if1 .left) (r .ensures) _ _ (c .before .before .before .before .before .before .before .heading .given .1) _ (c .before .before .before .before .before .if2 .left) (c .before .before .put-text .ensures .1)
 
 pub read-log-spec : {M : Type 1} → statement M
 read-log-spec =
@@ -73,7 +73,7 @@ read-log-spec =
     slice-aggregate-read-table
     read-table-requires
     enum-known-r
-    enum-known-count
+    enum-known-heading
     mul-bytes
     returns-2
     array-share-prefix-room

@@ -25,8 +25,8 @@ slice-aggregate-form-of c =
 form-of-requires : tie.Need-form-of-requires
 form-of-requires c κs = search needs
 
-enum-told : tie.Need-enum-told
-enum-told c = search needs
+enum-known-form : tie.Need-enum-known-form
+enum-known-form c = search needs
 
 add-from : tie.Need-add-from
 add-from c = search needs
@@ -43,21 +43,21 @@ part-read-lines-end c = search needs
 read-lines-requires : tie.Need-read-lines-requires
 read-lines-requires c κs = search needs
 
-enum-told-2 : tie.Need-enum-told-2
-enum-told-2 c = search needs
+enum-told : tie.Need-enum-told
+enum-told c = search needs
 
 same-length : tie.Need-same-length
 same-length c = search needs
 
 returns-3 : tie.Need-returns-3
 returns-3 c =
-    let a = c .before .before .before .before .before .before .before .before .before .before .before .before .before .before .args in
-    table-read (a .text .now) (a .list .now) (c .before .before .before .before .before .before .before .before .before .before .find .result) (c .before .before .before .before .before .before .before .before .before .before .find .ensures) (c .before .before .before .before .before .before .before .form-of .result) (c .before .before .before .before .before .before .before .before .before .if2 .left) (c .before .before .before .before .before .before .before .form-of .ensures) _ _ _ (c .before .before .before .before .before .enum-told .given .1) (c .before .before .read-lines .ensures)
+    let a = c .before .before .before .before .before .before .before .before .before .before .before .before .before .before .before .args in
+    table-read (a .text .now) (a .list .now) (c .before .before .before .before .before .before .before .before .before .before .before .find .result) (c .before .before .before .before .before .before .before .before .before .before .before .find .ensures) (c .before .before .before .before .before .before .before .before .form-of .result) (c .before .before .before .before .before .before .before .before .before .before .if2 .left) (c .before .before .before .before .before .before .before .before .form-of .ensures) _ _ _ (c .before .before .before .before .before .before .form .given .1) (c .before .before .read-lines .ensures)
 
 returns-4 : tie.Need-returns-4
 returns-4 c =
     let a = c .before .before .before .before .before .before .before .before .before .args in
-    table-unknown (a .text .now) (a .list .now) (c .before .before .before .before .before .find .result) (c .before .before .before .before .before .find .ensures) (c .before .before .form-of .result) (c .before .before .before .before .if2 .left) (c .before .before .form-of .ensures) (c .enum-told2 .given .1)
+    table-unknown (a .text .now) (a .list .now) (c .before .before .before .before .before .find .result) (c .before .before .before .before .before .find .ensures) (c .before .before .form-of .result) (c .before .before .before .before .if2 .left) (c .before .before .form-of .ensures) (c .enum-told .given .1)
 
 pub read-table-spec : {M : Type 1} → statement M
 read-table-spec =
@@ -68,13 +68,13 @@ read-table-spec =
     returns-2
     slice-aggregate-form-of
     form-of-requires
-    enum-told
+    enum-known-form
     add-from
     sub-read-lines
     part-read-lines-start
     part-read-lines-end
     read-lines-requires
-    enum-told-2
+    enum-told
     same-length
     returns-3
     returns-4)

@@ -7,7 +7,7 @@ use native.Mathlib.Omega.{arith}
 use borrow.Author.Needs.{needs}
 use borrow.Author.Tests.{le-leb, lt-leb}
 use Rattle.landlord.specs.Catalog.{itemInRange}
-use Rattle.season_lines.specs.Lines.{itemFrom}
+use Rattle.landlord.specs.Catalog.{listed}
 use Rattle.season_lines.proofs.Laws.{both-yes, told-no, told-yes, item-bounds, itemShape, item-malformed, item-far, item-good}
 use Rattle.season_lines.proofs.item_line.Statement.{statement}
 use Rattle.season_lines.proofs.item_line.Tie as tie
@@ -59,8 +59,8 @@ value-in-requires-3 c κs = search needs
 value-in-requires-4 : tie.Need-value-in-requires-4
 value-in-requires-4 c κs = search needs
 
-is-item-requires : tie.Need-is-item-requires
-is-item-requires c κs = search needs
+item-in-range-requires : tie.Need-item-in-range-requires
+item-in-range-requires c κs = search needs
 
 returns-2 : tie.Need-returns-2
 returns-2 c =
@@ -76,8 +76,8 @@ returns-2 c =
 ranged :
     (c : tie.Else6) →
     (let v = c .before .before .before in
-    itemInRange (itemFrom (v .before .before .value-in2 .result) (v .before .value-in3 .result) (v .value-in4 .result)) ≡ true)
-ranged c = told-yes _ _ (c .before .is-item .ensures) (c .if6 .left)
+    itemInRange (listed (v .before .before .value-in2 .result) (v .before .value-in3 .result) (v .value-in4 .result)) ≡ true)
+ranged c = told-yes _ _ (c .before .item-in-range .ensures) (c .if6 .left)
 
 bounds :
     (c : tie.Else6) →
@@ -119,7 +119,7 @@ item-line-spec =
     value-in-requires-2
     value-in-requires-3
     value-in-requires-4
-    is-item-requires
+    item-in-range-requires
     returns-2
     cast-t23
     cast-t24

@@ -49,13 +49,33 @@ returns-3 c =
     let whole = c .before .before .before .before .before .before .before in
     c .item-line .ensures ∙ line-1 _ _ _ _ _ (omega arith) (whole .before .before .pre .some) (full whole) (c .before .before .if3 .taken)
 
+array-copy-out-value-field : tie.Need-array-copy-out-value-field
+array-copy-out-value-field c = search needs
+
+value-field-requires : tie.Need-value-field-requires
+value-field-requires c κs = search needs
+
+array-copy-out-value-field-2 : tie.Need-array-copy-out-value-field-2
+array-copy-out-value-field-2 c = search needs
+
+value-field-requires-2 : tie.Need-value-field-requires-2
+value-field-requires-2 c κs = search needs
+
+array-copy-out-value-field-3 : tie.Need-array-copy-out-value-field-3
+array-copy-out-value-field-3 c = search needs
+
+value-field-requires-3 : tie.Need-value-field-requires-3
+value-field-requires-3 c κs = search needs
+
 step-line-requires : tie.Need-step-line-requires
 step-line-requires c κs = search needs
 
 returns-4 : tie.Need-returns-4
 returns-4 c =
-    let whole = c .before .before .before .before .before .before .before in
-    c .step-line .ensures ∙ line-2 _ _ _ _ _ (omega arith) (whole .before .before .pre .some) (full whole) (c .before .if4 .taken)
+    let values = c .before .before .before .before .before .before in
+    let whole = values .before .before .before .before .before .before .before in
+    c .step-line .ensures
+    ∙ line-2 _ _ _ _ _ (omega arith) (whole .before .before .pre .some) (full whole) (values .before .if4 .taken) _ _ _ (c .before .before .before .before .before .value-field .ensures) (c .before .before .before .value-field2 .ensures) (c .before .value-field3 .ensures)
 
 act-line-requires : tie.Need-act-line-requires
 act-line-requires c κs = search needs
@@ -80,6 +100,12 @@ line-in-spec =
     array-copy-out-item-line
     item-line-requires
     returns-3
+    array-copy-out-value-field
+    value-field-requires
+    array-copy-out-value-field-2
+    value-field-requires-2
+    array-copy-out-value-field-3
+    value-field-requires-3
     step-line-requires
     returns-4
     act-line-requires

@@ -1,6 +1,5 @@
 -- `season_log::line_bytes` meets its contract: each way through the tests is a law of proofs/Writing.antt. Assumes nothing.
 use mathlib.Core.Path.{_≡_, sym, ap, _∙_}
-use mathlib.Core.Logic.{_≢_}
 use mathlib.Core.Bool.{true}
 use Prim.Native.Nat.{ℕ, _+_, _≤_}
 use native.Mathlib.Omega.{arith}
@@ -9,118 +8,152 @@ use borrow.Author.Tests.{not-true, not-false}
 use lib.ListN.{length}
 use Rattle.decimal.specs.Decimal.{digitsOf}
 use Rattle.landlord.specs.Calls.{inRange}
-use Rattle.season_log.specs.Log.{listNumber}
-use Rattle.season_log.specs.Inner.{rangedAt}
-use Rattle.season_log.proofs.Writing.{item-range, minutes-range, item-digits, minutes-digits, flush-line, read-line, write-line, no-line}
+use Rattle.season_log.specs.Inner.{lineBytes}
+use Rattle.season_log.proofs.Writing.{item-range, minutes-range, arrives, bytesOf, item-digits, minutes-digits, flush-line, no-line, read-line, write-line, gone-line, retire-line, arrive-line, is-arrival}
 use Rattle.season_log.proofs.line_bytes.Statement.{statement}
 use Rattle.season_log.proofs.line_bytes.Tie as tie
 
--- the numbers of the step
-abbrev kind : (s : tie.Start) → ℕ
-kind s = listNumber (s .args .at) (s .args .list .now)
+numbers-at-requires : tie.Need-numbers-at-requires
+numbers-at-requires c κs = search needs
 
-abbrev item : (s : tie.Start) → ℕ
-item s = listNumber (s .args .at + 4) (s .args .list .now)
+-- the step at the place is that of the numbers that were read
+here :
+    (c : tie.After-numbers-at) →
+    (let a = c .before .before .args in bytesOf (a .heading) (c .numbers-at .result) ≡ lineBytes (a .heading) (a .at) (a .list .now))
+here c = ap (bytesOf (c .before .before .args .heading)) (c .numbers-at .ensures)
 
-abbrev minutes : (s : tie.Start) → ℕ
-minutes s = listNumber (s .args .at + 8) (s .args .list .now)
+end-bytes-requires : tie.Need-end-bytes-requires
+end-bytes-requires c κs = search needs
 
-number-at-requires : tie.Need-number-at-requires
-number-at-requires c κs = search needs
+add-result : tie.Need-add-result
+add-result c = omega (arith, c .before .before .end-bytes .ensures .1)
 
 returns : tie.Need-returns
-returns c = let s = c .before .before .before in (flush-line (kind s) (item s) (minutes s) (sym (c .before .number-at .ensures) ∙ c .if1 .taken), omega arith)
-
-add-number-at : tie.Need-add-number-at
-add-number-at c = search needs
-
-number-at-requires-2 : tie.Need-number-at-requires-2
-number-at-requires-2 c κs = search needs
-
-add-number-at-2 : tie.Need-add-number-at-2
-add-number-at-2 c = search needs
-
-number-at-requires-3 : tie.Need-number-at-requires-3
-number-at-requires-3 c κs = search needs
+returns c =
+    let end = c .before .before .end-bytes in
+    (ap (λ (x : ℕ). 5 + x) (end .ensures .0) ∙ flush-line (c .before .before .before .before .before .args .heading) (c .before .before .before .numbers-at .result) (c .if1 .taken) ∙ here (c .before .before .before), omega (arith, end .ensures .1))
 
 in-range-requires : tie.Need-in-range-requires
 in-range-requires c κs = search needs
 
--- what was tested
-tested : (c : tie.After-in-range) → c .in-range .result ≡ rangedAt (c .before .before .before .before .before .before .args .at) (c .before .before .before .before .before .before .args .list .now)
-tested c = c .in-range .ensures ∙ (λ j. inRange (c .before .before .before .before .number-at .ensures j) (c .before .before .number-at2 .ensures j) (c .before .number-at3 .ensures j))
-
 returns-2 : tie.Need-returns-2
-returns-2 c = let s = c .before .before .before .before .before .before .before in (no-line (kind s) (item s) (minutes s) (sym (tested (c .before)) ∙ not-true _ (c .if2 .taken)), omega arith)
+returns-2 c =
+    (no-line (c .before .before .before .before .before .before .before .args .heading) (c .before .before .before .before .before .numbers-at .result) (sym (c .before .in-range .ensures) ∙ not-true _ (c .if2 .taken)) ∙ here (c .before .before .before .before .before), omega arith)
 
 -- past the test the step is in range, and no landing
-ranged : (c : tie.Else2) → rangedAt (c .before .before .before .before .before .before .before .args .at) (c .before .before .before .before .before .before .before .args .list .now) ≡ true
-ranged c = sym (tested (c .before)) ∙ not-false _ (c .if2 .left)
+ranged : (c : tie.Else2) → inRange (c .before .before .before .before .before .numbers-at .result) ≡ true
+ranged c = sym (c .before .in-range .ensures) ∙ not-false _ (c .if2 .left)
 
-no-flush : (c : tie.Else2) → kind (c .before .before .before .before .before .before .before) ≢ 76
-no-flush c e = c .before .before .before .before .if1 .left (c .before .before .before .before .before .number-at .ensures ∙ e)
-
-small : (c : tie.Else2) → item (c .before .before .before .before .before .before .before) ≤ 255
-small c = item-range (kind (c .before .before .before .before .before .before .before)) (item (c .before .before .before .before .before .before .before)) (minutes (c .before .before .before .before .before .before .before)) (no-flush c) (ranged c)
+small : (c : tie.Else2) → c .before .before .before .before .before .numbers-at .result .item ≤ 255
+small c = item-range (c .before .before .before .before .before .numbers-at .result) (c .before .before .if1 .left) (ranged c)
 
 short-width-requires : tie.Need-short-width-requires
-short-width-requires c κs = omega (arith, small c, c .before .before .before .number-at2 .ensures)
+short-width-requires c κs = omega (arith, small c)
 
--- the digits of the item are counted
-counted : (c : tie.After-short-width) → (c .short-width .result ≡ length (digitsOf (item (c .before .before .before .before .before .before .before .before)))) × (length (digitsOf (item (c .before .before .before .before .before .before .before .before))) ≤ 3)
-counted c = (c .short-width .ensures ∙ ap (λ (x : ℕ). length (digitsOf x)) (c .before .before .before .before .number-at2 .ensures), item-digits (item (c .before .before .before .before .before .before .before .before)) (small (c .before)))
-
-add-result : tie.Need-add-result
-add-result c = omega (arith, counted (c .before))
-
-returns-3 : tie.Need-returns-3
-returns-3 c =
-    let s = c .before .before .before .before .before .before .before .before .before in
-    let l = read-line (kind s) (item s) (minutes s) (sym (c .before .before .before .before .before .before .before .number-at .ensures) ∙ c .if3 .taken) (ranged (c .before .before)) in
-    (ap (λ (n : ℕ). 5 + n) (counted (c .before) .0) ∙ l, omega (arith, counted (c .before)))
+-- the digits of the item are counted, and the end of the line
+counted :
+    (c : tie.After-short-width) →
+    (let d = length (digitsOf (c .before .before .before .before .before .before .numbers-at .result .item)) in (c .short-width .result ≡ d) × (d ≤ 3) × (c .before .before .before .before .before .end-bytes .result ≤ 7))
+counted c = (c .short-width .ensures, item-digits _ (small (c .before)), c .before .before .before .before .before .end-bytes .ensures .1)
 
 add-result-2 : tie.Need-add-result-2
-add-result-2 c = omega (arith, counted (c .before))
-
--- past the last test it is a write
-no-read : (c : tie.Else3) → kind (c .before .before .before .before .before .before .before .before .before) ≢ 82
-no-read c e = c .if3 .left (c .before .before .before .before .before .before .before .number-at .ensures ∙ e)
-
-few : (c : tie.Else3) → minutes (c .before .before .before .before .before .before .before .before .before) ≤ 1440
-few c = minutes-range (kind (c .before .before .before .before .before .before .before .before .before)) (item (c .before .before .before .before .before .before .before .before .before)) (minutes (c .before .before .before .before .before .before .before .before .before)) (no-flush (c .before .before)) (no-read c) (ranged (c .before .before))
-
-short-width-requires-2 : tie.Need-short-width-requires-2
-short-width-requires-2 c κs = omega (arith, few c, c .before .before .before .before .number-at3 .ensures)
-
--- and those of the minutes
-counted-2 : (c : tie.After-short-width2) → (c .short-width2 .result ≡ length (digitsOf (minutes (c .before .before .before .before .before .before .before .before .before .before)))) × (length (digitsOf (minutes (c .before .before .before .before .before .before .before .before .before .before))) ≤ 4)
-counted-2 c = (c .short-width2 .ensures ∙ ap (λ (x : ℕ). length (digitsOf x)) (c .before .before .before .before .before .number-at3 .ensures), minutes-digits (minutes (c .before .before .before .before .before .before .before .before .before .before)) (few (c .before)))
+add-result-2 c = omega (arith, counted (c .before .before))
 
 add-result-3 : tie.Need-add-result-3
-add-result-3 c = omega (arith, counted (c .before .before), counted-2 c)
+add-result-3 c = omega (arith, counted (c .before .before))
+
+returns-3 : tie.Need-returns-3
+returns-3 c = (
+  (λ j. 4 + c .before .before .short-width .ensures j + c .before .before .before .before .before .before .before .end-bytes .ensures .0 j)
+      ∙ read-line (c .before .before .before .before .before .before .before .before .before .before .args .heading) (c .before .before .before .before .before .before .before .before .numbers-at .result) (ranged (c .before .before .before)) (c .if3 .taken)
+      ∙ here (c .before .before .before .before .before .before .before .before),
+  omega (arith, counted (c .before .before)),
+)
+
+add-result-4 : tie.Need-add-result-4
+add-result-4 c = omega (arith, counted (c .before .before .before .before))
+
+few : (c : tie.Then4) → c .before .before .before .before .before .before .before .before .before .before .numbers-at .result .minutes ≤ 1440
+few c = minutes-range (c .before .before .before .before .before .before .before .before .before .before .numbers-at .result) (c .if4 .taken) (ranged (c .before .before .before .before .before))
+
+short-width-requires-2 : tie.Need-short-width-requires-2
+short-width-requires-2 c κs = omega (arith, few c)
+
+-- and those of the minutes
+counted-2 :
+    (c : tie.After-short-width2) →
+    (let d = length (digitsOf (c .before .before .before .before .before .before .before .before .before .before .before .numbers-at .result .minutes)) in (c .short-width2 .result ≡ d) × (d ≤ 4))
+counted-2 c = (c .short-width2 .ensures, minutes-digits _ (few (c .before)))
+
+add-result-5 : tie.Need-add-result-5
+add-result-5 c = omega (arith, counted (c .before .before .before .before .before), counted-2 c)
+
+add-result-6 : tie.Need-add-result-6
+add-result-6 c = omega (arith, counted (c .before .before .before .before .before), counted-2 c)
 
 returns-4 : tie.Need-returns-4
-returns-4 c =
-    let s = c .before .before .before .before .before .before .before .before .before .before in
-    let l = write-line (kind s) (item s) (minutes s) (no-flush (c .before .before .before)) (no-read (c .before)) (ranged (c .before .before .before)) in
-    ((λ j. 4 + counted (c .before .before) .0 j + counted-2 c .0 j) ∙ l, omega (arith, counted (c .before .before), counted-2 c))
+returns-4 c = (
+  (λ j. 3 + c .before .before .before .before .before .short-width .ensures j + c .short-width2 .ensures j + c .before .before .before .before .before .before .before .before .before .before .end-bytes .ensures .0 j)
+      ∙ write-line (c .before .before .before .before .before .before .before .before .before .before .before .before .before .args .heading) (c .before .before .before .before .before .before .before .before .before .before .before .numbers-at .result) (ranged (c .before .before .before .before .before .before)) (c .before .if4 .taken)
+      ∙ here (c .before .before .before .before .before .before .before .before .before .before .before),
+  omega (arith, counted (c .before .before .before .before .before), counted-2 c),
+)
+
+returns-5 : tie.Need-returns-5
+returns-5 c = (
+  gone-line (c .before .before .before .before .before .before .before .before .before .before .before .before .before .args .heading) (c .before .before .before .before .before .before .before .before .before .before .before .numbers-at .result) (ranged (c .before .before .before .before .before .before)) (c .before .before .before .before .before .before .before .before .if1 .left) (c .before .before .before .if3 .left) (c .before .if4 .left) (c .if5 .taken)
+      ∙ here (c .before .before .before .before .before .before .before .before .before .before .before),
+  omega arith,
+)
+
+add-result-7 : tie.Need-add-result-7
+add-result-7 c = omega (arith, counted (c .before .before .before .before .before .before .before))
+
+add-result-8 : tie.Need-add-result-8
+add-result-8 c = omega (arith, counted (c .before .before .before .before .before .before .before))
+
+returns-6 : tie.Need-returns-6
+returns-6 c = (
+  (λ j. 4 + c .before .before .before .before .before .before .before .short-width .ensures j + c .before .before .before .before .before .before .before .before .before .before .before .before .end-bytes .ensures .0 j)
+      ∙ retire-line (c .before .before .before .before .before .before .before .before .before .before .before .before .before .before .before .args .heading) (c .before .before .before .before .before .before .before .before .before .before .before .before .before .numbers-at .result) (ranged (c .before .before .before .before .before .before .before .before)) (c .before .before .if5 .left) (c .if6 .taken)
+      ∙ here (c .before .before .before .before .before .before .before .before .before .before .before .before .before),
+  omega (arith, counted (c .before .before .before .before .before .before .before)),
+)
+
+-- past the last test it is an arrival
+arrival : (c : tie.Else6) → c .before .before .before .before .before .before .before .before .before .before .before .before .before .numbers-at .result .kind ≡ 65
+arrival c = is-arrival (c .before .before .before .before .before .before .before .before .before .before .before .before .before .before .before .args .heading) (c .before .before .before .before .before .before .before .before .before .before .before .before .before .numbers-at .result) (ranged (c .before .before .before .before .before .before .before .before)) (c .before .before .before .before .before .before .before .before .before .before .if1 .left) (c .before .before .before .before .before .if3 .left) (c .before .before .before .if4 .left) (c .if6 .left)
+
+arrival-bytes-requires : tie.Need-arrival-bytes-requires
+arrival-bytes-requires c κs = arrives (c .before .before .before .before .before .before .before .before .before .before .before .before .before .numbers-at .result) (arrival c) (ranged (c .before .before .before .before .before .before .before .before))
+
+returns-7 : tie.Need-returns-7
+returns-7 c =
+    let r = c .arrival-bytes .ensures in
+    (r .0 ∙ arrive-line (c .before .before .before .before .before .before .before .before .before .before .before .before .before .before .before .before .args .heading) (c .before .before .before .before .before .before .before .before .before .before .before .before .before .before .numbers-at .result) (ranged (c .before .before .before .before .before .before .before .before .before)) (c .before .before .before .if5 .left) (arrival (c .before)) ∙ here (c .before .before .before .before .before .before .before .before .before .before .before .before .before .before), r .1)
 
 pub line-bytes-spec : {M : Type 1} → statement M
 line-bytes-spec =
     tie.close
     (tie.spec
-    number-at-requires
+    numbers-at-requires
+    end-bytes-requires
+    add-result
     returns
-    add-number-at
-    number-at-requires-2
-    add-number-at-2
-    number-at-requires-3
     in-range-requires
     returns-2
     short-width-requires
-    add-result
-    returns-3
     add-result-2
-    short-width-requires-2
     add-result-3
-    returns-4)
+    returns-3
+    add-result-4
+    short-width-requires-2
+    add-result-5
+    add-result-6
+    returns-4
+    returns-5
+    add-result-7
+    add-result-8
+    returns-6
+    arrival-bytes-requires
+    returns-7)

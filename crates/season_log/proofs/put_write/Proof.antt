@@ -1,23 +1,24 @@
 -- `season_log::put_write` meets its contract: each part is written behind the one before it. Assumes nothing.
-use mathlib.Core.List.{List, [], _++_}
+use mathlib.Core.Path.{sym}
+use mathlib.Core.List.{List, [], _++_, append-nil}
 use Prim.Native.Nat.{ℕ, _+_, _-_}
 use native.Mathlib.Omega.{arith}
 use borrow.Author.Needs.{needs}
 use borrow.Rule.Slice.PartMut.{putMid}
 use lib.ListN.{length}
 use Rattle.decimal.specs.Decimal.{textOf, digitsOf}
-use Rattle.decimal.proofs.Pages.{TextGoing, go-first, go-room, go-next, go-end}
+use Rattle.decimal.proofs.Pages.{TextGoing, go-first, go-as, go-room, go-next, go-end}
 use Rattle.types.specs.declared.Step.the-variants.{Write}
-use Rattle.season_log.specs.Log.{stepText}
+use Rattle.season_log.specs.Log.{noValues, stepText}
 use Rattle.season_log.proofs.put_write.Statement.{statement}
 use Rattle.season_log.proofs.put_write.Tie as tie
 
 -- the line, and what of it is left behind the item
 abbrev whole : (s : tie.Start) → List ℕ
-whole s = stepText (Write (s .args .item) (s .args .minutes))
+whole s = stepText (s .args .heading) (Write (s .args .item) (s .args .minutes))
 
 abbrev late : (s : tie.Start) → List ℕ
-late s = digitsOf (s .args .minutes) ++ textOf "\n"
+late s = digitsOf (s .args .minutes) ++ noValues (s .args .heading)
 
 slice-aggregate-put-text : tie.Need-slice-aggregate-put-text
 slice-aggregate-put-text c = search needs
@@ -105,47 +106,45 @@ part-put-short-end-2 : tie.Need-part-put-short-end-2
 part-put-short-end-2 c = search needs
 
 put-short-requires-2 : tie.Need-put-short-requires-2
-put-short-requires-2 c κs = let s = c .before .before .before .before .before .before .before .before .before .before .before .before .before .before .before .before in (omega (arith, s .pre .1), go-room (s .pre .2) _ (digitsOf (s .args .minutes)) (textOf "\n") _ (spaced (c .before .before .before)))
+put-short-requires-2 c κs = let s = c .before .before .before .before .before .before .before .before .before .before .before .before .before .before .before .before in (omega (arith, s .pre .1), go-room (s .pre .2) _ (digitsOf (s .args .minutes)) (noValues (s .args .heading)) _ (spaced (c .before .before .before)))
 
 -- the minutes are written
 timed :
     (c : tie.After-put-short2) →
     (let s = c .before .before .before .before .before .before .before .before .before .before .before .before .before .before .before .before .before in
     let p = c .before .before .before .before in
-    TextGoing (whole s) (s .args .page .now) (far-3 p + c .put-short2 .result) (textOf "\n")
+    TextGoing (whole s) (s .args .page .now) (far-3 p + c .put-short2 .result) (noValues (s .args .heading))
     (putMid (far-3 p) (length (page-3 p) - far-3 p) (page-3 p) (c .put-short2 .last .1 .0)))
 timed c =
     let s = c .before .before .before .before .before .before .before .before .before .before .before .before .before .before .before .before .before in
-    go-next (s .pre .2) (digitsOf (s .args .minutes)) (textOf "\n") (spaced (c .before .before .before .before)) (c .put-short2 .ensures .0) (c .put-short2 .ensures .1)
+    go-next (s .pre .2) (digitsOf (s .args .minutes)) (noValues (s .args .heading)) (spaced (c .before .before .before .before)) (c .put-short2 .ensures .0) (c .put-short2 .ensures .1)
 
 add-at-3 : tie.Need-add-at-3
 add-at-3 c = omega (arith, c .before .before .before .before .before .before .before .before .before .before .before .before .before .before .before .before .before .before .before .pre .2, timed (c .before .before))
 
-slice-aggregate-put-text-3 : tie.Need-slice-aggregate-put-text-3
-slice-aggregate-put-text-3 c = search needs
+sub-put-end : tie.Need-sub-put-end
+sub-put-end c = omega (arith, c .before .before .before .before .before .before .before .before .before .before .before .before .before .before .before .before .before .before .before .pre .2, timed (c .before .before))
 
-sub-put-text-2 : tie.Need-sub-put-text-2
-sub-put-text-2 c = omega (arith, c .before .before .before .before .before .before .before .before .before .before .before .before .before .before .before .before .before .before .before .before .pre .2, timed (c .before .before .before))
+part-put-end-start : tie.Need-part-put-end-start
+part-put-end-start c = sub-put-end c
 
-part-put-text-start-2 : tie.Need-part-put-text-start-2
-part-put-text-start-2 c = sub-put-text-2 c
+part-put-end-end : tie.Need-part-put-end-end
+part-put-end-end c = search needs
 
-part-put-text-end-2 : tie.Need-part-put-text-end-2
-part-put-text-end-2 c = search needs
-
-put-text-requires-3 : tie.Need-put-text-requires-3
-put-text-requires-3 c κs = go-room (c .before .before .before .before .before .before .before .before .before .before .before .before .before .before .before .before .before .before .before .before .before .pre .2) _ (textOf "\n") [] _ (timed (c .before .before .before .before))
+put-end-requires : tie.Need-put-end-requires
+put-end-requires c κs = let s = c .before .before .before .before .before .before .before .before .before .before .before .before .before .before .before .before .before .before .before .before in go-room (s .pre .2) _ (noValues (s .args .heading)) [] _ (go-as (sym (append-nil _)) (timed (c .before .before .before)))
 
 same-length : tie.Need-same-length
 same-length c = search needs
 
 returns : tie.Need-returns
 returns c =
-    let p = c .before .before .put-text3 in
-    go-end (go-next (c .before .before .before .before .before .before .before .before .before .before .before .before .before .before .before .before .before .before .before .before .before .before .before .before .pre .2) (textOf "\n") [] (timed (c .before .before .before .before .before .before .before)) (p .ensures .0) (p .ensures .1))
+    let s = c .before .before .before .before .before .before .before .before .before .before .before .before .before .before .before .before .before .before .before .before .before .before .before in
+    let p = c .before .before .put-end in
+    go-end (go-next (s .pre .2) (noValues (s .args .heading)) [] (go-as (sym (append-nil _)) (timed (c .before .before .before .before .before .before))) (p .ensures .0) (p .ensures .1))
 
 add-result : tie.Need-add-result
-add-result c = omega (arith, c .before .before .before .before .before .before .before .before .before .before .before .before .before .before .before .before .before .before .before .before .before .before .before .before .pre .2, returns c .0)
+add-result c = omega (arith, c .before .before .before .before .before .before .before .before .before .before .before .before .before .before .before .before .before .before .before .before .before .before .before .pre .2, returns c .0)
 
 pub put-write-spec : {M : Type 1} → statement M
 put-write-spec =
@@ -169,11 +168,10 @@ put-write-spec =
     part-put-short-end-2
     put-short-requires-2
     add-at-3
-    slice-aggregate-put-text-3
-    sub-put-text-2
-    part-put-text-start-2
-    part-put-text-end-2
-    put-text-requires-3
+    sub-put-end
+    part-put-end-start
+    part-put-end-end
+    put-end-requires
     add-result
     same-length
     returns)

@@ -58,13 +58,13 @@ act-requires : tie.Need-act-requires Inv-loop μ-loop
 act-requires c κs =
     let s = c .before .before .before .before .before .before .before .before .before in
     let l = c .before .before .before .before .before .before .loop in
-    acting-known (s .args .seen) (s .args .catalog .now) (s .args .acts .now) (s .args .p) (s .args .first) (s .args .step) (s .pre) (l .q) (l .a) (l .inv) (omega arith)
+    acting-known (s .args .seen) (s .args .catalog .now) (s .args .acts .now) (s .args .p) (s .args .first) (s .args .step) (s .pre) (l .q) (l .a) (l .inv) (omega arith) (c .before .before .if2 .left)
 
 returns : tie.Need-returns Inv-loop μ-loop
 returns c =
     let s = c .before .before .before .before .before .before .before .before .before .before .before .before in
     let l = c .before .before .before .before .before .before .before .before .before .loop in (
-      acting-fails (s .args .seen) (s .args .catalog .now) (s .args .acts .now) (s .args .p) (s .args .first) (s .args .step) (s .pre) (l .q) (l .a) (l .inv) (omega arith) (c .before .before .act .result) (c .before .before .act .ensures) (c .before .before .before .before .before .if2 .left) _ (c .if3 .taken) refl refl,
+      acting-fails (s .args .seen) (s .args .catalog .now) (s .args .acts .now) (s .args .p) (s .args .first) (s .args .step) (s .pre) (l .q) (l .a) (l .inv) (omega arith) (c .before .before .before .before .before .if2 .left) (c .before .before .act .result) (c .before .before .act .ensures) _ (c .if3 .taken) refl refl,
       record { next = omega arith; fault = λ e. omega arith; paid = λ e. absurd (c .if3 .taken e) },
     )
 
@@ -78,7 +78,7 @@ loop-again : tie.Need-loop-again Inv-loop μ-loop
 loop-again c =
     let s = c .before .before .before .before .before .before .before .before .before .before .before .before in
     let l = c .before .before .before .before .before .before .before .before .before .loop in
-    acting-turn (s .args .seen) (s .args .catalog .now) (s .args .acts .now) (s .args .p) (s .args .first) (s .args .step) (s .pre) (l .q) (l .a) (l .inv) (omega arith) (c .before .before .act .result) (c .before .before .act .ensures) (c .before .before .before .before .before .if2 .left) (c .if3 .left)
+    acting-turn (s .args .seen) (s .args .catalog .now) (s .args .acts .now) (s .args .p) (s .args .first) (s .args .step) (s .pre) (l .q) (l .a) (l .inv) (omega arith) (c .before .before .before .before .before .if2 .left) (c .before .before .act .result) (c .before .before .act .ensures) (c .if3 .left)
 
 returns-2 : tie.Need-returns-2 Inv-loop μ-loop
 returns-2 c =

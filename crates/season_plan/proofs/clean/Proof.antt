@@ -11,13 +11,13 @@ use Rattle.season_plan.proofs.clean.Statement.{statement}
 use Rattle.season_plan.proofs.clean.Tie as tie
 
 abbrev Inv-loop : tie.InvT-loop
-Inv-loop n p q₀ i₀ q i = Cleaning n p q i × (length (q .marks) ≡ 256)
+Inv-loop p n q₀ i₀ q i = Cleaning p q i × (length (q .marks) ≡ 256)
 
 abbrev μ-loop : tie.MeasureT-loop
-μ-loop n p q₀ i₀ q i = n - i
+μ-loop p n q₀ i₀ q i = p .n - i
 
 loop-holds : tie.Need-loop-holds Inv-loop μ-loop
-loop-holds c = (clean-none (c .args .n) (c .args .t1), search needs)
+loop-holds c = (clean-none (c .args .t1), search needs)
 
 element-copy-out-if1 : tie.Need-element-copy-out-if1 Inv-loop μ-loop
 element-copy-out-if1 c = omega arith
@@ -37,17 +37,17 @@ loop-again c =
     let l = c .before .before .before .loop in
     by-cases (c .if1 .came)
     (λ w. (
-      clean-dirty (s .args .n) (s .args .t1) (l .q) (c .if1 .q) (l .i) (l .inv .0) (omega arith) (omega arith) (w .0 .taken)
+      clean-dirty (s .args .t1) (l .q) (c .if1 .q) (l .i) (l .inv .0) (omega arith) (omega arith) (w .0 .taken) (ap (λ (t : Copies). t .n) (w .1))
           (ap (λ (t : Copies). t .marks) (w .1)) (ap (λ (t : Copies). t .used) (w .1)) (ap (λ (t : Copies). t .paid) (w .1)),
       ap (λ (t : Copies). length (t .marks)) (w .1) ∙ length-set (l .q .marks) (l .i) 1 ∙ l .inv .1,
     ))
     (λ w. (
-      rw (w .1) (clean-other (s .args .n) (s .args .t1) (l .q) (l .i) (l .inv .0) (omega arith) (w .0 .left)),
+      rw (w .1) (clean-other (s .args .t1) (l .q) (l .i) (l .inv .0) (omega arith) (w .0 .left)),
       ap (λ (t : Copies). length (t .marks)) (w .1) ∙ l .inv .1,
     ))
 
 returns : tie.Need-returns Inv-loop μ-loop
-returns c = clean-all (c .before .before .args .n) (c .before .before .args .t1) (c .before .loop .q) (c .before .loop .i) (c .before .loop .inv .0) (omega arith)
+returns c = clean-all (c .before .before .args .t1) (c .before .loop .q) (c .before .loop .i) (c .before .loop .inv .0) (omega arith)
 
 pub clean-spec : {M : Type 1} → statement M
 clean-spec =

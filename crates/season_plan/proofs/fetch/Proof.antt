@@ -5,18 +5,21 @@ use native.Mathlib.Omega.{arith}
 use lib.ListN.{length}
 use borrow.Author.Needs.{needs}
 use Rattle.season_plan.specs.declared.Copies.{Copies}
-use Rattle.season_plan.proofs.Deeds.{fetch-fails, fetch-does, used-most}
+use Rattle.season_plan.proofs.Deeds.{few-items, fetch-fails, fetch-does, used-most}
 use Rattle.season_plan.proofs.fetch.Statement.{statement}
 use Rattle.season_plan.proofs.fetch.Tie as tie
 
--- the item has a place among the marks
+-- the item has a place, and one among the marks
+low : (c : tie.Start) → c .args .item < 256
+low c = omega (arith, c .pre .known, few-items (c .args .catalog .now) (c .args .t2) (c .pre .ready))
+
 placed : (c : tie.Start) → c .args .item < length (c .args .t2 .marks)
 placed c =
     let full : length (c .args .t2 .marks) ≡ 256 = search needs in
-    omega (arith, c .pre .known, c .pre .ready .few)
+    omega (arith, low c)
 
 element-copy-out-if1 : tie.Need-element-copy-out-if1
-element-copy-out-if1 c = search needs
+element-copy-out-if1 c = omega (arith, low (c .before))
 
 failed-requires : tie.Need-failed-requires
 failed-requires c κs = search needs
@@ -27,10 +30,10 @@ returns c =
     fetch-fails (s .args .catalog .now) (s .args .t2) (s .args .item) (s .pre .known) (placed s) (c .failed .result) (c .before .if1 .taken) (c .failed .ensures)
 
 element-write-q : tie.Need-element-write-q
-element-write-q c = search needs
+element-write-q c = omega (arith, low (c .before .before .before))
 
 blocks-requires : tie.Need-blocks-requires
-blocks-requires c κs = search needs
+blocks-requires c κs = record { place = omega (arith, low (c .before .before .before)); inside = omega (arith, low (c .before .before .before), c .before .before .before .pre .ready .room) }
 
 cast-q : tie.Need-cast-q
 cast-q c = search needs
@@ -41,13 +44,13 @@ add-q c =
     omega (arith, used-most (s .args .catalog .now) (s .args .t2) (s .pre .ready), c .blocks2 .ok)
 
 load-cost-requires : tie.Need-load-cost-requires
-load-cost-requires c κs = search needs
+load-cost-requires c κs = record { place = omega (arith, low (c .before .before .before .before)); inside = omega (arith, low (c .before .before .before .before), c .before .before .before .before .pre .ready .room) }
 
 cast-q-2 : tie.Need-cast-q-2
 cast-q-2 c = search needs
 
 add-q-2 : tie.Need-add-q-2
-add-q-2 c = search needs
+add-q-2 c = omega (arith, c .before .before .before .before .before .pre .ready .low, c .load-cost .ok)
 
 done-requires : tie.Need-done-requires
 done-requires c κs = search needs
@@ -57,7 +60,7 @@ returns-2 c =
     let s = c .before .before .before .before .before .before in
     let is = c .done .ensures .1 in
     fetch-does (s .args .catalog .now) (s .args .t2) (s .args .item) (s .pre .known) (placed s) (c .done .result) (omega arith)
-    (c .done .ensures .0) (ap (λ (t : Copies). t .marks) is) (ap (λ (t : Copies). t .used) is ∙ ap (λ t. s .args .t2 .used + t) (c .before .before .blocks2 .ensures)) (ap (λ (t : Copies). t .paid) is ∙ ap (λ t. s .args .t2 .paid + t) (c .before .load-cost .ensures))
+    (c .done .ensures .0) (ap (λ (t : Copies). t .n) is) (ap (λ (t : Copies). t .marks) is) (ap (λ (t : Copies). t .used) is ∙ ap (λ t. s .args .t2 .used + t) (c .before .before .blocks2 .ensures)) (ap (λ (t : Copies). t .paid) is ∙ ap (λ t. s .args .t2 .paid + t) (c .before .load-cost .ensures))
 
 pub fetch-spec : {M : Type 1} → statement M
 fetch-spec =

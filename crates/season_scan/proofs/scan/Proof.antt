@@ -195,7 +195,7 @@ stopped-requires-2 c κs = search needs
 -- there is a place in the array for one field more
 place :
     (c : tie.Else4 Inv-loop μ-loop Inv-lines μ-lines) →
-    c .before .before .before .before .before .before .before .before .loop .count < 4
+    c .before .before .before .before .before .before .before .before .loop .count < 6
 place c =
     let l = c .before .before .before .before .before .before .before .before in
     let names = l .before .before .names-in in

@@ -1,12 +1,20 @@
 -- `season_tables::at_start` meets its contract: the struct, field by field. Assumes nothing.
+use borrow.Author.Needs.{needs}
 use mathlib.Core.Path.{refl}
 use Rattle.season_tables.proofs.at_start.Statement.{statement}
 use Rattle.season_tables.proofs.at_start.Tie as tie
 use Rattle.season_tables.proofs.at_start.Reads as reads
 use Rattle.season_tables.proofs.at_start.Lts as lts
+use Rattle.season_items.proofs.none_present.Reads as none-present-reads
+
+none-present-requires : tie.Need-none-present-requires
+none-present-requires c κs = search needs
+
+none-present-requires-2 : tie.Need-none-present-requires-2
+none-present-requires-2 c κs = search needs
 
 returns : tie.Need-returns
-returns c = refl
+returns c = rw (c .before .none-present .ensures, c .none-present2 .ensures)
 
 pub at-start-spec : {M : Type 1} → statement M
-at-start-spec = tie.close (tie.spec returns)
+at-start-spec = tie.close (tie.spec none-present-requires none-present-requires-2 returns)

@@ -1,9 +1,8 @@
 -- `season_tables::lead` meets its contract: each return is a law of proofs/Leads.antt. Assumes nothing.
 use borrow.Author.Needs.{needs}
-use mathlib.Core.Path.{sym, _∙_}
 use borrow.Author.Tests.{not-true, not-false}
 use lib.ListN.{take}
-use Rattle.season_tables.proofs.Leads.{line-numbered, lead-names, lead-values, lead-blank}
+use Rattle.season_tables.proofs.Leads.{line-of-table, lead-names, lead-values, lead-blank}
 use Rattle.season_tables.proofs.Keeps.{keeps-all}
 use Rattle.season_tables.proofs.lead.Statement.{statement}
 use Rattle.season_tables.proofs.lead.Tie as tie
@@ -40,7 +39,7 @@ take-line-requires c κs =
     let a = c .before .before .before .before .before .before .before .before .before .before .before .before .args in
     let p = c .before .before .before .before .before .before .before .before .before .before .before .before .pre in
     let line = c .before .before .before .line-in in
-    record { room = p .room; few = p .holds .few; numbered = line-numbered (a .seen .table) (a .seen .form) (take (a .count) (a .fields)) (a .at) (line .result) (line .ensures) }
+    record { room = p .room; read = p .read; holds = p .holds; ofTable = line-of-table (a .seen .table) (a .seen .form) (take (a .count) (a .fields)) (a .at) (line .result) (line .ensures) }
 
 same-length : tie.Need-same-length
 same-length c = search needs
@@ -56,7 +55,7 @@ returns-2 c =
     let a = c .before .before .before .before .before .before .before .before .before .before .before .before .before .before .before .before .before .before .before .args in
     let p = c .before .before .before .before .before .before .take-line in
     let line = c .before .before .before .before .before .before .before .before .before .before .line-in in (
-      lead-values (a .seen) (a .catalog .now) (a .calls .now) (a .acts .now) (a .text .now) (a .at) (p .result) (take (a .count) (a .fields)) (line .result) (p .last .1 .1 .1 .0) (p .last .1 .1 .1 .1 .0) (p .last .1 .1 .1 .1 .1 .0) (not-false _ (c .before .before .before .before .before .before .before .before .before .before .before .before .before .if1 .left)) (sym (c .before .before .before .before .before .before .before .before .before .before .before .before .wants-values .ensures) ∙ c .before .before .before .before .before .before .before .before .before .before .before .if2 .taken) (c .before .before .before .before .before .before .before .before .before .before .before .before .before .before .before .before .before .before .before .pre .looked) (line .ensures) (p .ensures .0),
+      lead-values (a .seen) (a .catalog .now) (a .calls .now) (a .acts .now) (a .text .now) (a .at) (p .result) (take (a .count) (a .fields)) (line .result) (p .last .1 .1 .1 .0) (p .last .1 .1 .1 .1 .0) (p .last .1 .1 .1 .1 .1 .0) (c .before .before .before .before .before .before .before .before .before .before .before .before .wants-values .result) (not-false _ (c .before .before .before .before .before .before .before .before .before .before .before .before .before .if1 .left)) (c .before .before .before .before .before .before .before .before .before .before .before .before .wants-values .ensures) (c .before .before .before .before .before .before .before .before .before .before .before .if2 .taken) (c .before .before .before .before .before .before .before .before .before .before .before .before .before .before .before .before .before .before .before .pre .looked) (line .ensures) (p .ensures .0),
       p .ensures .1,
     )
 
@@ -66,7 +65,7 @@ take-blank-requires c κs = search needs
 returns-3 : tie.Need-returns-3
 returns-3 c =
     let a = c .before .before .before .before .before .before .before .before .before .args in (
-      lead-blank (a .seen) (a .catalog .now) (a .calls .now) (a .acts .now) (a .text .now) (a .at) (c .take-blank .result) (not-false _ (c .before .before .before .if1 .left)) (sym (c .before .before .wants-values .ensures) ∙ c .before .if2 .left) (c .take-blank .ensures .0),
+      lead-blank (a .seen) (a .catalog .now) (a .calls .now) (a .acts .now) (a .text .now) (a .at) (c .take-blank .result) (c .before .before .wants-values .result) (not-false _ (c .before .before .before .if1 .left)) (c .before .before .wants-values .ensures) (c .before .if2 .left) (c .take-blank .ensures .0),
       keeps-all (a .seen) (a .catalog .now) (a .calls .now) (a .acts .now) (c .take-blank .result) (c .take-blank .ensures .1),
     )
 

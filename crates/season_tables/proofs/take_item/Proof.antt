@@ -21,8 +21,8 @@ returns c =
 put-requires : tie.Need-put-requires
 put-requires c κs = search needs
 
-add-q : tie.Need-add-q
-add-q c = search needs
+add-n : tie.Need-add-n
+add-n c = search needs
 
 taken-requires : tie.Need-taken-requires
 taken-requires c κs = search needs
@@ -32,14 +32,14 @@ same-length c = search needs
 
 returns-2 : tie.Need-returns-2
 returns-2 c =
-    let a = c .before .before .before .before .before .before .before .before .args in
-    let p = c .before .before .before .put in
-    let asked = c .before .before .before .before .before .before .before .before .pre in (
-      item-next (a .seen) (a .catalog .now) (a .number) (a .blocks) (a .load) (a .write) (a .at) (c .taken .result) (p .last .0) (asked .1) (asked .0) (c .before .before .before .before .before .if1 .left) (c .taken .ensures .0) (c .taken .ensures .1) (p .ensures),
-      item-past (a .seen) (a .catalog .now) (a .number) (a .blocks) (a .load) (a .write) (a .at) (c .taken .result) (p .last .0) (asked .1) (asked .0) (c .taken .ensures .0) (c .taken .ensures .1) (p .ensures),
+    let a = c .before .before .before .before .before .before .before .before .before .before .args in
+    let p = c .before .before .before .before .before .put in
+    let asked = c .before .before .before .before .before .before .before .before .before .before .pre in (
+      item-next (a .seen) (a .catalog .now) (a .number) (a .blocks) (a .load) (a .write) (a .at) (c .taken .result) (p .last .0) (asked .2) (asked .0) (asked .1) (c .before .before .before .before .before .before .before .if1 .left) (c .taken .ensures .0) (c .taken .ensures .1) (p .ensures),
+      item-past (a .seen) (a .catalog .now) (a .number) (a .blocks) (a .load) (a .write) (a .at) (c .taken .result) (p .last .0) (asked .2) (asked .0) (c .taken .ensures .0) (c .taken .ensures .1) (p .ensures),
     )
 
 pub take-item-spec : {M : Type 1} → statement M
 take-item-spec =
     tie.close
-    (tie.spec stopped-requires returns put-requires add-q taken-requires same-length returns-2)
+    (tie.spec stopped-requires returns put-requires add-n taken-requires same-length returns-2)

@@ -1,6 +1,6 @@
 -- `season_tables::take_line` meets its contract: each arm leads where its line says. Assumes nothing.
 use borrow.Author.Needs.{needs}
-use Rattle.season_tables.proofs.Held.{line-says, line-refused, line-number}
+use Rattle.season_tables.proofs.Held.{line-says, line-refused, line-takeable}
 use Rattle.season_tables.proofs.Keeps.{stopped-keeps, keeps-all, keeps-items, keeps-steps, keeps-acts}
 use Rattle.season_tables.proofs.take_line.Statement.{statement}
 use Rattle.season_tables.proofs.take_line.Tie as tie
@@ -24,19 +24,24 @@ enum-known-line-2 c = search needs
 take-item-requires : tie.Need-take-item-requires
 take-item-requires c κs =
     let a = c .before .before .before .before .before .before .before .args in
-    (line-number (a .line) _ _ _ _ (c .before .before .line2 .given .1) (c .before .before .before .before .before .before .before .pre .numbered), c .before .before .before .before .before .before .before .pre .room .roomy .forItems)
+    let t = line-takeable (a .seen) (a .line) _ (a .catalog .now) (a .calls .now) (a .acts .now) (c .before .before .line2 .given .1) (c .before .before .before .before .before .before .before .pre) in
+    (t .ofTable .0, t .ofTable .1, t .room .roomy .forItems)
 
 enum-known-line-3 : tie.Need-enum-known-line-3
 enum-known-line-3 c = search needs
 
 take-step-requires : tie.Need-take-step-requires
-take-step-requires c κs = search needs
+take-step-requires c κs =
+    let a = c .before .before .before .before .before .before .before .before .args in
+    record { acts = a .acts .now; line = line-takeable (a .seen) (a .line) _ (a .catalog .now) (a .calls .now) (a .acts .now) (c .before .before .before .line3 .given .1) (c .before .before .before .before .before .before .before .before .pre) }
 
 enum-known-line-4 : tie.Need-enum-known-line-4
 enum-known-line-4 c = search needs
 
 take-act-requires : tie.Need-take-act-requires
-take-act-requires c κs = search needs
+take-act-requires c κs =
+    let a = c .before .before .before .before .before .before .before .before .args in
+    record { catalog = a .catalog .now; line = line-takeable (a .seen) (a .line) _ (a .catalog .now) (a .calls .now) (a .acts .now) (c .before .before .before .line4 .given .1) (c .before .before .before .before .before .before .before .before .pre) }
 
 enum-known-line-5 : tie.Need-enum-known-line-5
 enum-known-line-5 c = search needs
@@ -70,21 +75,24 @@ same-length-3 c = search needs
 
 returns-3 : tie.Need-returns-3
 returns-3 c =
-    let a = c .before .before .before .before .before .before .before .before .before .before .before .args in
-    let p = c .before .before .take-step in (
-      line-says (a .seen) (a .line) _ (a .at) (p .result) (a .catalog .now) (a .calls .now) (a .acts .now) (a .catalog .now) (p .last .1 .1 .1 .1 .0) (a .acts .now) (c .before .before .before .before .before .before .line3 .given .1) (p .ensures .0 (a .acts .now)),
-      keeps-steps (a .seen) (a .catalog .now) (a .calls .now) (a .acts .now) (p .result) (p .last .1 .1 .1 .1 .0) (p .ensures .1),
+    let a = c .before .before .before .before .before .before .before .before .before .before .before .before .before .args in
+    let p = c .before .before .before .before .take-step in (
+      line-says (a .seen) (a .line) _ (a .at) (p .result) (a .catalog .now) (a .calls .now) (a .acts .now) (p .last .1 .1 .1 .0) (p .last .1 .1 .1 .1 .0) (a .acts .now) (c .before .before .before .before .before .before .before .before .line3 .given .1) (p .ensures .0 (a .acts .now)),
+      keeps-steps (a .seen) (a .catalog .now) (a .calls .now) (a .acts .now) (p .result) (p .last .1 .1 .1 .0) (p .last .1 .1 .1 .1 .0) (p .ensures .1 .0) (p .ensures .1 .1),
     )
 
 same-length-4 : tie.Need-same-length-4
 same-length-4 c = search needs
 
+same-length-5 : tie.Need-same-length-5
+same-length-5 c = search needs
+
 returns-4 : tie.Need-returns-4
 returns-4 c =
-    let a = c .before .before .before .before .before .before .before .before .before .before .args in
+    let a = c .before .before .before .before .before .before .before .before .before .before .before .args in
     let p = c .before .before .take-act in (
-      line-says (a .seen) (a .line) _ (a .at) (p .result) (a .catalog .now) (a .calls .now) (a .acts .now) (a .catalog .now) (a .calls .now) (p .last .1 .1 .1 .1 .0) (c .before .before .before .before .before .line4 .given .1) (p .ensures .0 (a .catalog .now) (a .calls .now)),
-      keeps-acts (a .seen) (a .catalog .now) (a .calls .now) (a .acts .now) (p .result) (p .last .1 .1 .1 .1 .0) (p .ensures .1),
+      line-says (a .seen) (a .line) _ (a .at) (p .result) (a .catalog .now) (a .calls .now) (a .acts .now) (a .catalog .now) (a .calls .now) (p .last .1 .1 .1 .1 .1 .0) (c .before .before .before .before .before .before .line4 .given .1) (p .ensures .0 (a .catalog .now)),
+      keeps-acts (a .seen) (a .catalog .now) (a .calls .now) (a .acts .now) (p .result) (p .last .1 .1 .1 .1 .1 .0) (p .ensures .1),
     )
 
 returns-5 : tie.Need-returns-5
@@ -115,5 +123,6 @@ take-line-spec =
     same-length-3
     returns-3
     same-length-4
+    same-length-5
     returns-4
     returns-5)

@@ -1,13 +1,9 @@
 -- `season_text::answer` meets its contract. Assumes nothing.
-use mathlib.Core.Path.{_≡_, sym, subst}
-use Prim.Native.Nat.{_*_, _≤_}
-use native.Mathlib.Omega.{arith}
-use lib.ListN.{length, take}
-use lib.Seq.{length-take-le}
+use mathlib.Core.Path.{_≡_, subst}
+use lib.ListN.{length}
 use borrow.Author.Needs.{needs}
-use Rattle.season_tables.specs.Tables.{readingOf}
 use Rattle.season_plan.specs.Inner.{PriceSmall}
-use Rattle.season_text.proofs.Answers.{Reads, too-long, taken-reads, items-few, priceable, reportable, line-refused, plan-refused, season-reported}
+use Rattle.season_text.proofs.Answers.{Reads, too-long, taken-reads, priceable, reportable, line-refused, plan-refused, season-reported}
 use Rattle.season_text.proofs.answer.Statement.{statement}
 use Rattle.season_text.proofs.answer.Tie as tie
 
@@ -32,40 +28,25 @@ enum-known-verdict c = search needs
 enum-told : tie.Need-enum-told
 enum-told c = search needs
 
--- where the scan took every line: there are no more items than places, and the text is in the slices
-few : (c : tie.After-struct-known) → c .before .before .before .before .before .before .before .scan .result .seen .n ≤ 256
-few c =
-    let r = c .before .before .before .before .before .before .before .scan in
-    items-few (readingOf (c .before .before .before .before .before .before .before .before .before .before .before .before .before .before .args .text .now)) (r .result) (r .last .1 .1 .0) (r .last .1 .1 .1 .0) (r .last .1 .1 .1 .1 .0) (r .ensures .0) (c .before .enum-told .given .1)
-
--- the slices are as long as the arrays
-for-items : (c : tie.After-struct-known) → length (c .before .before .before .before .before .before .before .scan .last .1 .1 .0) ≡ 1280
+-- where the scan took every line: the slices are as long as the arrays, and the text is in them
+for-items : (c : tie.After-enum-told) → length (c .before .before .before .before .before .before .scan .last .1 .1 .0) ≡ 1280
 for-items c = search needs
 
-for-steps : (c : tie.After-struct-known) → length (c .before .before .before .before .before .before .before .scan .last .1 .1 .1 .0) ≡ 43692
+for-steps : (c : tie.After-enum-told) → length (c .before .before .before .before .before .before .scan .last .1 .1 .1 .0) ≡ 76461
 for-steps c = search needs
 
-for-acts : (c : tie.After-struct-known) → length (c .before .before .before .before .before .before .before .scan .last .1 .1 .1 .1 .0) ≡ 32769
+for-acts : (c : tie.After-enum-told) → length (c .before .before .before .before .before .before .scan .last .1 .1 .1 .1 .0) ≡ 32769
 for-acts c = search needs
 
-inside : (c : tie.After-struct-known) → 5 * c .before .before .before .before .before .before .before .scan .result .seen .n ≤ length (c .before .before .before .before .before .before .before .scan .last .1 .1 .0)
-inside c = omega (arith, few c, for-items c)
-
 read :
-    (c : tie.After-struct-known) →
-    (let r = c .before .before .before .before .before .before .before .scan in Reads (c .before .before .before .before .before .before .before .before .before .before .before .before .before .before .args .text .now) (r .result .seen) (take (5 * r .result .seen .n) (r .last .1 .1 .0)) (r .last .1 .1 .1 .0) (r .last .1 .1 .1 .1 .0))
+    (c : tie.After-enum-told) →
+    (let r = c .before .before .before .before .before .before .scan in Reads (c .before .before .before .before .before .before .before .before .before .before .before .before .before .args .text .now) (r .result .seen) (r .last .1 .1 .0) (r .last .1 .1 .1 .0) (r .last .1 .1 .1 .1 .0))
 read c =
-    let r = c .before .before .before .before .before .before .before .scan in
-    taken-reads (c .before .before .before .before .before .before .before .before .before .before .before .before .before .before .args .text .now) (r .result) (r .last .1 .1 .0) (r .last .1 .1 .1 .0) (r .last .1 .1 .1 .1 .0) (c .before .before .before .before .before .before .before .before .before .before .before .if1 .left) (r .ensures .0) (r .ensures .1 .0) (for-items c) (for-steps c) (for-acts c) (c .before .enum-told .given .1)
-
-mul-bytes : tie.Need-mul-bytes
-mul-bytes c = record { fits = omega (arith, few c) }
-
-array-share-prefix-catalog : tie.Need-array-share-prefix-catalog
-array-share-prefix-catalog c = omega (arith, inside c)
+    let r = c .before .before .before .before .before .before .scan in
+    taken-reads (c .before .before .before .before .before .before .before .before .before .before .before .before .before .args .text .now) (r .result) (r .last .1 .1 .0) (r .last .1 .1 .1 .0) (r .last .1 .1 .1 .1 .0) (c .before .before .before .before .before .before .before .before .before .before .if1 .left) (r .ensures .0) (r .ensures .1 .0) (for-items c) (for-steps c) (for-acts c) (c .enum-told .given .1)
 
 slice-aggregate-price-plan : tie.Need-slice-aggregate-price-plan
-slice-aggregate-price-plan c = sym (length-take-le _ _ (omega (arith, inside (c .before))))
+slice-aggregate-price-plan c = search needs
 
 slice-aggregate-price-plan-2 : tie.Need-slice-aggregate-price-plan-2
 slice-aggregate-price-plan-2 c = search needs
@@ -82,11 +63,8 @@ enum-known-r c = search needs
 enum-known-cost : tie.Need-enum-known-cost
 enum-known-cost c = search needs
 
-array-share-prefix-catalog-2 : tie.Need-array-share-prefix-catalog-2
-array-share-prefix-catalog-2 c = omega (arith, inside (c .before .before .before .before .before .before .before))
-
 slice-aggregate-report-season : tie.Need-slice-aggregate-report-season
-slice-aggregate-report-season c = sym (length-take-le _ _ (omega (arith, inside (c .before .before .before .before .before .before .before .before))))
+slice-aggregate-report-season c = search needs
 
 slice-aggregate-report-season-2 : tie.Need-slice-aggregate-report-season-2
 slice-aggregate-report-season-2 c = search needs
@@ -101,13 +79,13 @@ returns-2 c =
     line-refused (a .text .now) (a .page .now) (r .result) (r .last .1 .1 .0) (r .last .1 .1 .1 .0) (r .last .1 .1 .1 .1 .0) _ (c .before .before .before .before .before .before .before .before .before .before .before .if1 .left) (r .ensures .0) (c .before .verdict .given .1)
 
 returns-3 : tie.Need-returns-3
-returns-3 c = plan-refused (c .before .before .before .before .before .before .before .before .before .before .before .before .before .before .before .before .before .before .before .before .before .args .page .now) (c .before .r .given .0 .0) (c .before .before .before .before .before .before .before .before .before .before .before .before .before .before .before .before .before .before .if1 .left) (read (c .before .before .before .before .before .before .before)) (c .before .before .before .price-plan .ensures .0) (c .before .r .given .1)
+returns-3 c = plan-refused (c .before .before .before .before .before .before .before .before .before .before .before .before .before .before .before .before .before .before .before .before .args .page .now) (c .before .r .given .0 .0) (c .before .before .before .before .before .before .before .before .before .before .before .before .before .before .before .before .before .if1 .left) (read (c .before .before .before .before .before .before .before)) (c .before .before .before .price-plan .ensures .0) (c .before .r .given .1)
 
 same-length : tie.Need-same-length
 same-length c = search needs
 
 returns-4 : tie.Need-returns-4
-returns-4 c = season-reported (c .before .before .before .before .before .before .before .before .before .before .before .before .before .before .before .before .before .before .before .before .before .before .before .before .before .if1 .left) (read (c .before .before .before .before .before .before .before .before .before .before .before .before .before .before)) (c .before .before .before .before .before .before .before .before .before .before .price-plan .ensures .0) (c .before .before .before .before .before .before .before .before .cost .given .1) (c .before .before .before .report-season .ensures)
+returns-4 c = season-reported (c .before .before .before .before .before .before .before .before .before .before .before .before .before .before .before .before .before .before .before .before .before .before .before .before .if1 .left) (read (c .before .before .before .before .before .before .before .before .before .before .before .before .before .before)) (c .before .before .before .before .before .before .before .before .before .before .price-plan .ensures .0) (c .before .before .before .before .before .before .before .before .cost .given .1) (c .before .before .before .report-season .ensures)
 
 pub answer-spec : {M : Type 1} → statement M
 answer-spec =
@@ -120,15 +98,12 @@ answer-spec =
     scan-requires
     enum-known-verdict
     enum-told
-    mul-bytes
-    array-share-prefix-catalog
     slice-aggregate-price-plan
     slice-aggregate-price-plan-2
     slice-aggregate-price-plan-3
     price-plan-requires
     enum-known-r
     enum-known-cost
-    array-share-prefix-catalog-2
     slice-aggregate-report-season
     slice-aggregate-report-season-2
     report-season-requires

@@ -21,20 +21,28 @@ slice-write-calls c = search needs
 number-requires : tie.Need-number-requires
 number-requires c κs = search needs
 
+mul-run : tie.Need-mul-run
+mul-run c = search needs
+
+slice-aggregate-run : tie.Need-slice-aggregate-run
+slice-aggregate-run c =
+    let s = c .before .before .before .before .before .before .before in
+    sym (length-take-le (5 * s .args .seen .n) (s .args .catalog .now) (omega (arith, s .pre .items, s .pre .fewItems)))
+
 add-run : tie.Need-add-run
 add-run c = search needs
 
 slice-reshare-prefix-run : tie.Need-slice-reshare-prefix-run
 slice-reshare-prefix-run c = simp length-set (omega arith)
 
-slice-aggregate-run : tie.Need-slice-aggregate-run
-slice-aggregate-run c =
-    let a = c .before .before .before .before .before .before .args in
-    let end = 4 * a .seen .steps in
-    sym (length-take-le (end + 4) (set (a .calls .now) end _) (simp length-set (omega arith)))
-
 slice-aggregate-run-2 : tie.Need-slice-aggregate-run-2
-slice-aggregate-run-2 c = search needs
+slice-aggregate-run-2 c =
+    let a = c .before .before .before .before .before .before .before .before .args in
+    let end = 7 * a .seen .steps in
+    sym (length-take-le (end + 7) (set (a .calls .now) end _) (simp length-set (omega arith)))
+
+slice-aggregate-run-3 : tie.Need-slice-aggregate-run-3
+slice-aggregate-run-3 c = search needs
 
 run-requires : tie.Need-run-requires
 run-requires c κs = search needs
@@ -47,9 +55,9 @@ same-length-2 c = search needs
 
 returns : tie.Need-returns
 returns c =
-    let s = c .before .before .before .before .before .before .before .before .before .before .before in
+    let s = c .before .before .before .before .before .before .before .before .before .before .before .before .before in
     let run = c .before .before .before .run in
-    season-closes (s .args .seen) (s .args .catalog .now) (s .args .calls .now) (s .args .state .now) _ _ _ (run .result) _ (s .pre) (c .before .before .before .before .before .before .number .ensures) (run .ensures)
+    season-closes (s .args .seen) (s .args .catalog .now) (s .args .calls .now) (s .args .state .now) _ _ _ (run .result) _ (s .pre) (c .before .before .before .before .before .before .before .before .number .ensures) (run .ensures)
 
 pub close-season-spec : {M : Type 1} → statement M
 close-season-spec =
@@ -59,10 +67,12 @@ close-season-spec =
     mul-calls
     slice-write-calls
     number-requires
+    mul-run
+    slice-aggregate-run
     add-run
     slice-reshare-prefix-run
-    slice-aggregate-run
     slice-aggregate-run-2
+    slice-aggregate-run-3
     run-requires
     same-length
     same-length-2

@@ -25,8 +25,11 @@ returns-4 : tie.Need-returns-4
 returns-4 c = no (λ h. omega arith)
 
 returns-5 : tie.Need-returns-5
-returns-5 c = record { yes = λ e. omega (arith, eqb-true); only = λ h. forced _ (λ f. omega (arith, eqb-false)) }
+returns-5 c = no (λ h. omega arith)
+
+returns-6 : tie.Need-returns-6
+returns-6 c = record { yes = λ e. omega (arith, eqb-true); only = λ h. forced _ (λ f. omega (arith, eqb-false)) }
 
 pub balanced-spec : {M : Type 1} → statement M
 balanced-spec =
-    tie.close (tie.spec returns add-if2 returns-2 add-if3 returns-3 returns-4 returns-5)
+    tie.close (tie.spec returns add-if2 returns-2 add-if3 returns-3 returns-4 returns-5 returns-6)

@@ -21,6 +21,12 @@ add-if4 c = search needs
 add-if4-2 : tie.Need-add-if4-2
 add-if4-2 c = search needs
 
+add-if4-3 : tie.Need-add-if4-3
+add-if4-3 c = search needs
+
+add-if4-4 : tie.Need-add-if4-4
+add-if4-4 c = search needs
+
 returns-4 : tie.Need-returns-4
 returns-4 c = no (λ h. omega arith)
 
@@ -51,6 +57,8 @@ counts-ok-spec =
     returns-3
     add-if4
     add-if4-2
+    add-if4-3
+    add-if4-4
     returns-4
     returns-5
     returns-6

@@ -78,38 +78,50 @@ get-flags-requires c κs = omega (arith, c .before .before .before .before .befo
 rule-requires : tie.Need-rule-requires
 rule-requires c κs = c .before .before .before .before .before .before .before .before .before .before .before .before .before .before .before .before .before .before .before .before .before .before .before .pre
 
+left-requires : tie.Need-left-requires
+left-requires c κs = c .before .before .before .before .before .before .before .before .before .before .before .before .before .before .before .before .before .before .before .before .before .before .before .before .pre
+
+arrivals-requires : tie.Need-arrivals-requires
+arrivals-requires c κs = c .before .before .before .before .before .before .before .before .before .before .before .before .before .before .before .before .before .before .before .before .before .before .before .before .before .pre
+
+retirements-requires : tie.Need-retirements-requires
+retirements-requires c κs = c .before .before .before .before .before .before .before .before .before .before .before .before .before .before .before .before .before .before .before .before .before .before .before .before .before .before .pre
+
 -- numbers as the reader has found them, with the place and the width at which the layout has them
 many : (b : List ℕ) (at w : ℕ) {vs : List ℕ} → vs ≡ numbersAt b at 256 w → vs ≡ numbersAt b at 256 w
 many b at w e = e
 
 returns : tie.Need-returns
 returns c =
-    let b = c .before .before .before .before .before .before .before .before .before .before .before .before .before .before .before .before .before .before .before .before .before .before .before .before .args .b .now in
+    let b = c .before .before .before .before .before .before .before .before .before .before .before .before .before .before .before .before .before .before .before .before .before .before .before .before .before .before .before .args .b .now in
     λ i.
     record {
-      k = c .before .before .before .before .before .before .before .before .before .before .before .before .before .before .before .before .before .before .before .before .before .before .capacity .ensures i;
-      n = c .before .before .before .before .before .before .before .before .before .before .before .before .before .before .before .before .before .before .before .before .before .count .ensures .0 i;
-      steps = c .before .before .before .before .before .before .before .before .before .before .before .before .before .before .before .before .before .before .before .before .steps .ensures i;
-      hits = c .before .before .before .before .before .before .before .before .before .before .before .before .before .before .before .before .before .before .before .hits .ensures i;
-      loads = c .before .before .before .before .before .before .before .before .before .before .before .before .before .before .before .before .before .before .loads .ensures i;
-      evictions = c .before .before .before .before .before .before .before .before .before .before .before .before .before .before .before .before .before .evictions .ensures i;
-      dirtyevictions = c .before .before .before .before .before .before .before .before .before .before .before .before .before .before .before .before .dirty-evictions .ensures i;
-      writebacks = c .before .before .before .before .before .before .before .before .before .before .before .before .before .before .before .writebacks .ensures i;
-      flushes = c .before .before .before .before .before .before .before .before .before .before .before .before .before .before .flushes .ensures i;
-      closed = c .before .before .before .before .before .before .before .before .before .before .before .before .before .closed .ensures i;
-      loadcost = c .before .before .before .before .before .before .before .before .before .before .before .before .load-cost .ensures i;
-      writecost = c .before .before .before .before .before .before .before .before .before .before .before .write-cost .ensures i;
-      dirty = c .before .before .before .before .before .before .before .before .before .before .dirty .ensures i;
-      loadcredit = many b atLoadCredits 8 (c .before .before .before .before .before .before .before .before .before .get-run8 .ensures) i;
-      writecredit = many b atWriteCredits 8 (c .before .before .before .before .before .before .before .before .get-run82 .ensures) i;
-      minutes = many b atMinutes 4 (c .before .before .before .before .before .before .before .get-run4 .ensures) i;
-      itemloads = many b atItemLoads 4 (c .before .before .before .before .before .before .get-run42 .ensures) i;
-      itemwritebacks = many b atItemWritebacks 4 (c .before .before .before .before .before .get-run43 .ensures) i;
-      load = many b atItemLoadCosts 2 (c .before .before .before .before .get-run2 .ensures) i;
-      write = many b atItemWriteCosts 2 (c .before .before .before .get-run22 .ensures) i;
-      blocks = many b atBlocks 1 (c .before .before .get-run1 .ensures) i;
-      held = c .before .get-flags .ensures i;
-      rule = c .rule .ensures i;
+      k = c .before .before .before .before .before .before .before .before .before .before .before .before .before .before .before .before .before .before .before .before .before .before .before .before .before .capacity .ensures i;
+      n = c .before .before .before .before .before .before .before .before .before .before .before .before .before .before .before .before .before .before .before .before .before .before .before .before .count .ensures .0 i;
+      steps = c .before .before .before .before .before .before .before .before .before .before .before .before .before .before .before .before .before .before .before .before .before .before .before .steps .ensures i;
+      hits = c .before .before .before .before .before .before .before .before .before .before .before .before .before .before .before .before .before .before .before .before .before .before .hits .ensures i;
+      loads = c .before .before .before .before .before .before .before .before .before .before .before .before .before .before .before .before .before .before .before .before .before .loads .ensures i;
+      evictions = c .before .before .before .before .before .before .before .before .before .before .before .before .before .before .before .before .before .before .before .before .evictions .ensures i;
+      dirtyevictions = c .before .before .before .before .before .before .before .before .before .before .before .before .before .before .before .before .before .before .before .dirty-evictions .ensures i;
+      writebacks = c .before .before .before .before .before .before .before .before .before .before .before .before .before .before .before .before .before .before .writebacks .ensures i;
+      flushes = c .before .before .before .before .before .before .before .before .before .before .before .before .before .before .before .before .before .flushes .ensures i;
+      closed = c .before .before .before .before .before .before .before .before .before .before .before .before .before .before .before .before .closed .ensures i;
+      loadcost = c .before .before .before .before .before .before .before .before .before .before .before .before .before .before .before .load-cost .ensures i;
+      writecost = c .before .before .before .before .before .before .before .before .before .before .before .before .before .before .write-cost .ensures i;
+      dirty = c .before .before .before .before .before .before .before .before .before .before .before .before .before .dirty .ensures i;
+      loadcredit = many b atLoadCredits 8 (c .before .before .before .before .before .before .before .before .before .before .before .before .get-run8 .ensures) i;
+      writecredit = many b atWriteCredits 8 (c .before .before .before .before .before .before .before .before .before .before .before .get-run82 .ensures) i;
+      minutes = many b atMinutes 4 (c .before .before .before .before .before .before .before .before .before .before .get-run4 .ensures) i;
+      itemloads = many b atItemLoads 4 (c .before .before .before .before .before .before .before .before .before .get-run42 .ensures) i;
+      itemwritebacks = many b atItemWritebacks 4 (c .before .before .before .before .before .before .before .before .get-run43 .ensures) i;
+      load = many b atItemLoadCosts 2 (c .before .before .before .before .before .before .before .get-run2 .ensures) i;
+      write = many b atItemWriteCosts 2 (c .before .before .before .before .before .before .get-run22 .ensures) i;
+      blocks = many b atBlocks 1 (c .before .before .before .before .before .get-run1 .ensures) i;
+      held = c .before .before .before .before .get-flags .ensures i;
+      rule = c .before .before .before .rule .ensures i;
+      left = c .before .before .left .ensures i;
+      arrivals = c .before .arrivals .ensures i;
+      retirements = c .retirements .ensures i;
     }
 
 pub decode-spec : {M : Type 1} → statement M
@@ -139,4 +151,7 @@ decode-spec =
     get-run1-requires
     get-flags-requires
     rule-requires
+    left-requires
+    arrivals-requires
+    retirements-requires
     returns)

@@ -1,4 +1,4 @@
--- `cache_value::bytes::encode` meets its contract: the six groups are all the rows of the cache, which lie end to end over the whole of the bytes. Assumes nothing.
+-- `cache_value::bytes::encode` meets its contract: the seven groups are all the rows of the cache, which lie end to end over the whole of the bytes. Assumes nothing.
 use Prim.Native.Nat.{ℕ, _^_, _<_}
 use mir.Val as val
 use mir.Val.{bits}
@@ -29,8 +29,11 @@ put-uses-requires c κs = search needs
 put-catalog-requires : tie.Need-put-catalog-requires
 put-catalog-requires c κs = search needs
 
+put-arrivals-requires : tie.Need-put-arrivals-requires
+put-arrivals-requires c κs = search (needs, c .before .before .before .before .before .before .before .before .before .before .before .before .before .before .before .before .before .before .before .before .before .before .before .before .before .before .before .before .before .before .before .before .before .before .before .before .before .before .before .before .pre, c .before .before .before .before .before .before .before .before .before .before .before .before .before .before .before .before .before .before .before .before .before .before .before .before .before .before .before .before .before .before .before .before .before .before .before .before .b .given, c .before .before .before .before .before .before .before .before .before .before .before .before .before .before .before .before .before .before .before .before .before .before .before .before .before .before .before .before .before .before .before .before .b2 .given)
+
 same-length : tie.Need-same-length
-same-length c = search needs
+same-length c = search (needs, c .before .before .before .before .before .before .before .before .before .before .before .before .before .before .before .before .before .before .before .before .before .before .before .before .before .before .before .before .before .before .before .before .before .before .before .before .before .before .before .before .before .before .before .pre, c .before .before .before .before .before .before .before .before .before .before .before .before .before .before .before .before .before .before .before .before .before .before .before .before .before .before .before .before .before .before .before .before .before .before .before .before .before .before .before .b .given, c .before .before .before .before .before .before .before .before .before .before .before .before .before .before .before .before .before .before .before .before .before .before .before .before .before .before .before .before .before .before .before .before .before .before .before .b2 .given, c .before .before .before .before .before .before .before .before .before .before .before .before .before .before .before .before .before .before .before .before .before .before .before .before .before .before .before .before .before .b3 .given)
 
 -- the arrays that come in have all their places, and every number the range of its type
 below : (w : Width) (v : ℕ) → val.Fits w v → v < 2 ^ bits w
@@ -49,6 +52,7 @@ whole c =
       write = search needs;
       blocks = search needs;
       held = search needs;
+      left = search needs;
     }
 
 fitting : (c : tie.Start) → c .args .t1 .n < 2 ^ 16 → Fits (recordOf (c .args .t1))
@@ -75,19 +79,23 @@ fitting c n =
       load = λ i. below w16 (getD (c .args .t1 .load) i 0) (search needs);
       write = λ i. below w16 (getD (c .args .t1 .write) i 0) (search needs);
       blocks = λ i. below w8 (getD (c .args .t1 .blocks) i 0) (search needs);
+      left = λ i. below w64 (getD (c .args .t1 .left) i 0) (search needs);
+      arrivals = below w32 (c .args .t1 .arrivals) (search needs);
+      retirements = below w32 (c .args .t1 .retirements) (search needs);
     }
 
 returns : tie.Need-returns
 unfolding fieldRows
 returns c =
-    let start = c .before .before .before .before .before .before .before .before .before .before .before .before .before .before .before .before .before .before .before .before .before .before .before .before .before .before .before .before .before .before .before .before .before .before .before .before .before .before in (
+    let start = c .before .before .before .before .before .before .before .before .before .before .before .before .before .before .before .before .before .before .before .before .before .before .before .before .before .before .before .before .before .before .before .before .before .before .before .before .before .before .before .before .before .before .before in (
       rw (
-        c .before .before .put-catalog .ensures,
-        c .before .before .before .before .before .before .before .before .before .before .before .put-uses .ensures,
-        c .before .before .before .before .before .before .before .before .before .before .before .before .before .before .before .before .before .before .before .put-credits .ensures,
-        c .before .before .before .before .before .before .before .before .before .before .before .before .before .before .before .before .before .before .before .before .before .before .before .before .before .before .put-costs .ensures,
-        c .before .before .before .before .before .before .before .before .before .before .before .before .before .before .before .before .before .before .before .before .before .before .before .before .before .before .before .before .before .before .before .put-totals .ensures,
-        c .before .before .before .before .before .before .before .before .before .before .before .before .before .before .before .before .before .before .before .before .before .before .before .before .before .before .before .before .before .before .before .before .before .before .before .put-head .ensures,
+        c .before .before .put-arrivals .ensures,
+        c .before .before .before .before .before .before .put-catalog .ensures,
+        c .before .before .before .before .before .before .before .before .before .before .before .before .before .before .before .put-uses .ensures,
+        c .before .before .before .before .before .before .before .before .before .before .before .before .before .before .before .before .before .before .before .before .before .before .before .put-credits .ensures,
+        c .before .before .before .before .before .before .before .before .before .before .before .before .before .before .before .before .before .before .before .before .before .before .before .before .before .before .before .before .before .before .put-costs .ensures,
+        c .before .before .before .before .before .before .before .before .before .before .before .before .before .before .before .before .before .before .before .before .before .before .before .before .before .before .before .before .before .before .before .before .before .before .before .before .put-totals .ensures,
+        c .before .before .before .before .before .before .before .before .before .before .before .before .before .before .before .before .before .before .before .before .before .before .before .before .before .before .before .before .before .before .before .before .before .before .before .before .before .before .before .before .put-head .ensures,
       )
           (store-all (recordOf (start .args .t1)) (start .args .b .now) (whole start) (start .pre)),
       fitting start,
@@ -103,5 +111,6 @@ encode-spec =
     put-credits-requires
     put-uses-requires
     put-catalog-requires
+    put-arrivals-requires
     same-length
     returns)

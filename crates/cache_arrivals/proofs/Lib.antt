@@ -1,0 +1,4 @@
+pub mod Counts
+pub mod Arrivals
+pub mod Retirements
+pub mod InPlace

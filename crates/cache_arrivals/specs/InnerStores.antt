@@ -1,0 +1,38 @@
+-- What each small store leaves: the cache that it hands back, field by field. Assumes nothing.
+use mathlib.Core.{Path._≡_, Bool.true, List.List}
+use Prim.Native.Nat.{ℕ, _+_}
+use lib.ListN.{set}
+use Rattle.landlord.specs.Figures.{totalsOf}
+use Rattle.marks.specs.Inner.{marks}
+use Rattle.cache_state.specs.Cache.{Cache}
+use Rattle.layout.specs.{Layout.cacheOf, Inner.Readable}
+pub use Rattle.cache_state.specs.InnerWith.{withCatalog, withTotals, withLeft}
+
+-- an arrival of the log counted: one step, one arrival
+abbrev pub arrivalOf : Cache → Cache
+arrivalOf c =
+    withTotals c
+    (totalsOf (c .steps + 1) (c .hits) (c .loads) (c .loadcost) (c .evictions) (c .dirtyevictions) (c .writebacks) (c .writecost)
+    (c .flushes) (c .arrivals + 1) (c .retirements))
+
+-- one item more at the end of the catalog
+abbrev pub listedOf : Cache → ℕ → ℕ → ℕ → Cache
+listedOf c b l w =
+    withCatalog c (c .k) (c .n + 1) (set (c .blocks) (c .n) b) (set (c .load) (c .n) l) (set (c .write) (c .n) w) (c .left)
+
+-- these marks of the items that have left, and a retirement of the log counted: one step, one retirement
+abbrev pub leftOf : Cache → List ℕ → Cache
+leftOf c gone =
+    withTotals (withLeft c gone)
+    (totalsOf (c .steps + 1) (c .hits) (c .loads) (c .loadcost) (c .evictions) (c .dirtyevictions) (c .writebacks) (c .writecost)
+    (c .flushes) (c .arrivals) (c .retirements + 1))
+
+-- item i is marked: which words hold the marks is left to crate marks
+pub record Left (c : Cache) (i : ℕ) (r : Cache) : Type 0 where
+  pub store : r ≡ leftOf c (r .left)
+  pub mark : marks (r .left) ≡ set (marks (c .left)) i true
+
+-- the same of the bytes of a state
+pub record LeftAt (b : List ℕ) (i : ℕ) (left : List ℕ) : Type 0 where
+  pub reads : Readable left
+  pub cache : Left (cacheOf b) i (cacheOf left)

@@ -1,0 +1,2 @@
+pub mod InnerStores
+pub mod InnerReady

@@ -1,0 +1,18 @@
+-- What reading a log answers, a list being lent for its steps. Paper 02, 'Two' and 'Six'. Assumes nothing.
+use mathlib.Core.{Bool.cond, List.List}
+use Prim.Native.Nat.{ℕ}
+use lib.ListN.{length}
+use Rattle.decimal.specs.Decimal.{fits, pageOf}
+use Rattle.types.specs.declared.Refusal.the-variants.{ShortBuffer}
+use Rattle.season_log.specs.Log.{Logged, steps, fault, listOf}
+use Rattle.log_reader.specs.declared.ReadAnswer.{ReadAnswer, the-variants.{Steps, Refused}}
+
+-- the heading, and how many steps there are; or 15, which comes last
+abbrev pub readAnswer : Logged → List ℕ → ReadAnswer
+readAnswer (steps form ss) list = cond (fits (listOf ss) list) (Steps form (length ss)) (Refused (ShortBuffer 0))
+readAnswer (fault r) list = Refused r
+
+-- and the list then
+abbrev pub readList : Logged → List ℕ → List ℕ
+readList (steps form ss) list = pageOf (listOf ss) list
+readList (fault r) list = list

@@ -1,0 +1,2 @@
+-- The definitions that the contracts of `season_items` cite. Assumes nothing.
+pub mod Inner
