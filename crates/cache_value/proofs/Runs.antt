@@ -4,7 +4,6 @@ use mathlib.Core.Path.{_≡_, refl, sym, ap, subst, _∙_}
 use mathlib.Core.Logic.{_≢_}
 use mathlib.Core.List.{List, []}
 use Prim.Native.Nat.{ℕ}
-use borrow.Author.Tests.{ne-eqb}
 use Rattle.types.specs.declared.Deduction.{Deduction}
 use Rattle.types.specs.Types.{telling, deductionOf}
 use Rattle.landlord.specs.Catalog.{Catalog}
@@ -22,7 +21,7 @@ use Rattle.cache_value.specs.declared.Answer.the-variants.{Taken}
 use Rattle.cache_value.specs.Inner.{Opened}
 use Rattle.cache_value.specs.Contract.{recordOf, byValue, answerTold, SeasonByValue, Ran}
 use Rattle.cache_value.proofs.Openings.{atOpening}
-use Rattle.cache_value.proofs.Answers.{number-told}
+use Rattle.cache_value.proofs.Answers.{number-told, opened-as}
 use Rattle.cache_value.proofs.Calls.{valid-there, same-view}
 
 pub run-refused :
@@ -35,7 +34,7 @@ pub run-refused :
 run-refused k rule cat calls before n c r o d t e =
     record {
       tells = t ∙ ap (λ (m : ℕ). telling m 0 0) (o .answer);
-      refused = λ z. (refl, ap (λ (q : Cache). view (recordOf q)) e ∙ o .stands ∙ rw (ne-eqb n 0 d));
+      refused = λ z. (refl, opened-as k rule cat n c r o t e);
       numbers = [];
       season = λ z. absurd (d (sym (number-told 0 t) ∙ z));
     }

@@ -107,10 +107,10 @@ pub record SeasonByMethods (k : ℕ) (r : Deduction) (cat : Catalog) (calls : Li
       answerTold (getD answers i Taken) ≡ telling (refusal k cat (take i calls) (getD calls i close)) 0 (callItem (getD calls i close))
   pub byNumber : SeasonByValue k r cat calls (map answerNumber answers) d
 
--- The season theorem of the arguments alone: a refused opening answers 3 or 18 and notes nothing; else the three conclusions hold of
--- the answers noted and of the cache handed back.
+-- The season theorem of the arguments alone: a refused opening answers 3 or 18, notes nothing and hands back the one cache of a refused
+-- opening; else the three conclusions hold of the answers noted and of the cache handed back.
 pub record Ran (k rule : ℕ) (cat : Catalog) (calls : List Call) (before after : List ℕ) (r : Answered) : Type 0 where
   pub tells : answerTold (r .answer) ≡ telling (openingRefusal k rule cat) 0 0
-  pub refused : answerNumber (r .answer) ≢ 0 → (after ≡ before) × (byValue .view (r .cache) ≡ refusedOpening)
+  pub refused : answerNumber (r .answer) ≢ 0 → (after ≡ before) × OpenedBy k rule cat r
   pub numbers : List ℕ
   pub season : answerNumber (r .answer) ≡ 0 → SeasonByValue k (deductionOf rule) cat calls numbers (r .cache) × (after ≡ sets before 0 numbers)
