@@ -12,7 +12,8 @@ use Rattle.types.specs.declared.Numbers.{Numbers}
 use Rattle.landlord.specs.Calls.{Call, stepCall, close}
 use Rattle.landlord.proofs.Folds.{tab-length, tab-at}
 use Rattle.cache_open.specs.Opening.{OpenedLent}
-use Rattle.cache.specs.Contract.{Kind, lent, Answers, Follows, none, then, callsOf, RanLent}
+use Rattle.cache.specs.Contract.{Kind, lent, Answers}
+use Rattle.cache_run.specs.Season.{Follows, none, then, callsOf, RanLent}
 use Rattle.cache.proofs.Calls.{answers-called}
 use Rattle.cache_run.specs.Inner.{callAt, callFrom, RanCalls}
 use Rattle.cache_run.proofs.Season.{season-lent}

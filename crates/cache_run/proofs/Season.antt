@@ -21,7 +21,8 @@ use Rattle.landlord.proofs.Ranges.{opening-taken}
 use Rattle.catalog_bytes.specs.Catalogs.{catalogIn}
 use Rattle.cache_open.specs.Opening.{OpenedLent}
 use Rattle.cache_open.proofs.Openings.{right}
-use Rattle.cache.specs.Contract.{Kind, lent, Follows, none, then, TableAnswers, Closing, Bounded, Season, Prefix, ChainLent, SeasonLent}
+use Rattle.cache.specs.Contract.{Kind, lent}
+use Rattle.cache_run.specs.Season.{Follows, none, then, TableAnswers, Closing, Bounded, Season, Prefix, ChainLent, SeasonLent}
 use Rattle.cache_run.specs.Inner.{BeginsAt}
 
 module _ {C : Type 0} (kind : Kind C) (k : ℕ) (r : Deduction) (cat : Catalog) (good : CatalogOk cat) where

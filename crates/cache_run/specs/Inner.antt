@@ -5,7 +5,8 @@ use lib.{Dec.eqb, Seq.sets, ListN.getD}
 use Rattle.types.specs.declared.Numbers.{Numbers}
 use Rattle.types.specs.Types.{deductionOf}
 use Rattle.landlord.specs.{Slot.splitOf, Catalog.Catalog, Figures.opened, Calls.{openingRefusal, Call, close, stepCall}}
-use Rattle.cache.specs.Contract.{Kind, Follows, numbersBehind}
+use Rattle.cache.specs.Contract.{Kind}
+use Rattle.cache_run.specs.Season.{Follows, numbersBehind}
 
 -- a call from a number, which tells a step or the closing, and a step's numbers
 abbrev pub callFrom : ℕ → Numbers → Call

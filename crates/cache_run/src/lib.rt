@@ -3,7 +3,8 @@ ghost use mathlib.Core.Path.{_≡_};
 ghost use Prim.Native.Nat.{_+_, _<_};
 ghost use lib.ListN.{length, set};
 ghost use Rattle.layout.specs.Layout.{ValidBytes};
-ghost use Rattle.cache.specs.Contract.{lent, Answers, callsOf, RanLent};
+ghost use Rattle.cache.specs.Contract.{lent, Answers};
+ghost use Rattle.cache_run.specs.Season.{callsOf, RanLent};
 ghost use Rattle.cache_run.specs.Inner.{callAt, RanCalls};
 use types::Numbers;
 

@@ -12,7 +12,8 @@ use Rattle.landlord.specs.Calls.{Call}
 use Rattle.cache_state.specs.Cache.{view, Valid}
 use Rattle.layout.specs.Layout.{cacheOf}
 use Rattle.layout.specs.Inner.{Stands}
-use Rattle.cache.specs.Contract.{lent, Bounded, Season}
+use Rattle.cache.specs.Contract.{lent}
+use Rattle.cache_run.specs.Season.{Bounded, Season}
 use Rattle.cache_run.specs.Inner.{BeginsAt, RanCalls}
 use Rattle.cache_run.proofs.Season.{season-theorem}
 use Rattle.cache_value.specs.declared.Cache.{Cache}

@@ -6,7 +6,7 @@ use lib.ListN.{getD, length-map}
 use Rattle.types.specs.Types.{telling, deductionOf}
 use Rattle.landlord.specs.Catalog.{Catalog}
 use Rattle.landlord.specs.Calls.{Call, close, callItem}
-use Rattle.cache.specs.Contract.{Follows, none, then, Season, Prefix}
+use Rattle.cache_run.specs.Season.{Follows, none, then, Season, Prefix}
 use Rattle.cache_run.specs.Inner.{BeginsAt}
 use Rattle.cache_run.proofs.Season.{season-theorem, season-prefix}
 use Rattle.cache_value.specs.declared.Cache.{Cache}

@@ -6,7 +6,8 @@ use Rattle.types.specs.declared.Deduction.{Deduction}
 use Rattle.types.specs.Types.{telling, nothingTold, told, Told, deductionOf}
 use Rattle.landlord.specs.{Fold.tab, Catalog.{Catalog, listed}, Slot.{writeFirst, splitOf}, Rule.emptied, Figures.{Standing, nothing, opened}, Calls.{Call, callItem, openingRefusal, close, refusal}}
 use Rattle.cache_state.specs.Cache.{Cache as Record, view, Valid, EmptyPlace}
-use Rattle.cache.specs.Contract.{Kind, Called, Closing, Bounded, Season}
+use Rattle.cache.specs.Contract.{Kind, Called}
+use Rattle.cache_run.specs.Season.{Closing, Bounded, Season}
 use Rattle.cache_value.specs.declared.{Cache.Cache, Answer.{Answer, the-variants.{Taken, Refused}}, Answered.Answered}
 
 -- the struct as the record of the specification: the same fields

@@ -7,7 +7,7 @@ use Rattle.types.specs.Types.{deductionOf}
 use Rattle.landlord.specs.{Slot.splitOf, Catalog.Catalog, Figures.opened, Calls.{Call, openingRefusal}}
 use Rattle.cache_state.specs.Cache.{Cache as Record, EmptyPlace}
 use Rattle.cache_open.specs.Inner.{emptyWith}
-use Rattle.cache.specs.Contract.{Follows}
+use Rattle.cache_run.specs.Season.{Follows}
 use Rattle.cache_value.specs.{declared.Cache.Cache, Contract.{recordOf, byValue, refusedOpening}}
 
 -- the fields of a refused opening's cache: 1 block, no items, closed, write-first

@@ -17,7 +17,8 @@ use Rattle.landlord.proofs.Ranges.{opening-accepts}
 use Rattle.catalog_bytes.specs.Catalogs.{catalogIn}
 use Rattle.cache_open.specs.Opening.{openingNumber}
 use Rattle.cache_open.proofs.Openings.{asks}
-use Rattle.cache.specs.Contract.{lent, Season, SeasonLent, callsOf, RanLent}
+use Rattle.cache.specs.Contract.{lent}
+use Rattle.cache_run.specs.Season.{Season, SeasonLent, callsOf, RanLent}
 use Rattle.cache_run.specs.Inner.{callAt, callFrom}
 use Rattle.cache_run.proofs.Runs.{count-is, call-is}
 use Rattle.season_tables.specs.declared.Seen.{Seen}

@@ -29,7 +29,8 @@ use Rattle.landlord.proofs.Ranges.{opening-accepts}
 use Rattle.catalog_bytes.specs.Catalogs.{catalogIn}
 use Rattle.cache_state.specs.Cache.{view}
 use Rattle.layout.specs.Layout.{cacheOf}
-use Rattle.cache.specs.Contract.{lent, Season}
+use Rattle.cache.specs.Contract.{lent}
+use Rattle.cache_run.specs.Season.{Season}
 use Rattle.cache_run.proofs.Season.{season-lent}
 use Rattle.season_tables.specs.Tables.{Sofar}
 use Rattle.season_tables.specs.InnerSound.{Sound}

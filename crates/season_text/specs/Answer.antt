@@ -12,7 +12,8 @@ use Rattle.report.specs.{declared.Written.Written, Report.{reportOf, refusalTex
 use Rattle.season_tables.specs.Tables.{Sofar, Led, on, stop, readingOf}
 use Rattle.season_plan.specs.Plans.{faultLine, priceOf}
 use Rattle.catalog_bytes.specs.Catalogs.{catalogIn}
-use Rattle.cache.specs.Contract.{lent, ChainLent}
+use Rattle.cache.specs.Contract.{lent}
+use Rattle.cache_run.specs.Season.{ChainLent}
 
 -- where the text's rule stands over its steps; "The program closes the log itself"
 abbrev pub closedSeason : Sofar → Standing
