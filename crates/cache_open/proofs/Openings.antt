@@ -13,9 +13,9 @@ use Rattle.types.specs.Types.{deductionOf}
 use Rattle.landlord.specs.Catalog.{CatalogOk, noneLeft}
 use Rattle.landlord.specs.Slot.{splitOf}
 use Rattle.landlord.specs.Figures.{opened}
-use Rattle.landlord.specs.Calls.{openingRefusal}
-use Rattle.landlord.specs.Inner.{CapacityFacts}
-use Rattle.landlord.proofs.Valid.{ok-opened}
+use Rattle.landlord.specs.Calls.{Opening, openingRefusal}
+use Rattle.landlord.specs.Inner.{CapacityFacts, OpeningRanges, OpeningOk}
+use Rattle.landlord.proofs.Valid.{ok-starts}
 use Rattle.landlord.proofs.Ranges.{capacity-facts, capacity-ok, listed-none-left, opening-taken, opening-accepts, range-refused, rule-refused}
 use Rattle.fields.specs.Inner.{Below}
 use Rattle.catalog_bytes.specs.Catalogs.{itemIn, catalogIn}
@@ -29,7 +29,7 @@ use Rattle.layout.specs.Inner.{Stands, cleared}
 use Rattle.layout.proofs.Places.{stands-as, stands-become, becomes-valid}
 use Rattle.cache_room.specs.InnerStores.{storeTo}
 use Rattle.cache_room.proofs.Laws.{store-more, store-past, store-at}
-use Rattle.cache_open.specs.Opening.{openingNumber, OpenedLent}
+use Rattle.cache_open.specs.Opening.{openingIn, openingNumber, OpenedLent}
 use Rattle.cache_open.specs.Inner.{BlocksOk, WholeCatalog, enteredOf, Column}
 use Rattle.cache_open.proofs.Blocks.{catalog-blocks, blocks-catalog}
 use Rattle.cache_open.proofs.Empty.{empty-place, empty-becomes}
@@ -46,36 +46,39 @@ pub record Lengths (size : ℕ) (xs : List ℕ) : Type 0 where
   pub whole : length xs % 5 ≡ 0
   pub few : length xs ≤ 1280
 
-module _ (size k rule : ℕ) (xs : List ℕ) where
-  pub wrong-size : size ≢ stateBytes → 17 ≡ openingNumber size k rule xs
+module _ (size : ℕ) (o : Opening (List ℕ)) where
+  abbrev xs : List ℕ
+  xs = o .catalog
+
+  pub wrong-size : size ≢ stateBytes → 17 ≡ openingNumber size o
   unfolding openingNumber
   wrong-size e = rw (ne-eqb size stateBytes e)
 
-  pub ragged : size ≡ stateBytes → length xs % 5 ≢ 0 → 3 ≡ openingNumber size k rule xs
+  pub ragged : size ≡ stateBytes → length xs % 5 ≢ 0 → 3 ≡ openingNumber size o
   unfolding openingNumber
   ragged e d = rw (eq-eqb size stateBytes e, ne-eqb (length xs % 5) 0 d)
 
-  pub too-long : size ≡ stateBytes → length xs % 5 ≡ 0 → 1280 < length xs → 3 ≡ openingNumber size k rule xs
+  pub too-long : size ≡ stateBytes → length xs % 5 ≡ 0 → 1280 < length xs → 3 ≡ openingNumber size o
   unfolding openingNumber
   too-long e d l = rw (eq-eqb size stateBytes e, eq-eqb (length xs % 5) 0 d, lt-leb (length xs) 1280 l)
 
-  pub asks : Lengths size xs → openingNumber size k rule xs ≡ openingRefusal k rule (catalogIn xs)
+  pub asks : Lengths size xs → openingNumber size o ≡ openingRefusal (openingIn o)
   unfolding openingNumber
   asks s = rw (eq-eqb size stateBytes (s .state), eq-eqb (length xs % 5) 0 (s .whole), le-leb (length xs) 1280 (s .few))
 
-  pub no-capacity : Lengths size xs → (CapacityFacts k → ⊥) → 3 ≡ openingNumber size k rule xs
-  no-capacity s bad = range-refused k rule (catalogIn xs) (λ f. bad (capacity-facts k (f .0))) ∙ sym (asks s)
+  pub no-capacity : Lengths size xs → (CapacityFacts (o .k) → ⊥) → 3 ≡ openingNumber size o
+  no-capacity s bad = range-refused (openingIn o) (λ f. bad (capacity-facts (o .k) (f .capacity))) ∙ sym (asks s)
 
   -- the blocks of the catalog's items
   abbrev blocks : ℕ → ℕ
   blocks i = itemIn xs i .blocks
 
-  pub blocks-refused : Lengths size xs → (BlocksOk (length xs / 5) blocks → ⊥) → 3 ≡ openingNumber size k rule xs
+  pub blocks-refused : Lengths size xs → (BlocksOk (length xs / 5) blocks → ⊥) → 3 ≡ openingNumber size o
   unfolding catalogIn
-  blocks-refused s bad = range-refused k rule (catalogIn xs) (λ f. bad (catalog-blocks (length xs / 5) (itemIn xs) (f .1))) ∙ sym (asks s)
+  blocks-refused s bad = range-refused (openingIn o) (λ f. bad (catalog-blocks (length xs / 5) (itemIn xs) (f .catalog))) ∙ sym (asks s)
 
   -- costs of two bytes are in range, so what is left is the rule's number
-  module _ (s : Lengths size xs) (room : CapacityFacts k) (bytes : Below 256 xs) (ok : BlocksOk (length xs / 5) blocks) where
+  module _ (s : Lengths size xs) (room : CapacityFacts (o .k)) (bytes : Below 256 xs) (ok : BlocksOk (length xs / 5) blocks) where
     good : CatalogOk (catalogIn xs)
     unfolding catalogIn
     good = blocks-catalog (length xs / 5) (itemIn xs) (omega (arith, s .few)) ok (λ i. omega (arith, load-lt xs i bytes)) (λ i. omega (arith, write-lt xs i bytes))
@@ -84,30 +87,36 @@ module _ (size k rule : ℕ) (xs : List ℕ) where
     unfolding catalogIn
     new = listed-none-left (length xs / 5) (λ i. itemIn xs i .blocks) (λ i. itemIn xs i .load) (λ i. itemIn xs i .write)
 
-    pub rule-odd : 1 < rule → 18 ≡ openingNumber size k rule xs
-    rule-odd l = rule-refused k rule (catalogIn xs) (capacity-ok k room) good new (lt-leb rule 1 l) ∙ sym (asks s)
+    fine : OpeningRanges (openingIn o)
+    fine = record { capacity = capacity-ok (o .k) room; catalog = good; fresh = new }
 
-    pub all-taken : rule ≤ 1 → 0 ≡ openingNumber size k rule xs
-    all-taken l = sym (asks s ∙ opening-accepts k rule (catalogIn xs) (capacity-ok k room) good new (le-leb rule 1 l))
+    pub rule-odd : 1 < o .rule → 18 ≡ openingNumber size o
+    rule-odd l = rule-refused (openingIn o) fine (lt-leb (o .rule) 1 l) ∙ sym (asks s)
+
+    pub all-taken : o .rule ≤ 1 → 0 ≡ openingNumber size o
+    all-taken l = sym (asks s ∙ opening-accepts (openingIn o) (record { ranges = fine; rule = le-leb (o .rule) 1 l }))
 
 -- an opening that was not refused has passed them all
-pub record Right (size k rule : ℕ) (xs : List ℕ) : Type 0 where
-  pub lengths : Lengths size xs
-  pub accepted : openingRefusal k rule (catalogIn xs) ≡ 0
+pub record Right (size : ℕ) (o : Opening (List ℕ)) : Type 0 where
+  pub lengths : Lengths size (o .catalog)
+  pub accepted : OpeningOk (openingIn o)
 
-pub right : {size k rule n : ℕ} {xs : List ℕ} → n ≡ openingNumber size k rule xs → n ≡ 0 → Right size k rule xs
+pub right : {size n : ℕ} {o : Opening (List ℕ)} → n ≡ openingNumber size o → n ≡ 0 → Right size o
 unfolding openingNumber
-right {size = size} {k = k} {rule = rule} {xs = xs} asked none = go (eqb size stateBytes) (eqb (length xs % 5) 0) (leb (length xs) 1280) refl refl refl (sym asked ∙ none)
+right {size = size} {o = o} asked none = go (eqb size stateBytes) (eqb (length (o .catalog) % 5) 0) (leb (length (o .catalog)) 1280) refl refl refl (sym asked ∙ none)
   where
     go :
         (a b c : Bool) →
         eqb size stateBytes ≡ a →
-        eqb (length xs % 5) 0 ≡ b →
-        leb (length xs) 1280 ≡ c →
-        cond a (cond (b && c) (openingRefusal k rule (catalogIn xs)) 3) 17 ≡ 0 →
-        Right size k rule xs
+        eqb (length (o .catalog) % 5) 0 ≡ b →
+        leb (length (o .catalog)) 1280 ≡ c →
+        cond a (cond (b && c) (openingRefusal (openingIn o)) 3) 17 ≡ 0 →
+        Right size o
     go true true true p q r e =
-        record { lengths = record { state = eqb-true size stateBytes p; whole = eqb-true (length xs % 5) 0 q; few = leb-true (length xs) 1280 r }; accepted = e }
+        record {
+          lengths = record { state = eqb-true size stateBytes p; whole = eqb-true (length (o .catalog) % 5) 0 q; few = leb-true (length (o .catalog)) 1280 r };
+          accepted = opening-taken (openingIn o) e;
+        }
     go true true false p q r e = absurd (let y : _≡_ {A = ℕ} 3 0 = e in omega arith)
     go true false c p q r e = absurd (let y : _≡_ {A = ℕ} 3 0 = e in omega arith)
     go false b c p q r e = absurd (let y : _≡_ {A = ℕ} 17 0 = e in omega arith)
@@ -158,23 +167,25 @@ opened-becomes k r xs few =
     (stored-column (length xs / 5) (λ i. itemIn xs i .load) few) (stored-column (length xs / 5) (λ i. itemIn xs i .write) few) (λ i. refl)
 
 -- refused, every byte stays; else the bytes were cleared and capacity, count, rule and items stored
-pub opening-refused : (b xs : List ℕ) (k rule n : ℕ) → n ≡ openingNumber (length b) k rule xs → n ≢ 0 → OpenedLent b k rule xs n b
-opening-refused b xs k rule n e d = record { answer = e; valid = λ z. absurd (d z); stands = λ z. absurd (d z); empty = λ z. absurd (d z); refused = λ z. refl }
+pub opening-refused : (b : List ℕ) (o : Opening (List ℕ)) (n : ℕ) → n ≡ openingNumber (length b) o → n ≢ 0 → OpenedLent b o n b
+opening-refused b o n e d = record { answer = e; valid = λ z. absurd (d z); stands = λ z. absurd (d z); empty = λ z. absurd (d z); refused = λ z. refl }
 
 pub opening-done :
-    (b xs : List ℕ) (k rule n : ℕ) {r : Deduction} {one two three four left : List ℕ} →
-    n ≡ openingNumber (length b) k rule xs →
+    (b : List ℕ) (o : Opening (List ℕ)) (n : ℕ) {r : Deduction} {one two three four left : List ℕ} →
+    n ≡ openingNumber (length b) o →
     n ≡ 0 →
     Stands one cleared →
-    Stands two (withCapacity (cacheOf one) k) →
-    Stands three (withCount (cacheOf two) (length xs / 5)) →
-    r ≡ deductionOf rule →
+    Stands two (withCapacity (cacheOf one) (o .k)) →
+    Stands three (withCount (cacheOf two) (length (o .catalog) / 5)) →
+    r ≡ deductionOf (o .rule) →
     Stands four (withRule (cacheOf three) r) →
-    Stands left (enteredOf (cacheOf four) xs (length xs / 5)) →
-    OpenedLent b k rule xs 0 left
-opening-done b xs k rule n {r = r} {left = left} e z p q u is t s =
+    Stands left (enteredOf (cacheOf four) (o .catalog) (length (o .catalog) / 5)) →
+    OpenedLent b o 0 left
+opening-done b o n {r = r} {left = left} e z p q u is t s =
+    let k = o .k in
+    let xs = o .catalog in
+    let rule = o .rule in
     let ranges = right e z in
-    let good = opening-taken k rule (catalogIn xs) (ranges .accepted) .0 in
     let so : Stands left (openedOf k (deductionOf rule) xs) =
     stands-as s
     (ap (λ (d : Cache). enteredOf d xs (length xs / 5)) (t .cache)
@@ -186,7 +197,7 @@ opening-done b xs k rule n {r = r} {left = left} e z p q u is t s =
     let stood = stands-become so (opened-becomes k (deductionOf rule) xs (omega (arith, ranges .lengths .few))) in
     record {
       answer = sym z ∙ e;
-      valid = λ w. becomes-valid (ok-opened (splitOf (deductionOf rule)) k (catalogIn xs) (good .0) (good .1) (good .2)) stood;
+      valid = λ w. becomes-valid (ok-starts (openingIn o) (ranges .accepted)) stood;
       stands = λ w. stood .cache .stands;
       empty = λ w i l. subst (λ (c : Cache). EmptyPlace c i) (sym (so .cache)) (empty-place k (length xs / 5) _ _ _ false (deductionOf rule) i l);
       refused = λ w. absurd (w refl);

@@ -2,22 +2,26 @@
 use mathlib.Core.{Path._≡_, Logic._≢_, Bool.{cond, _&&_}, List.List}
 use Prim.Native.Nat.{ℕ, _%_, _<_}
 use lib.{Dec.{eqb, leb}, ListN.length}
-use Rattle.types.specs.Types.{deductionOf}
-use Rattle.landlord.specs.{Slot.splitOf, Figures.opened, Calls.openingRefusal}
+use Rattle.landlord.specs.{Catalog.Catalog, Calls.{Opening, openingRefusal, startsAt}}
 use Rattle.catalog_bytes.specs.Catalogs.{catalogIn}
 use Rattle.cache_state.specs.Cache.{view, EmptyPlace}
 use Rattle.layout.specs.Layout.{stateBytes, cacheOf, ValidBytes}
 
+-- the opening that is asked for where the catalog is bytes
+abbrev pub openingIn : Opening (List ℕ) → Opening Catalog
+openingIn o = record { k = o .k; rule = o .rule; catalog = catalogIn (o .catalog) }
+
 -- The opening in lent bytes checks the state's length (17), then k and the catalog (3), whose length is a multiple of 5 and at most
 -- 1,280, then the rule's number (18). It looks at how many bytes the state has, and at none of them.
-unfoldable pub openingNumber : ℕ → ℕ → ℕ → List ℕ → ℕ
-openingNumber size k rule xs =
-    cond (eqb size stateBytes) (cond (eqb (length xs % 5) 0 && leb (length xs) 1280) (openingRefusal k rule (catalogIn xs)) 3) 17
+unfoldable pub openingNumber : ℕ → Opening (List ℕ) → ℕ
+openingNumber size o =
+    let bytes = length (o .catalog) in
+    cond (eqb size stateBytes) (cond (eqb (bytes % 5) 0 && leb bytes 1280) (openingRefusal (openingIn o)) 3) 17
 
-pub record OpenedLent (b : List ℕ) (k rule : ℕ) (xs : List ℕ) (number : ℕ) (left : List ℕ) : Type 0 where
-  pub answer : number ≡ openingNumber (length b) k rule xs
+pub record OpenedLent (b : List ℕ) (o : Opening (List ℕ)) (number : ℕ) (left : List ℕ) : Type 0 where
+  pub answer : number ≡ openingNumber (length b) o
   pub valid : number ≡ 0 → ValidBytes left
-  pub stands : number ≡ 0 → view (cacheOf left) ≡ opened (splitOf (deductionOf rule)) k (catalogIn xs)
+  pub stands : number ≡ 0 → view (cacheOf left) ≡ startsAt (openingIn o)
   -- "It has 256 places, one for each sail number, empty at opening"
   pub empty : number ≡ 0 → (i : ℕ) → i < 256 → EmptyPlace (cacheOf left) i
   pub refused : number ≢ 0 → left ≡ b

@@ -1,6 +1,7 @@
 // The opening of a state, in place on its bytes. Every refusal is decided before the first store, so a refused opening leaves every
 // byte as it was.
 ghost use mathlib.Core.Path.{_≡_};
+ghost use Rattle.landlord.specs.Calls.{opening};
 ghost use Rattle.validity.specs.InnerDecided.{Decided};
 ghost use Rattle.catalog_bytes.specs.Catalogs.{itemIn};
 ghost use Rattle.layout.specs.Layout.{cacheOf};
@@ -30,7 +31,7 @@ fn blocks_ok(catalog: &[u8], n: usize) -> bool
 // The refusal of an opening: the state's length comes first (17), then the catalog's, the capacity and the blocks (3), then the rule's
 // number (18); 0 if all are right. The costs are in range by their width.
 fn opening_refused(size: usize, k: u32, rule: u32, catalog: &[u8]) -> u32
-    ensures { λ r. ⌜ r ≡ openingNumber size k rule (now (catalog .entry)) ⌝ }
+    ensures { λ r. ⌜ r ≡ openingNumber size (opening k rule (now (catalog .entry))) ⌝ }
 {
     if size != layout::STATE_BYTES {
         return 17;
@@ -73,7 +74,7 @@ fn put_items(b: &mut [u8], catalog: &[u8], n: usize)
 // Opens the state for a cache of `k` blocks, a rule of deduction by its number, and the items of the catalog, five bytes each; what the
 // bytes held is not looked at.
 pub fn open(b: &mut [u8], k: u32, rule: u32, catalog: &[u8]) -> u32
-    ensures { λ r. ⌜ OpenedLent (now (b .entry)) k rule (now (catalog .entry)) r (now (b .exit)) ⌝ }
+    ensures { λ r. ⌜ OpenedLent (now (b .entry)) (opening k rule (now (catalog .entry))) r (now (b .exit)) ⌝ }
 {
     let number = opening_refused(b.len(), k, rule, catalog);
     if number != 0 {

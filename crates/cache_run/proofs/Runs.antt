@@ -9,7 +9,7 @@ use lib.ListN.{length, getD, drop, set, length-append, drop-of-length-le}
 use lib.Seq.{sets, drop-cons, append-snoc}
 use borrow.Author.Tests.{eq-eqb, ne-eqb}
 use Rattle.types.specs.declared.Numbers.{Numbers}
-use Rattle.landlord.specs.Calls.{Call, stepCall, close}
+use Rattle.landlord.specs.Calls.{Opening, Call, stepCall, close}
 use Rattle.landlord.proofs.Folds.{tab-length, tab-at}
 use Rattle.cache_open.specs.Opening.{OpenedLent}
 use Rattle.cache.specs.Contract.{Kind, lent, Answers}
@@ -83,23 +83,23 @@ going-ends kind c q calls before out i l g =
     }
 
 -- the whole list: a refused opening, and an accepted one, of which the season theorem holds
-pub run-refused : (b xs : List ℕ) (k rule : ℕ) (calls : List Call) (before left : List ℕ) (n : ℕ) → OpenedLent b k rule xs n left → n ≢ 0 → RanLent b k rule xs calls before before n left
-run-refused b xs k rule calls before left n o e =
-    record { answer = o .answer; refused = λ z. (o .refused z, refl); numbers = []; season = λ z. absurd (e z) }
+pub run-refused : (b : List ℕ) (o : Opening (List ℕ)) (calls : List Call) (before left : List ℕ) (n : ℕ) → OpenedLent b o n left → n ≢ 0 → RanLent b o calls before before n left
+run-refused b o calls before left n h e =
+    record { answer = h .answer; refused = λ z. (h .refused z, refl); numbers = []; season = λ z. absurd (e z) }
 
 pub run-taken :
-    (b xs first : List ℕ) (k rule : ℕ) (calls : List Call) (before after left : List ℕ) (n : ℕ) →
-    OpenedLent b k rule xs n first →
+    (b first : List ℕ) (o : Opening (List ℕ)) (calls : List Call) (before after left : List ℕ) (n : ℕ) →
+    OpenedLent b o n first →
     n ≡ 0 →
     RanCalls lent first calls before after left →
-    RanLent b k rule xs calls before after 0 left
-run-taken b xs first k rule calls before after left n o e ran =
+    RanLent b o calls before after 0 left
+run-taken b first o calls before after left n h e ran =
     record {
-      answer = sym e ∙ o .answer;
+      answer = sym e ∙ h .answer;
       refused = λ z. absurd (z refl);
       numbers = ran .numbers;
       season = λ z. (
-        season-lent k rule xs calls (ran .numbers) left (record { before = b; first = first; opening = subst (λ (m : ℕ). OpenedLent b k rule xs m first) e o; follows = ran .follows }),
+        season-lent o calls (ran .numbers) left (record { before = b; first = first; opening = subst (λ (m : ℕ). OpenedLent b o m first) e h; follows = ran .follows }),
         ran .noted,
       );
     }

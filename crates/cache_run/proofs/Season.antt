@@ -6,30 +6,37 @@ use mathlib.Core.List.{List, [], _∷_}
 use Prim.Native.Nat.{ℕ, zero, suc, _<_}
 use native.Mathlib.Omega.{arith}
 use lib.ListN.{length, getD, take, drop}
-use Rattle.types.specs.declared.Deduction.{Deduction}
+use Rattle.types.specs.Types.{deductionOf}
 use Rattle.landlord.specs.Fold.{fold}
 use Rattle.landlord.specs.Catalog.{Catalog, CatalogOk}
-use Rattle.types.specs.Types.{deductionOf}
-use Rattle.landlord.specs.Slot.{splitOf}
-use Rattle.landlord.specs.Figures.{Standing, totalCost, ran, season}
-use Rattle.landlord.specs.Calls.{Call, close, Log, noLog, refusalNow, refusalIn, refusal, joins, logOf, ruleOver, after}
-use Rattle.landlord.specs.Claims.{AllowedLog, WithinBound}
+use Rattle.landlord.specs.Figures.{Standing, totalCost, ran}
+use Rattle.landlord.specs.Calls.{Opening, Call, close, Log, noLog, refusalNow, refusalIn, refusal, joins, logOf, ruleOver, ruleFrom, seasonFrom, splitFrom, after}
+use Rattle.landlord.specs.Inner.{OpeningOk}
+use Rattle.landlord.specs.Claims.{AllowedLog, WithinBound, SplitOk}
 use Rattle.landlord.proofs.Slots.{deduction-ok}
 use Rattle.landlord.proofs.Calls.{log-allowed, joins-either, logged-allowed, same-refusal, one-call, closing-ends}
 use Rattle.landlord.proofs.Competitive.{competitive-bound}
-use Rattle.landlord.proofs.Ranges.{opening-taken}
-use Rattle.catalog_bytes.specs.Catalogs.{catalogIn}
-use Rattle.cache_open.specs.Opening.{OpenedLent}
+use Rattle.cache_open.specs.Opening.{openingIn, OpenedLent}
 use Rattle.cache_open.proofs.Openings.{right}
 use Rattle.cache.specs.Contract.{Kind, lent}
 use Rattle.cache_run.specs.Season.{Follows, none, then, TableAnswers, Closing, Bounded, Season, Prefix, ChainLent, SeasonLent}
 use Rattle.cache_run.specs.Inner.{BeginsAt}
 
-module _ {C : Type 0} (kind : Kind C) (k : ℕ) (r : Deduction) (cat : Catalog) (good : CatalogOk cat) where
+-- each rule of deduction splits as it may
+split-ok : (o : Opening Catalog) → SplitOk (splitFrom o)
+split-ok o = deduction-ok (deductionOf (o .rule))
+
+module _ {C : Type 0} (kind : Kind C) (o : Opening Catalog) (good : CatalogOk (o .catalog)) where
+  abbrev k : ℕ
+  k = o .k
+
+  abbrev cat : Catalog
+  cat = o .catalog
+
   -- where a list of calls leads from a state that stands after a log
   record Leads (l : Log) (calls : List Call) (numbers : List ℕ) (d : C) : Type 0 where
     valid : kind .Valid d
-    stands : kind .view d ≡ ruleOver (splitOf r) k cat (fold (joins k cat) l calls)
+    stands : kind .view d ≡ ruleFrom o (fold (joins k cat) l calls)
     count : length numbers ≡ length calls
     each : (i : ℕ) → i < length calls → getD numbers i 0 ≡ refusalIn k cat (fold (joins k cat) l (take i calls)) (getD calls i close)
 
@@ -37,21 +44,21 @@ module _ {C : Type 0} (kind : Kind C) (k : ℕ) (r : Deduction) (cat : Catalog) 
       (l : Log) {c d : C} {calls : List Call} {numbers : List ℕ} →
       AllowedLog k cat (l .steps) →
       kind .Valid c →
-      kind .view c ≡ ruleOver (splitOf r) k cat l →
+      kind .view c ≡ ruleFrom o l →
       Follows kind c calls numbers d →
       Leads l calls numbers d
   unfolding fold
   leads l a ok at none = record { valid = ok; stands = at; count = refl; each = λ i b. absurd (let z : i < 0 = b in omega arith) }
   leads l {c = c} a ok at (then {call = call} {calls = calls} {answer = answer} {numbers = numbers} h f) =
       let m : Log = joins k cat l call in
-      let next = h .fine ok .stands ∙ ap (λ (v : Standing). after v call) at ∙ one-call (splitOf r) k cat (deduction-ok r) good l call a in
+      let next = h .fine ok .stands ∙ ap (λ (v : Standing). after v call) at ∙ one-call (splitFrom o) k cat (split-ok o) good l call a in
       let open' : AllowedLog k cat (m .steps) = joins-either k cat l call (λ z. AllowedLog k cat (z .steps)) (λ e. logged-allowed k cat l call a e) a in
       let rest = leads m open' (h .fine ok .valid) next f in
       record {
         valid = rest .valid;
         stands = rest .stands;
         count = ap suc (rest .count);
-        each = answers (h .fine ok .answer ∙ ap (λ (v : Standing). refusalNow v call) at ∙ same-refusal (splitOf r) k cat (deduction-ok r) good l call a) (rest .each);
+        each = answers (h .fine ok .answer ∙ ap (λ (v : Standing). refusalNow v call) at ∙ same-refusal (splitFrom o) k cat (split-ok o) good l call a) (rest .each);
       }
     where
       answers :
@@ -63,43 +70,45 @@ module _ {C : Type 0} (kind : Kind C) (k : ℕ) (r : Deduction) (cat : Catalog) 
 
 -- the total after a closing that was answered 0
 bounded :
-    (k : ℕ) (r : Deduction) (cat : Catalog) (calls : List Call) (numbers : List ℕ) (v : Standing) →
-    CatalogOk cat →
-    v ≡ ruleOver (splitOf r) k cat (logOf k cat calls) →
-    TableAnswers k cat calls numbers →
+    (o : Opening Catalog) (calls : List Call) (numbers : List ℕ) (v : Standing) →
+    CatalogOk (o .catalog) →
+    v ≡ ruleFrom o (logOf (o .k) (o .catalog) calls) →
+    TableAnswers o calls numbers →
     Closing calls numbers →
-    Bounded k r cat calls (totalCost (v .figures))
+    Bounded o calls (totalCost (v .figures))
 unfolding ruleOver
-bounded k r cat calls numbers v good at answers closing =
+bounded o calls numbers v good at answers closing =
+    let k = o .k in
+    let cat = o .catalog in
     let l : Log = logOf k cat calls in
     let asked : refusal k cat (take (closing .place) calls) close ≡ 0 =
     ap (λ (z : Call). refusal k cat (take (closing .place) calls) z) (sym (closing .isClose)) ∙ sym (answers .each (closing .place) (closing .within)) ∙ closing .answered
     in
     let ended : l .closed ≡ true = closing-ends k cat calls (closing .place) (closing .within) (closing .isClose) asked in
-    let exact : totalCost (v .figures) ≡ totalCost (season (splitOf r) k cat (l .steps) .figures) =
-    ap (λ (u : Standing). totalCost (u .figures)) at ∙ ap (λ (t : Bool). totalCost (cond t (season (splitOf r) k cat (l .steps)) (ran (splitOf r) k cat (l .steps)) .figures)) ended
+    let exact : totalCost (v .figures) ≡ totalCost (seasonFrom o (l .steps) .figures) =
+    ap (λ (u : Standing). totalCost (u .figures)) at ∙ ap (λ (t : Bool). totalCost (cond t (seasonFrom o (l .steps)) (ran (splitFrom o) k cat (l .steps)) .figures)) ended
     in
     record {
       exact = exact;
-      bound = subst (WithinBound k cat (l .steps)) (sym exact) (competitive-bound (splitOf r) (deduction-ok r) k cat good (l .steps) (log-allowed k cat calls));
+      bound = subst (WithinBound k cat (l .steps)) (sym exact) (competitive-bound (splitFrom o) (split-ok o) k cat good (l .steps) (log-allowed k cat calls));
     }
 
 -- Demand 3.
 pub season-theorem :
-    {C : Type 0} (kind : Kind C) {k rule : ℕ} {cat : Catalog} {first d : C} {calls : List Call} {numbers : List ℕ} →
-    BeginsAt kind k rule cat first →
+    {C : Type 0} (kind : Kind C) {o : Opening Catalog} {first d : C} {calls : List Call} {numbers : List ℕ} →
+    BeginsAt kind o first →
     Follows kind first calls numbers d →
-    Season kind k (deductionOf rule) cat calls numbers d
+    Season kind o calls numbers d
 unfolding fold ruleOver
-season-theorem kind {k = k} {rule = rule} {cat = cat} {d = d} {calls = calls} {numbers = numbers} begins follows =
-    let good : CatalogOk cat = opening-taken k rule cat (begins .accepted) .0 .1 in
-    let so = leads kind k (deductionOf rule) cat good noLog (log-allowed k cat []) (begins .valid) (begins .stands) follows in
-    let answers : TableAnswers k cat calls numbers = record { count = so .count; each = so .each } in
+season-theorem kind {o = o} {d = d} {calls = calls} {numbers = numbers} begins follows =
+    let good : CatalogOk (o .catalog) = begins .fine .ranges .catalog in
+    let so = leads kind o good noLog (log-allowed (o .k) (o .catalog) []) (begins .valid) (begins .stands) follows in
+    let answers : TableAnswers o calls numbers = record { count = so .count; each = so .each } in
     record {
       answers = answers;
       valid = so .valid;
       stands = so .stands;
-      cost = λ closing. bounded k (deductionOf rule) cat calls numbers (kind .view d) good (so .stands) answers closing;
+      cost = λ closing. bounded o calls numbers (kind .view d) good (so .stands) answers closing;
     }
 
 -- ---- after each call
@@ -122,35 +131,30 @@ parted kind (suc i) (then h f) =
 
 -- no call hands back an invalid state: the theorem of the first i calls, for every i
 pub season-prefix :
-    {C : Type 0} (kind : Kind C) (k rule : ℕ) (cat : Catalog) (first : C) (calls : List Call) (numbers : List ℕ) (d : C) →
-    BeginsAt kind k rule cat first →
+    {C : Type 0} (kind : Kind C) (o : Opening Catalog) (first : C) (calls : List Call) (numbers : List ℕ) (d : C) →
+    BeginsAt kind o first →
     Follows kind first calls numbers d →
     (i : ℕ) →
-    Prefix kind k (deductionOf rule) cat first calls numbers d i
-season-prefix kind k rule cat first calls numbers d begins follows i =
+    Prefix kind o first calls numbers d i
+season-prefix kind o first calls numbers d begins follows i =
     let p : Parted kind first calls numbers d i = parted kind i follows in
-    let s : Season kind k (deductionOf rule) cat (take i calls) (take i numbers) (p .state) = season-theorem kind begins (p .reached) in
+    let s : Season kind o (take i calls) (take i numbers) (p .state) = season-theorem kind begins (p .reached) in
     record { state = p .state; reached = p .reached; rest = p .rest; valid = s .valid; stands = s .stands }
 
 -- ---- in lent bytes
 
 -- an opening that was not refused
-pub lent-begins : (b xs first : List ℕ) (k rule : ℕ) → OpenedLent b k rule xs 0 first → BeginsAt lent k rule (catalogIn xs) first
-lent-begins b xs first k rule o =
-    record {
-      accepted = right (o .answer) refl .accepted;
-      valid = o .valid refl;
-      stands = o .stands refl;
-    }
+pub lent-begins : (b first : List ℕ) (o : Opening (List ℕ)) → OpenedLent b o 0 first → BeginsAt lent (openingIn o) first
+lent-begins b first o h = record { fine = right (h .answer) refl .accepted; valid = h .valid refl; stands = h .stands refl }
 
-pub season-lent : (k rule : ℕ) (xs : List ℕ) (calls : List Call) (numbers d : List ℕ) → ChainLent k rule xs calls numbers d → SeasonLent k (deductionOf rule) (catalogIn xs) calls numbers d
-season-lent k rule xs calls numbers d chain =
-    let s : Season lent k (deductionOf rule) (catalogIn xs) calls numbers d = season-theorem lent (lent-begins (chain .before) xs (chain .first) k rule (chain .opening)) (chain .follows) in
+pub season-lent : (o : Opening (List ℕ)) (calls : List Call) (numbers d : List ℕ) → ChainLent o calls numbers d → SeasonLent (openingIn o) calls numbers d
+season-lent o calls numbers d chain =
+    let s : Season lent (openingIn o) calls numbers d = season-theorem lent (lent-begins (chain .before) (chain .first) o (chain .opening)) (chain .follows) in
     record { season = s; cost = s .cost }
 
 -- no call leaves invalid bytes
 pub prefix-lent :
-    (k rule : ℕ) (xs : List ℕ) (calls : List Call) (numbers d : List ℕ) (chain : ChainLent k rule xs calls numbers d) (i : ℕ) →
-    Prefix lent k (deductionOf rule) (catalogIn xs) (chain .first) calls numbers d i
-prefix-lent k rule xs calls numbers d chain i =
-    season-prefix lent k rule (catalogIn xs) (chain .first) calls numbers d (lent-begins (chain .before) xs (chain .first) k rule (chain .opening)) (chain .follows) i
+    (o : Opening (List ℕ)) (calls : List Call) (numbers d : List ℕ) (chain : ChainLent o calls numbers d) (i : ℕ) →
+    Prefix lent (openingIn o) (chain .first) calls numbers d i
+prefix-lent o calls numbers d chain i =
+    season-prefix lent (openingIn o) (chain .first) calls numbers d (lent-begins (chain .before) (chain .first) o (chain .opening)) (chain .follows) i

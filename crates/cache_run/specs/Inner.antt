@@ -3,8 +3,7 @@ use mathlib.Core.{Bool.cond, Path._≡_, List.List}
 use Prim.Native.Nat.{ℕ}
 use lib.{Dec.eqb, Seq.sets, ListN.getD}
 use Rattle.types.specs.declared.Numbers.{Numbers}
-use Rattle.types.specs.Types.{deductionOf}
-use Rattle.landlord.specs.{Slot.splitOf, Catalog.Catalog, Figures.opened, Calls.{openingRefusal, Call, close, stepCall}}
+use Rattle.landlord.specs.{Catalog.Catalog, Inner.OpeningOk, Calls.{Opening, startsAt, Call, close, stepCall}}
 use Rattle.cache.specs.Contract.{Kind}
 use Rattle.cache_run.specs.Season.{Follows, numbersBehind}
 
@@ -22,8 +21,9 @@ pub record RanCalls {C : Type 0} (kind : Kind C) (c : C) (calls : List Call) (be
   pub follows : Follows kind c calls numbers d
   pub noted : after ≡ sets before 0 numbers
 
--- what an opening that was not refused gives
-pub record BeginsAt {C : Type 0} (kind : Kind C) (k rule : ℕ) (cat : Catalog) (first : C) : Type 0 where
-  pub accepted : openingRefusal k rule cat ≡ 0
+-- What an opening that was not refused gives: of what it was given, that the rule can start from it, and a valid state at the start. That
+-- its answer was 0 is not asked: the season theorem holds from every such state.
+pub record BeginsAt {C : Type 0} (kind : Kind C) (o : Opening Catalog) (first : C) : Type 0 where
+  pub fine : OpeningOk o
   pub valid : kind .Valid first
-  pub stands : kind .view first ≡ opened (splitOf (deductionOf rule)) k cat
+  pub stands : kind .view first ≡ startsAt o

@@ -2,6 +2,7 @@
 ghost use mathlib.Core.Path.{_≡_};
 ghost use Prim.Native.Nat.{_+_, _<_};
 ghost use lib.ListN.{length, set};
+ghost use Rattle.landlord.specs.Calls.{opening};
 ghost use Rattle.layout.specs.Layout.{ValidBytes};
 ghost use Rattle.cache.specs.Contract.{lent, Answers};
 ghost use Rattle.cache_run.specs.Season.{callsOf, RanLent};
@@ -63,7 +64,7 @@ pub fn run(
     calls: &[u32],
     answers: &mut [u32],
 ) -> u32
-    ensures { λ r. ⌜ RanLent (now (b .entry)) k rule (now (catalog .entry)) (callsOf (now (calls .entry))) (now (answers .entry)) (now (answers .exit)) r (now (b .exit)) ⌝ }
+    ensures { λ r. ⌜ RanLent (now (b .entry)) (opening k rule (now (catalog .entry))) (callsOf (now (calls .entry))) (now (answers .entry)) (now (answers .exit)) r (now (b .exit)) ⌝ }
 {
     let number = cache_open::open(b, k, rule, catalog);
     if number != 0 {

@@ -10,7 +10,7 @@ use Rattle.types.specs.declared.Step.the-variants.{Read, Write, Flush, Arrive, 
 use Rattle.types.specs.Types.{Told, telling, stepOf, isDeduction}
 use Rattle.landlord.specs.Catalog.{Catalog, itemAt, capacityInRange, catalogInRange, noneLeft}
 use Rattle.landlord.specs.Figures.{Standing}
-use Rattle.landlord.specs.Calls.{Call, stepCall, close, callItem, inRange, ifKnown, itemRefusal, refusalAt, refusalNow, openingRefusal}
+use Rattle.landlord.specs.Calls.{Call, stepCall, close, callItem, inRange, ifKnown, itemRefusal, refusalAt, refusalNow, Opening, openingRefusal}
 use Rattle.cache.specs.Contract.{Called}
 use Rattle.cache_value.specs.declared.Cache.{Cache}
 use Rattle.cache_value.specs.declared.Answered.{Answered}
@@ -57,11 +57,11 @@ call-number {c = c} {call = call} {n = n} h = omega (arith, above)
         let seventeen = h .invalid (λ ok. omega (arith, h .fine ok .answer, table-number (byValue .view c) call)) .0 in
         omega (arith, seventeen)
 
-pub opening-number : {k rule : ℕ} {cat : Catalog} {n : ℕ} {c : Cache} → Opened k rule cat n c → n ≤ 20
+pub opening-number : {o : Opening Catalog} {n : ℕ} {c : Cache} → Opened o n c → n ≤ 20
 unfolding openingRefusal
-opening-number {k = k} {rule = rule} {cat = cat} o =
-    let most : openingRefusal k rule cat ≤ 20 = chosen (capacityInRange k && catalogInRange cat && noneLeft cat) (chosen (isDeduction rule) (omega arith) (omega arith)) (omega arith) in
-    omega (arith, o .answer, most)
+opening-number {o = o} h =
+    let most : openingRefusal o ≤ 20 = chosen (capacityInRange (o .k) && catalogInRange (o .catalog) && noneLeft (o .catalog)) (chosen (isDeduction (o .rule)) (omega arith) (omega arith)) (omega arith) in
+    omega (arith, h .answer, most)
 
 -- ---- the answer tells it
 
@@ -85,17 +85,17 @@ of-reply P {d = d} item r t e h =
 pub answered : (c d : Cache) (call : Call) (n : ℕ) (r : Answered) → Called byValue c call n d → answerTold (r .answer) ≡ telling n 0 (callItem call) → r .cache ≡ d → CalledBy c call r
 answered c d call n r h t e = record { called = of-reply (Called byValue c call) (callItem call) r t e h; tells = own-told (callItem call) t }
 
-pub opened-as : (k rule : ℕ) (cat : Catalog) (n : ℕ) (c : Cache) (r : Answered) → Opened k rule cat n c → answerTold (r .answer) ≡ telling n 0 0 → r .cache ≡ c → OpenedBy k rule cat r
-opened-as k rule cat n c r o t e =
-    let p = of-reply (Opened k rule cat) 0 r t e o in
+pub opened-as : (o : Opening Catalog) (n : ℕ) (c : Cache) (r : Answered) → Opened o n c → answerTold (r .answer) ≡ telling n 0 0 → r .cache ≡ c → OpenedBy o r
+opened-as o n c r h t e =
+    let p = of-reply (Opened o) 0 r t e h in
     record {
-      tells = t ∙ ap (λ (m : ℕ). telling m 0 0) (o .answer);
+      tells = t ∙ ap (λ (m : ℕ). telling m 0 0) (h .answer);
       valid = p .valid;
-      stands = p .stands ∙ ap (atOpening k rule cat) (p .answer);
+      stands = p .stands ∙ ap (atOpening o) (p .answer);
       empty = p .empty;
     }
 
-pub opened-by : (k rule : ℕ) (cat : Catalog) (r : Answered) → OpenedBy k rule cat r → Opened k rule cat (answerNumber (r .answer)) (r .cache)
-opened-by k rule cat r o =
-    let n = number-told 0 (o .tells) in
-    record { answer = n; valid = o .valid; stands = o .stands ∙ ap (atOpening k rule cat) (sym n); empty = o .empty }
+pub opened-by : (o : Opening Catalog) (r : Answered) → OpenedBy o r → Opened o (answerNumber (r .answer)) (r .cache)
+opened-by o r h =
+    let n = number-told 0 (h .tells) in
+    record { answer = n; valid = h .valid; stands = h .stands ∙ ap (atOpening o) (sym n); empty = h .empty }

@@ -4,11 +4,11 @@ use mathlib.Core.Path.{_≡_, refl, sym, ap, subst, _∙_}
 use mathlib.Core.Logic.{_≢_}
 use mathlib.Core.List.{List, []}
 use Prim.Native.Nat.{ℕ}
-use Rattle.types.specs.declared.Deduction.{Deduction}
-use Rattle.types.specs.Types.{telling, deductionOf}
+use Rattle.types.specs.Types.{telling}
 use Rattle.landlord.specs.Catalog.{Catalog}
 use Rattle.landlord.specs.Figures.{Standing, totalCost}
-use Rattle.landlord.specs.Calls.{Call}
+use Rattle.landlord.specs.Calls.{Opening, Call}
+use Rattle.landlord.proofs.Ranges.{opening-taken}
 use Rattle.cache_state.specs.Cache.{view, Valid}
 use Rattle.layout.specs.Layout.{cacheOf}
 use Rattle.layout.specs.Inner.{Stands}
@@ -26,58 +26,58 @@ use Rattle.cache_value.proofs.Answers.{number-told, opened-as}
 use Rattle.cache_value.proofs.Calls.{valid-there, same-view}
 
 pub run-refused :
-    (k rule : ℕ) (cat : Catalog) (calls : List Call) (before : List ℕ) (n : ℕ) (c : Cache) (r : Answered) →
-    Opened k rule cat n c →
+    (o : Opening Catalog) (calls : List Call) (before : List ℕ) (n : ℕ) (c : Cache) (r : Answered) →
+    Opened o n c →
     n ≢ 0 →
     answerTold (r .answer) ≡ telling n 0 0 →
     r .cache ≡ c →
-    Ran k rule cat calls before before r
-run-refused k rule cat calls before n c r o d t e =
+    Ran o calls before before r
+run-refused o calls before n c r h d t e =
     record {
-      tells = t ∙ ap (λ (m : ℕ). telling m 0 0) (o .answer);
-      refused = λ z. (refl, opened-as k rule cat n c r o t e);
+      tells = t ∙ ap (λ (m : ℕ). telling m 0 0) (h .answer);
+      refused = λ z. (refl, opened-as o n c r h t e);
       numbers = [];
       season = λ z. absurd (d (sym (number-told 0 t) ∙ z));
     }
 
 -- the bytes of an opened cache begin a season in place
-bytes-begin : (k rule : ℕ) (cat : Catalog) (n : ℕ) (c : Cache) (b : List ℕ) → Opened k rule cat n c → n ≡ 0 → Stands b (recordOf c) → BeginsAt lent k rule cat b
-bytes-begin k rule cat n c b o z s =
+bytes-begin : (o : Opening Catalog) (n : ℕ) (c : Cache) (b : List ℕ) → Opened o n c → n ≡ 0 → Stands b (recordOf c) → BeginsAt lent o b
+bytes-begin o n c b h z s =
     record {
-      accepted = sym (o .answer) ∙ z;
-      valid = valid-there c s (o .valid);
-      stands = same-view c s ∙ o .stands ∙ ap (atOpening k rule cat) z;
+      fine = opening-taken o (sym (h .answer) ∙ z);
+      valid = valid-there c s (h .valid);
+      stands = same-view c s ∙ h .stands ∙ ap (atOpening o) z;
     }
 
 -- the conclusions for bytes are those for the struct that they stand for
 season-carried :
-    (k : ℕ) (r : Deduction) (cat : Catalog) (calls : List Call) (numbers left : List ℕ) (d : Cache) →
+    (o : Opening Catalog) (calls : List Call) (numbers left : List ℕ) (d : Cache) →
     recordOf d ≡ cacheOf left →
-    Season lent k r cat calls numbers left →
-    SeasonByValue k r cat calls numbers d
-season-carried k r cat calls numbers left d e s = record { season = season; cost = season .cost }
+    Season lent o calls numbers left →
+    SeasonByValue o calls numbers d
+season-carried o calls numbers left d e s = record { season = season; cost = season .cost }
   where
-    season : Season byValue k r cat calls numbers d
+    season : Season byValue o calls numbers d
     season =
         record {
           answers = s .answers;
           valid = subst Valid (sym e) (s .valid .cache);
           stands = ap view e ∙ s .stands;
-          cost = λ closing. subst (λ (v : Standing). Bounded k r cat calls (totalCost (v .figures))) (sym (ap view e)) (s .cost closing);
+          cost = λ closing. subst (λ (v : Standing). Bounded o calls (totalCost (v .figures))) (sym (ap view e)) (s .cost closing);
         }
 
 pub run-taken :
-    (k rule : ℕ) (cat : Catalog) (calls : List Call) (before : List ℕ) (n : ℕ) (c d : Cache) {after b left : List ℕ} →
-    Opened k rule cat n c →
+    (o : Opening Catalog) (calls : List Call) (before : List ℕ) (n : ℕ) (c d : Cache) {after b left : List ℕ} →
+    Opened o n c →
     n ≡ 0 →
     Stands b (recordOf c) →
     RanCalls lent b calls before after left →
     recordOf d ≡ cacheOf left →
-    Ran k rule cat calls before after (record { answer = Taken; cache = d })
-run-taken k rule cat calls before n c d {b = b} {left = left} o z s ran e =
+    Ran o calls before after (record { answer = Taken; cache = d })
+run-taken o calls before n c d {b = b} {left = left} h z s ran e =
     record {
-      tells = ap (λ (m : ℕ). telling m 0 0) (sym z ∙ o .answer);
+      tells = ap (λ (m : ℕ). telling m 0 0) (sym z ∙ h .answer);
       refused = λ w. absurd (w refl);
       numbers = ran .numbers;
-      season = λ w. (season-carried k (deductionOf rule) cat calls (ran .numbers) left d e (season-theorem lent (bytes-begin k rule cat n c b o z s) (ran .follows)), ran .noted);
+      season = λ w. (season-carried o calls (ran .numbers) left d e (season-theorem lent (bytes-begin o n c b h z s) (ran .follows)), ran .noted);
     }

@@ -3,9 +3,10 @@ use mathlib.Core.Path.{_≡_, refl, sym, ap, subst, _∙_}
 use mathlib.Core.List.{List, map}
 use Prim.Native.Nat.{ℕ, zero, suc}
 use lib.ListN.{getD, length-map}
-use Rattle.types.specs.Types.{telling, deductionOf}
+use Rattle.types.specs.Types.{telling}
 use Rattle.landlord.specs.Catalog.{Catalog}
-use Rattle.landlord.specs.Calls.{Call, close, callItem}
+use Rattle.landlord.proofs.Ranges.{opening-taken}
+use Rattle.landlord.specs.Calls.{Opening, Call, close, callItem}
 use Rattle.cache_run.specs.Season.{Follows, none, then, Season, Prefix}
 use Rattle.cache_run.specs.Inner.{BeginsAt}
 use Rattle.cache_run.proofs.Season.{season-theorem, season-prefix}
@@ -17,21 +18,21 @@ use Rattle.cache_value.specs.Inner.{Opened, Chain}
 use Rattle.cache_value.proofs.Answers.{opened-by}
 
 -- an opening that was not refused
-value-begins : (k rule : ℕ) (cat : Catalog) (first : Cache) → Opened k rule cat 0 first → BeginsAt byValue k rule cat first
-value-begins k rule cat first o = record { accepted = sym (o .answer); valid = o .valid; stands = o .stands }
+value-begins : (o : Opening Catalog) (first : Cache) → Opened o 0 first → BeginsAt byValue o first
+value-begins o first h = record { fine = opening-taken o (sym (h .answer)); valid = h .valid; stands = h .stands }
 
 -- Demand 3 by value.
-pub season-by-value : (k rule : ℕ) (cat : Catalog) (calls : List Call) (numbers : List ℕ) (d : Cache) → Chain k rule cat calls numbers d → SeasonByValue k (deductionOf rule) cat calls numbers d
-season-by-value k rule cat calls numbers d chain =
-    let s : Season byValue k (deductionOf rule) cat calls numbers d = season-theorem byValue (value-begins k rule cat (chain .first) (chain .opening)) (chain .follows) in
+pub season-by-value : (o : Opening Catalog) (calls : List Call) (numbers : List ℕ) (d : Cache) → Chain o calls numbers d → SeasonByValue o calls numbers d
+season-by-value o calls numbers d chain =
+    let s : Season byValue o calls numbers d = season-theorem byValue (value-begins o (chain .first) (chain .opening)) (chain .follows) in
     record { season = s; cost = s .cost }
 
 -- no call hands back an invalid cache
 pub prefix-by-value :
-    (k rule : ℕ) (cat : Catalog) (calls : List Call) (numbers : List ℕ) (d : Cache) (chain : Chain k rule cat calls numbers d) (i : ℕ) →
-    Prefix byValue k (deductionOf rule) cat (chain .first) calls numbers d i
-prefix-by-value k rule cat calls numbers d chain i =
-    season-prefix byValue k rule cat (chain .first) calls numbers d (value-begins k rule cat (chain .first) (chain .opening)) (chain .follows) i
+    (o : Opening Catalog) (calls : List Call) (numbers : List ℕ) (d : Cache) (chain : Chain o calls numbers d) (i : ℕ) →
+    Prefix byValue o (chain .first) calls numbers d i
+prefix-by-value o calls numbers d chain i =
+    season-prefix byValue o (chain .first) calls numbers d (value-begins o (chain .first) (chain .opening)) (chain .follows) i
 
 -- ---- by methods
 
@@ -51,29 +52,29 @@ told-at (thenCall m f) zero = m .tells
 told-at (thenCall m f) (suc i) = told-at f i
 
 -- so from an opening on
-numbered : {k rule : ℕ} {cat : Catalog} {calls : List Call} {answers : List Answer} {d : Cache} → ChainBy k rule cat calls answers d → Chain k rule cat calls (map answerNumber answers) d
-numbered {k = k} {rule = rule} {cat = cat} chain =
+numbered : {o : Opening Catalog} {calls : List Call} {answers : List Answer} {d : Cache} → ChainBy o calls answers d → Chain o calls (map answerNumber answers) d
+numbered {o = o} chain =
     record {
       first = chain .reply .cache;
-      opening = subst (λ (n : ℕ). Opened k rule cat n (chain .reply .cache)) (chain .taken) (opened-by k rule cat (chain .reply) (chain .opening));
+      opening = subst (λ (n : ℕ). Opened o n (chain .reply .cache)) (chain .taken) (opened-by o (chain .reply) (chain .opening));
       follows = method-follows (chain .follows);
     }
 
 -- Demand 3 by value, for the methods and their answers.
-pub season-by-methods : (k rule : ℕ) (cat : Catalog) (calls : List Call) (answers : List Answer) (d : Cache) → ChainBy k rule cat calls answers d → SeasonByMethods k (deductionOf rule) cat calls answers d
-season-by-methods k rule cat calls answers d chain =
+pub season-by-methods : (o : Opening Catalog) (calls : List Call) (answers : List Answer) (d : Cache) → ChainBy o calls answers d → SeasonByMethods o calls answers d
+season-by-methods o calls answers d chain =
     record {
       count = sym (length-map answers answerNumber) ∙ s .season .answers .count;
       each = λ i l. told-at (chain .follows) i ∙ ap (λ (n : ℕ). telling n 0 (callItem (getD calls i close))) (s .season .answers .each i l);
       byNumber = s;
     }
   where
-    s : SeasonByValue k (deductionOf rule) cat calls (map answerNumber answers) d
-    s = season-by-value k rule cat calls (map answerNumber answers) d (numbered chain)
+    s : SeasonByValue o calls (map answerNumber answers) d
+    s = season-by-value o calls (map answerNumber answers) d (numbered chain)
 
 -- no method hands back an invalid cache
 pub prefix-by-methods :
-    (k rule : ℕ) (cat : Catalog) (calls : List Call) (answers : List Answer) (d : Cache) (chain : ChainBy k rule cat calls answers d) (i : ℕ) →
-    Prefix byValue k (deductionOf rule) cat (chain .reply .cache) calls (map answerNumber answers) d i
+    (o : Opening Catalog) (calls : List Call) (answers : List Answer) (d : Cache) (chain : ChainBy o calls answers d) (i : ℕ) →
+    Prefix byValue o (chain .reply .cache) calls (map answerNumber answers) d i
 unfolding numbered
-prefix-by-methods k rule cat calls answers d chain i = prefix-by-value k rule cat calls (map answerNumber answers) d (numbered chain) i
+prefix-by-methods o calls answers d chain i = prefix-by-value o calls (map answerNumber answers) d (numbered chain) i

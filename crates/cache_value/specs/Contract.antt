@@ -2,9 +2,8 @@
 use mathlib.Core.{Path._≡_, Bool.{true, cond}, List.{List, [], _∷_, map}, Logic._≢_}
 use Prim.Native.Nat.{ℕ, _<_, _+_}
 use lib.{Dec.eqb, ListN.{getD, length, take}, Seq.sets}
-use Rattle.types.specs.declared.Deduction.{Deduction}
-use Rattle.types.specs.Types.{telling, nothingTold, told, Told, deductionOf}
-use Rattle.landlord.specs.{Fold.tab, Catalog.{Catalog, listed}, Slot.{writeFirst, splitOf}, Rule.emptied, Figures.{Standing, nothing, opened}, Calls.{Call, callItem, openingRefusal, close, refusal}}
+use Rattle.types.specs.Types.{telling, nothingTold, told, Told}
+use Rattle.landlord.specs.{Fold.tab, Catalog.{Catalog, listed}, Slot.writeFirst, Rule.emptied, Figures.{Standing, nothing}, Calls.{Opening, Call, callItem, openingRefusal, startsAt, close, refusal}}
 use Rattle.cache_state.specs.Cache.{Cache as Record, view, Valid, EmptyPlace}
 use Rattle.cache.specs.Contract.{Kind, Called}
 use Rattle.cache_run.specs.Season.{Closing, Bounded, Season}
@@ -69,19 +68,19 @@ pub record CalledBy (c : Cache) (call : Call) (r : Answered) : Type 0 where
   pub tells : answerTold (r .answer) ≡ telling (answerNumber (r .answer)) 0 (callItem call)
 
 -- the opening: 0, 3 or 18, and the one valid cache that stands at the opening, or that of a refused one, all its places empty
-pub record OpenedBy (k rule : ℕ) (cat : Catalog) (r : Answered) : Type 0 where
-  pub tells : answerTold (r .answer) ≡ telling (openingRefusal k rule cat) 0 0
+pub record OpenedBy (o : Opening Catalog) (r : Answered) : Type 0 where
+  pub tells : answerTold (r .answer) ≡ telling (openingRefusal o) 0 0
   pub valid : byValue .Valid (r .cache)
-  pub stands : byValue .view (r .cache) ≡ cond (eqb (openingRefusal k rule cat) 0) (opened (splitOf (deductionOf rule)) k cat) refusedOpening
+  pub stands : byValue .view (r .cache) ≡ cond (eqb (openingRefusal o) 0) (startsAt o) refusedOpening
   -- "It has 256 places, one for each sail number, empty at opening"
   pub empty : (i : ℕ) → i < 256 → EmptyPlace (recordOf (r .cache)) i
 
 -- ---- the season: each call is handed the cache that the last one handed back
 
 -- the three conclusions; the total is that of the struct's own two fields
-pub record SeasonByValue (k : ℕ) (r : Deduction) (cat : Catalog) (calls : List Call) (numbers : List ℕ) (d : Cache) : Type 0 where
-  pub season : Season byValue k r cat calls numbers d
-  pub cost : Closing calls numbers → Bounded k r cat calls (d .loadcost + d .writecost)
+pub record SeasonByValue (o : Opening Catalog) (calls : List Call) (numbers : List ℕ) (d : Cache) : Type 0 where
+  pub season : Season byValue o calls numbers d
+  pub cost : Closing calls numbers → Bounded o calls (d .loadcost + d .writecost)
 
 -- from c, by these calls as methods, each on the cache that the last one handed back, with these answers, to d
 pub data FollowsBy : Cache → List Call → List Answer → Cache → Type 0 where
@@ -93,25 +92,25 @@ pub data FollowsBy : Cache → List Call → List Answer → Cache → Type 0 wh
       FollowsBy c (call ∷ calls) (r .answer ∷ answers) d
 
 -- the list starts from what an opening handed back, which was not refused
-pub record ChainBy (k rule : ℕ) (cat : Catalog) (calls : List Call) (answers : List Answer) (d : Cache) : Type 0 where
+pub record ChainBy (o : Opening Catalog) (calls : List Call) (answers : List Answer) (d : Cache) : Type 0 where
   pub reply : Answered
-  pub opening : OpenedBy k rule cat reply
+  pub opening : OpenedBy o reply
   pub taken : answerNumber (reply .answer) ≡ 0
   pub follows : FollowsBy (reply .cache) calls answers d
 
 -- The first conclusion for the answers themselves: answer i tells the number that the table gives, from the opening's arguments and
 -- the calls before it, with the call's item and no line. The other two are stated for the numbers.
-pub record SeasonByMethods (k : ℕ) (r : Deduction) (cat : Catalog) (calls : List Call) (answers : List Answer) (d : Cache) : Type 0 where
+pub record SeasonByMethods (o : Opening Catalog) (calls : List Call) (answers : List Answer) (d : Cache) : Type 0 where
   pub count : length answers ≡ length calls
   pub each :
       (i : ℕ) → i < length calls →
-      answerTold (getD answers i Taken) ≡ telling (refusal k cat (take i calls) (getD calls i close)) 0 (callItem (getD calls i close))
-  pub byNumber : SeasonByValue k r cat calls (map answerNumber answers) d
+      answerTold (getD answers i Taken) ≡ telling (refusal (o .k) (o .catalog) (take i calls) (getD calls i close)) 0 (callItem (getD calls i close))
+  pub byNumber : SeasonByValue o calls (map answerNumber answers) d
 
 -- The season theorem of the arguments alone: a refused opening answers 3 or 18, notes nothing and hands back the one cache of a refused
 -- opening; else the three conclusions hold of the answers noted and of the cache handed back.
-pub record Ran (k rule : ℕ) (cat : Catalog) (calls : List Call) (before after : List ℕ) (r : Answered) : Type 0 where
-  pub tells : answerTold (r .answer) ≡ telling (openingRefusal k rule cat) 0 0
-  pub refused : answerNumber (r .answer) ≢ 0 → (after ≡ before) × OpenedBy k rule cat r
+pub record Ran (o : Opening Catalog) (calls : List Call) (before after : List ℕ) (r : Answered) : Type 0 where
+  pub tells : answerTold (r .answer) ≡ telling (openingRefusal o) 0 0
+  pub refused : answerNumber (r .answer) ≢ 0 → (after ≡ before) × OpenedBy o r
   pub numbers : List ℕ
-  pub season : answerNumber (r .answer) ≡ 0 → SeasonByValue k (deductionOf rule) cat calls numbers (r .cache) × (after ≡ sets before 0 numbers)
+  pub season : answerNumber (r .answer) ≡ 0 → SeasonByValue o calls numbers (r .cache) × (after ≡ sets before 0 numbers)

@@ -3,8 +3,7 @@ use mathlib.Core.{Path._≡_, Bool.{cond, true}, List.List}
 use Prim.Native.Nat.{ℕ, _<_}
 use lib.{ListN.replicate, Dec.eqb}
 use Rattle.types.specs.declared.Deduction.the-variants.{WriteFirst}
-use Rattle.types.specs.Types.{deductionOf}
-use Rattle.landlord.specs.{Slot.splitOf, Catalog.Catalog, Figures.opened, Calls.{Call, openingRefusal}}
+use Rattle.landlord.specs.{Catalog.Catalog, Calls.{Opening, Call, openingRefusal, startsAt}}
 use Rattle.cache_state.specs.Cache.{Cache as Record, EmptyPlace}
 use Rattle.cache_open.specs.Inner.{emptyWith}
 use Rattle.cache_run.specs.Season.{Follows}
@@ -15,14 +14,14 @@ abbrev pub nothingOpened : Record
 nothingOpened = emptyWith 1 0 (replicate 256 0) (replicate 256 0) (replicate 256 0) true WriteFirst
 
 -- an opening with the number of its answer: 0, 3 or 18, and the one valid cache that stands at the opening, or that of a refused one
-pub record Opened (k rule : ℕ) (cat : Catalog) (number : ℕ) (c : Cache) : Type 0 where
-  pub answer : number ≡ openingRefusal k rule cat
+pub record Opened (o : Opening Catalog) (number : ℕ) (c : Cache) : Type 0 where
+  pub answer : number ≡ openingRefusal o
   pub valid : byValue .Valid c
-  pub stands : byValue .view c ≡ cond (eqb number 0) (opened (splitOf (deductionOf rule)) k cat) refusedOpening
+  pub stands : byValue .view c ≡ cond (eqb number 0) (startsAt o) refusedOpening
   pub empty : (i : ℕ) → i < 256 → EmptyPlace (recordOf c) i
 
 -- a list of calls by value, with the numbers of the answers: it starts from an opening that was not refused
-pub record Chain (k rule : ℕ) (cat : Catalog) (calls : List Call) (numbers : List ℕ) (d : Cache) : Type 0 where
+pub record Chain (o : Opening Catalog) (calls : List Call) (numbers : List ℕ) (d : Cache) : Type 0 where
   pub first : Cache
-  pub opening : Opened k rule cat 0 first
+  pub opening : Opened o 0 first
   pub follows : Follows byValue first calls numbers d

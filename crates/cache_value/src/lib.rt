@@ -3,7 +3,7 @@
 ghost use mathlib.Core.Path.{_≡_};
 ghost use Prim.Native.Nat.{_≤_};
 ghost use Rattle.types.specs.Types.{telling};
-ghost use Rattle.landlord.specs.Calls.{close, callOf};
+ghost use Rattle.landlord.specs.Calls.{opening, close, callOf};
 ghost use Rattle.cache_open.specs.Inner.{emptyWith};
 ghost use Rattle.cache.specs.Contract.{lent, Called};
 ghost use Rattle.cache_run.specs.Season.{callsOf};
@@ -142,7 +142,7 @@ fn opening(
     load: [u16; 256],
     write: [u16; 256],
 ) -> Reply
-    ensures { λ r. ⌜ Opened k rule (catalogFrom n blocks load write) (r .number) (r .cache) ⌝ }
+    ensures { λ r. ⌜ Opened (opening k rule (catalogFrom n blocks load write)) (r .number) (r .cache) ⌝ }
 {
     if !cache_parts::opens(k, n, blocks) {
         return refused_opening(3);
@@ -230,7 +230,7 @@ impl Cache {
         load: [u16; 256],
         write: [u16; 256],
     ) -> Answered
-        ensures { λ r. ⌜ OpenedBy k rule (catalogFrom n blocks load write) r ⌝ }
+        ensures { λ r. ⌜ OpenedBy (opening k rule (catalogFrom n blocks load write)) r ⌝ }
     {
         answer_with(opening(k, rule, n, blocks, load, write), 0)
     }
@@ -265,7 +265,7 @@ pub fn run(
     calls: &[u32],
     answers: &mut [u32],
 ) -> Answered
-    ensures { λ r. ⌜ Ran k rule (catalogFrom n blocks load write) (callsOf (now (calls .entry))) (now (answers .entry)) (now (answers .exit)) r ⌝ }
+    ensures { λ r. ⌜ Ran (opening k rule (catalogFrom n blocks load write)) (callsOf (now (calls .entry))) (now (answers .entry)) (now (answers .exit)) r ⌝ }
 {
     let first = opening(k, rule, n, blocks, load, write);
     let number = first.number;

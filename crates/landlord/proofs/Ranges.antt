@@ -12,8 +12,8 @@ use Rattle.types.specs.declared.Numbers.{Numbers}
 use Rattle.types.specs.Types.{isDeduction}
 use Rattle.landlord.specs.Fold.{tab}
 use Rattle.landlord.specs.Catalog.{Catalog, Item, itemAt, noItem, listed, blocksInRange, costInRange, itemInRange, allInRange, catalogInRange, noneLeft, capacityInRange, CatalogOk, CapacityOk}
-use Rattle.landlord.specs.Calls.{openingRefusal, inRange}
-use Rattle.landlord.specs.Inner.{ItemFacts, CatalogFacts, CapacityFacts}
+use Rattle.landlord.specs.Calls.{Opening, openingRefusal, inRange}
+use Rattle.landlord.specs.Inner.{ItemFacts, CatalogFacts, CapacityFacts, OpeningRanges, OpeningOk}
 use Rattle.landlord.proofs.Folds.{tab-length, tab-at}
 
 pub and-left : (a b : Bool) → a && b ≡ true → a ≡ true
@@ -111,47 +111,48 @@ capacity-ok k f = rw (le-leb 1 k (f .low), le-leb k 4096 (f .high))
 -- ## An opening
 
 -- the three ranges of an opening, and whether any item has left
-abbrev openingInRange : ℕ → Catalog → Bool
-openingInRange k cat = capacityInRange k && catalogInRange cat && noneLeft cat
+abbrev openingInRange : Opening Catalog → Bool
+openingInRange o = capacityInRange (o .k) && catalogInRange (o .catalog) && noneLeft (o .catalog)
 
--- what is asked of an opening's capacity and catalog
-abbrev pub OpeningOk : ℕ → Catalog → Type 0
-OpeningOk k cat = CapacityOk k × CatalogOk cat × (noneLeft cat ≡ true)
-
-opening-parts : (a b c : Bool) → a && b && c ≡ true → (a ≡ true) × (b ≡ true) × (c ≡ true)
-opening-parts true true true e = (refl, refl, refl)
-opening-parts true true false e = absurd (false≢true e)
-opening-parts true false c e = absurd (false≢true e)
-opening-parts false b c e = absurd (false≢true e)
+opening-ranges : (o : Opening Catalog) → openingInRange o ≡ true → OpeningRanges o
+opening-ranges o e =
+    let parts = go (capacityInRange (o .k)) (catalogInRange (o .catalog)) (noneLeft (o .catalog)) e in
+    record { capacity = parts .0; catalog = parts .1; fresh = parts .2 }
+  where
+    go : (a b c : Bool) → a && b && c ≡ true → (a ≡ true) × (b ≡ true) × (c ≡ true)
+    go true true true e = (refl, refl, refl)
+    go true true false e = absurd (false≢true e)
+    go true false c e = absurd (false≢true e)
+    go false b c e = absurd (false≢true e)
 
 none-refused : (s t : Bool) → _≡_ {A = ℕ} (cond s (cond t 0 18) 3) 0 → (s ≡ true) × (t ≡ true)
 none-refused true true e = (refl, refl)
 none-refused true false e = absurd (omega arith)
 none-refused false t e = absurd (omega arith)
 
-pub opening-taken : (k rule : ℕ) (cat : Catalog) → openingRefusal k rule cat ≡ 0 → OpeningOk k cat × (isDeduction rule ≡ true)
+pub opening-taken : (o : Opening Catalog) → openingRefusal o ≡ 0 → OpeningOk o
 unfolding openingRefusal
-opening-taken k rule cat e =
-    let all = none-refused (openingInRange k cat) (isDeduction rule) e in
-    (opening-parts (capacityInRange k) (catalogInRange cat) (noneLeft cat) (all .0), all .1)
+opening-taken o e =
+    let all = none-refused (openingInRange o) (isDeduction (o .rule)) e in
+    record { ranges = opening-ranges o (all .0); rule = all .1 }
 
-pub opening-accepts : (k rule : ℕ) (cat : Catalog) → CapacityOk k → CatalogOk cat → noneLeft cat ≡ true → isDeduction rule ≡ true → openingRefusal k rule cat ≡ 0
+pub opening-accepts : (o : Opening Catalog) → OpeningOk o → openingRefusal o ≡ 0
 unfolding openingRefusal
-opening-accepts k rule cat size ok new known = rw (size, ok, new, known)
+opening-accepts o f = rw (f .ranges .capacity, f .ranges .catalog, f .ranges .fresh, f .rule)
 
 -- an opening that asks for something out of range is refused
-pub range-refused : (k rule : ℕ) (cat : Catalog) → (OpeningOk k cat → ⊥) → 3 ≡ openingRefusal k rule cat
+pub range-refused : (o : Opening Catalog) → (OpeningRanges o → ⊥) → 3 ≡ openingRefusal o
 unfolding openingRefusal
-range-refused k rule cat none = go (openingInRange k cat) refl
+range-refused o none = go (openingInRange o) refl
   where
-    go : (t : Bool) → openingInRange k cat ≡ t → _≡_ {A = ℕ} 3 (cond t (cond (isDeduction rule) 0 18) 3)
-    go true e = absurd (none (opening-parts (capacityInRange k) (catalogInRange cat) (noneLeft cat) e))
+    go : (t : Bool) → openingInRange o ≡ t → _≡_ {A = ℕ} 3 (cond t (cond (isDeduction (o .rule)) 0 18) 3)
+    go true e = absurd (none (opening-ranges o e))
     go false e = refl
 
 -- and after that one whose rule's number is no rule's
-pub rule-refused : (k rule : ℕ) (cat : Catalog) → CapacityOk k → CatalogOk cat → noneLeft cat ≡ true → isDeduction rule ≡ false → 18 ≡ openingRefusal k rule cat
+pub rule-refused : (o : Opening Catalog) → OpeningRanges o → isDeduction (o .rule) ≡ false → 18 ≡ openingRefusal o
 unfolding openingRefusal
-rule-refused k rule cat size ok new odd = rw (size, ok, new, odd)
+rule-refused o f odd = rw (f .capacity, f .catalog, f .fresh, odd)
 
 -- ## An item's values, test by test
 

@@ -18,7 +18,8 @@ use Rattle.landlord.specs.Catalog.{Catalog, Item, CatalogOk, CapacityOk,
 use Rattle.landlord.specs.Slot.{Slot, absent, clean, dirty, held, isDirty, Split, written}
 use Rattle.landlord.specs.Rule.{State, size, slotAt, blocksAt, used, heldCount, emptied, wrote, flushStep, evicted, retired, Moved, stay, joined, victim, evictItem, evict, makeRoom, putSlot, found, readSlot, serveRead, serveWrite, flush, arrive, dropItem, leave, step}
 use Rattle.landlord.specs.Figures.{Totals, Figures, Standing, useAt, tally, opened, moved, took, closes}
-use Rattle.landlord.specs.Calls.{Call, stepCall, close, callOf, inRange, itemRefusal, refusalAt, refusalNow, logOf, ruleOver, accepted, after}
+use Rattle.landlord.specs.Calls.{Call, stepCall, close, callOf, inRange, itemRefusal, refusalAt, refusalNow, logOf, ruleOver, accepted, after, Opening, splitFrom, startsAt}
+use Rattle.landlord.specs.Inner.{OpeningOk}
 use Rattle.landlord.specs.Claims.{SplitOk, SlotKept, Kept, Least}
 use Rattle.landlord.specs.Valid.{dirtyCount, leftCount, StandingOk}
 use Rattle.landlord.proofs.Ranges.{catalog-facts, item-facts, and-right}
@@ -106,6 +107,10 @@ ok-opened split k cat capacity good new =
     none mark e =
         sum-zero (length cat) _
         (λ i l. ap (λ (t : Bool). cond t 1 0) (ap mark (tab-at (length cat) (λ j. absent) i absent l) ∙ e))
+
+-- so it is from each opening that is not refused
+pub ok-starts : (o : Opening Catalog) → OpeningOk o → StandingOk (startsAt o)
+ok-starts o f = ok-opened (splitFrom o) (o .k) (o .catalog) (f .ranges .capacity) (f .ranges .catalog) (f .ranges .fresh)
 
 -- an eviction takes the victim out of the dirty ones
 evict-dirty : (split : Split) (v : ℕ) (x : State) → v < size x → dirtyCount (evictItem split v x) + cond (isDirty (slotAt x v)) 1 0 ≡ dirtyCount x

@@ -4,13 +4,22 @@ use mathlib.Core.{Bool.{Bool, true, false, cond, _&&_}, List.{List, [], _∷_, _
 use Prim.Native.Nat.{ℕ}
 use lib.{ListN.length, Dec.{leb, ltb, eqb}}
 use Rattle.types.specs.declared.{Step.{Step, the-variants.{Read, Write, Flush, Arrive, Retire}}, Numbers.Numbers}
-use Rattle.types.specs.Types.{numbersOf, stepOf, isDeduction}
-use Rattle.landlord.specs.{Fold.fold, Catalog.{Catalog, itemAt, listed, catalogAfter, itemInRange, catalogInRange, noneLeft, capacityInRange}, Slot.Split, Figures.{Standing, took, closes, ran, season}}
+use Rattle.types.specs.Types.{numbersOf, stepOf, isDeduction, deductionOf}
+use Rattle.landlord.specs.{Fold.fold, Catalog.{Catalog, itemAt, listed, catalogAfter, itemInRange, catalogInRange, noneLeft, capacityInRange}, Slot.{Split, splitOf}, Figures.{Standing, opened, took, closes, ran, season}}
+
+-- What an opening is given: the capacity, the number of a rule of deduction, and the catalog, in the form in which it is handed over.
+pub record Opening (C : Type 0) : Type 0 where
+  pub k : ℕ
+  pub rule : ℕ
+  pub catalog : C
+
+abbrev pub opening : {C : Type 0} → ℕ → ℕ → C → Opening C
+opening k rule cat = record { k = k; rule = rule; catalog = cat }
 
 -- "Opening by call checks k and catalogue (3)", then the rule's number: "any other number is 18" (paper 02, 'Three'). The refusal's
 -- number, 0 if there is none. No item of an opening has left.
-unfoldable pub openingRefusal : ℕ → ℕ → Catalog → ℕ
-openingRefusal k rule cat = cond (capacityInRange k && catalogInRange cat && noneLeft cat) (cond (isDeduction rule) 0 18) 3
+unfoldable pub openingRefusal : Opening Catalog → ℕ
+openingRefusal o = cond (capacityInRange (o .k) && catalogInRange (o .catalog) && noneLeft (o .catalog)) (cond (isDeduction (o .rule)) 0 18) 3
 
 -- a call, with any numbers: a step's kind is the code of its letter
 pub data Call : Type 0 where
@@ -97,6 +106,20 @@ refusal k cat before call = refusalIn k cat (logOf k cat before) call
 -- where the rule stands after a log, from an empty cache: over its steps, and over its closing if it has one
 unfoldable pub ruleOver : Split → ℕ → Catalog → Log → Standing
 ruleOver split k cat l = cond (l .closed) (season split k cat (l .steps)) (ran split k cat (l .steps))
+
+-- how a loss is split from an opening on: by its rule
+abbrev pub splitFrom : Opening Catalog → Split
+splitFrom o = splitOf (deductionOf (o .rule))
+
+-- where the rule stands at an opening, after a log from there, and after a season
+abbrev pub startsAt : Opening Catalog → Standing
+startsAt o = opened (splitFrom o) (o .k) (o .catalog)
+
+abbrev pub ruleFrom : Opening Catalog → Log → Standing
+ruleFrom o l = ruleOver (splitFrom o) (o .k) (o .catalog) l
+
+abbrev pub seasonFrom : Opening Catalog → List Step → Standing
+seasonFrom o steps = season (splitFrom o) (o .k) (o .catalog) steps
 
 -- where the rule stands after a call that is not refused
 abbrev pub accepted : Standing → Call → Standing

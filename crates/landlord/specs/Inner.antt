@@ -1,7 +1,10 @@
--- The ranges of specs/Catalog.antt read off as inequalities, for the proofs (proofs/Ranges.antt). Assumes nothing.
+-- The ranges of specs/Catalog.antt read off as inequalities, and what an opening has that is not refused, for the proofs
+-- (proofs/Ranges.antt). Assumes nothing.
+use mathlib.Core.{Path._≡_, Bool.true}
 use Prim.Native.Nat.{ℕ, _≤_, _<_}
 use lib.ListN.{length}
-use Rattle.landlord.specs.Catalog.{Item, Catalog, itemAt}
+use Rattle.types.specs.Types.{isDeduction}
+use Rattle.landlord.specs.{Catalog.{Item, Catalog, itemAt, CapacityOk, CatalogOk, noneLeft}, Calls.Opening}
 
 -- what an item in range has
 pub record ItemFacts (x : Item) : Type 0 where
@@ -19,3 +22,14 @@ pub record CatalogFacts (cat : Catalog) : Type 0 where
 pub record CapacityFacts (k : ℕ) : Type 0 where
   pub low : 1 ≤ k
   pub high : k ≤ 4096
+
+-- an opening's capacity and catalog are in range, and no item has left
+pub record OpeningRanges (o : Opening Catalog) : Type 0 where
+  pub capacity : CapacityOk (o .k)
+  pub catalog : CatalogOk (o .catalog)
+  pub fresh : noneLeft (o .catalog) ≡ true
+
+-- what an opening has from which the rule can start; one that is answered 0 has it (proofs/Ranges.antt, opening-taken)
+pub record OpeningOk (o : Opening Catalog) : Type 0 where
+  pub ranges : OpeningRanges o
+  pub rule : isDeduction (o .rule) ≡ true

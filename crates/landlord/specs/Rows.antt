@@ -9,7 +9,7 @@ use native.Mathlib.Omega.{arith}
 use lib.ListN.{getD}
 use Rattle.types.specs.declared.{Step.{Step, the-variants.Write}, Act.{Act, the-variants.{Evict, Fetch}}, Deduction.{Deduction, the-variants.{WriteFirst, LoadFirst}}}
 use Rattle.types.specs.Types.{numbersFrom, stepOf}
-use Rattle.landlord.specs.{Fold.{sumTo, tab, tabFrom, bestTo, fold}, Catalog.{Catalog, Item, listed, departed, allInRange, catalogInRange, noneLeft, unit}, Slot.{Slot, absent, clean, dirty, Split, writeFirst, splitOf}, Rule.{State, Event, hit, loaded, evicted, wroteBack, wrote, flushStep, arrived, retired, emptied, used, heldCount, victim, evictItem, evictFor, makeRoom, writeBacks, flush, dropItem, step}, Figures.{Totals, Use, Standing, totalsOf, useOf, tenthsOf, took, closes, season, totalCost, leftSide, rightSide}, Plan.{Plan, Priced, costs, fault, unknownItem, retiredItem, notHeld, alreadyHeld, requestNotHeld, overCapacity, planUsed, owed, planActs, allActs, planServes, priceFrom, price}, Claims.loadCredits, Calls.{Call, stepCall, close, Log, noLog, refusalAt, refusalIn, joins, logOf, ruleOver, openingRefusal}}
+use Rattle.landlord.specs.{Fold.{sumTo, tab, tabFrom, bestTo, fold}, Catalog.{Catalog, Item, listed, departed, allInRange, catalogInRange, noneLeft, unit}, Slot.{Slot, absent, clean, dirty, Split, writeFirst, splitOf}, Rule.{State, Event, hit, loaded, evicted, wroteBack, wrote, flushStep, arrived, retired, emptied, used, heldCount, victim, evictItem, evictFor, makeRoom, writeBacks, flush, dropItem, step}, Figures.{Totals, Use, Standing, totalsOf, useOf, tenthsOf, took, closes, season, totalCost, leftSide, rightSide}, Plan.{Plan, Priced, costs, fault, unknownItem, retiredItem, notHeld, alreadyHeld, requestNotHeld, overCapacity, planUsed, owed, planActs, allActs, planServes, priceFrom, price}, Claims.loadCredits, Calls.{Call, stepCall, close, Log, noLog, refusalAt, refusalIn, joins, logOf, ruleOver, Opening, opening, openingRefusal}}
 
 -- a rival of a row: its blocks, and its acts before step 0, 1, 2 and on; no acts after the last list
 pub record RowRival : Type 0 where
@@ -459,13 +459,11 @@ answers-right = refl
 
 -- a question to the table about an opening: the capacity, the number of the rule, the catalog; and the number that answers it
 pub record OpeningQuestion : Type 0 where
-  pub k : ℕ
-  pub rule : ℕ
-  pub catalog : Catalog
+  pub given : Opening Catalog
   pub expected : ℕ
 
 abbrev asksOpening : ℕ → ℕ → Catalog → ℕ → OpeningQuestion
-asksOpening k rule cat n = record { k = k; rule = rule; catalog = cat; expected = n }
+asksOpening k rule cat n = record { given = opening k rule cat; expected = n }
 
 abbrev pub openingQuestions : List OpeningQuestion
 openingQuestions =
@@ -486,6 +484,6 @@ openingQuestions =
     asksOpening 1 0 (item 1 4 6 ∷ departed (item 1 4 6) ∷ []) 3 ∷
     []
 
-pub openings-right : map (λ (q : OpeningQuestion). openingRefusal (q .k) (q .rule) (q .catalog)) openingQuestions ≡ map (λ (q : OpeningQuestion). q .expected) openingQuestions
+pub openings-right : map (λ (q : OpeningQuestion). openingRefusal (q .given)) openingQuestions ≡ map (λ (q : OpeningQuestion). q .expected) openingQuestions
 unfolding openingRefusal catalogInRange allInRange noneLeft
 openings-right = refl

@@ -1,7 +1,7 @@
 // The functions that the firmware calls from C, on lent bytes. Each answers 0 or the refusal's number, the log's with its line; refused,
 // every lent byte is as before. Nothing is asked of the caller: any bytes, any lengths and any numbers are answered.
 ghost use Rattle.types.specs.Types.{numbersFrom};
-ghost use Rattle.landlord.specs.Calls.{stepCall, close};
+ghost use Rattle.landlord.specs.Calls.{opening, stepCall, close};
 ghost use Rattle.cache_open.specs.Opening.{OpenedLent};
 ghost use Rattle.cache.specs.Contract.{lent, Called};
 ghost use Rattle.recorder.specs.Reports.{ReportedLent, SaidLent, LoggedLent};
@@ -14,7 +14,7 @@ use types::Numbers;
 // five bytes each.
 #[no_mangle]
 pub extern "C" fn recorder_open(state: &mut [u8], k: u32, rule: u32, catalog: &[u8]) -> u32
-    ensures { λ r. ⌜ OpenedLent (now (state .entry)) k rule (now (catalog .entry)) r (now (state .exit)) ⌝ }
+    ensures { λ r. ⌜ OpenedLent (now (state .entry)) (opening k rule (now (catalog .entry))) r (now (state .exit)) ⌝ }
 {
     cache_open::open(state, k, rule, catalog)
 }

@@ -8,12 +8,10 @@ use lib.ListN.{length, getD, take, drop, set, length-drop}
 use lib.Seq.{length-take-le, take-append-add, set-split}
 use Rattle.types.specs.declared.Step.{Step}
 use Rattle.types.specs.declared.Numbers.{Numbers}
-use Rattle.types.specs.Types.{numbersFrom, numbersOf, deductionNumber, deductionOf}
+use Rattle.types.specs.Types.{numbersFrom, numbersOf, deductionNumber}
 use Rattle.landlord.specs.Fold.{tabFrom}
-use Rattle.landlord.specs.Calls.{Call, close, callOf}
+use Rattle.landlord.specs.Calls.{opening, Call, close, callOf}
 use Rattle.landlord.proofs.Folds.{tab-of}
-use Rattle.types.proofs.Deductions.{deduction-number}
-use Rattle.landlord.proofs.Ranges.{opening-accepts}
 use Rattle.catalog_bytes.specs.Catalogs.{catalogIn}
 use Rattle.cache_open.specs.Opening.{openingNumber}
 use Rattle.cache_open.proofs.Openings.{asks}
@@ -23,9 +21,9 @@ use Rattle.cache_run.specs.Inner.{callAt, callFrom}
 use Rattle.cache_run.proofs.Runs.{count-is, call-is}
 use Rattle.season_tables.specs.declared.Seen.{Seen}
 use Rattle.season_items.specs.Inner.{callNumbers}
-use Rattle.season_text.specs.Answer.{callsIn}
+use Rattle.season_text.specs.Answer.{callsIn, openingFor}
 use Rattle.season_text.specs.Inner.{Closable, Closes}
-use Rattle.season_text.proofs.Season.{text-stands}
+use Rattle.season_text.proofs.Season.{text-stands, text-opens}
 
 -- seven numbers are one call more
 calls-more : (a : ℕ) (n : Numbers) (xs : List ℕ) → callsOf (a ∷ n .kind ∷ n .item ∷ n .minutes ∷ n .blocks ∷ n .load ∷ n .write ∷ xs) ≡ callFrom a n ∷ callsOf xs
@@ -70,7 +68,7 @@ pub season-closes :
     (x : Seen) (xs calls state before after : List ℕ) (rule number : ℕ) (left : List ℕ) →
     Closable x xs calls state →
     rule ≡ deductionNumber (x .rule) →
-    RanLent state (x .k) rule (take (5 * x .n) xs) (callsOf (take (7 * x .steps + 7) (set calls (7 * x .steps) 1))) before after number left →
+    RanLent state (opening (x .k) rule (take (5 * x .n) xs)) (callsOf (take (7 * x .steps + 7) (set calls (7 * x .steps) 1))) before after number left →
     Closes x xs calls left
 season-closes x xs calls state before after rule number left c is ran acts v h ok =
     let end : ℕ = 7 * x .steps in
@@ -83,11 +81,10 @@ season-closes x xs calls state before after rule number left c is ran acts v h o
     ap callsOf (store-closes calls end room ∙ ap (λ (z : List ℕ). z ++ (1 ∷ more)) (h .stepsNoted)) ∙ numbers-close (v .steps) more six
     in
     let own : rule ≡ deductionNumber (v .rule) = is ∙ ap deductionNumber (h .rule) in
-    let opens : openingNumber (length state) (x .k) rule first ≡ 0 =
-    asks (length state) (x .k) rule first (record { state = c .room; whole = omega (arith, size); few = omega (arith, size, c .fewItems) })
-    ∙ rw (h .k, own, h .items) (opening-accepts (v .k) (deductionNumber (v .rule)) (v .catalog) (ok .capacity) (ok .catalog) (ok .fresh) (deduction-number (v .rule) .1))
+    let opens : openingNumber (length state) (opening (x .k) rule first) ≡ 0 =
+    asks (length state) (opening (x .k) rule first) (record { state = c .room; whole = omega (arith, size); few = omega (arith, size, c .fewItems) })
+    ∙ rw (h .k, own, h .items) (text-opens v ok)
     in
-    let run : SeasonLent (x .k) (deductionOf rule) (catalogIn first) (callsOf (take (end + 7) (set calls end 1))) (ran .numbers) left = ran .season (ran .answer ∙ opens) .0 in
-    let its : deductionOf rule ≡ v .rule = ap deductionOf own ∙ deduction-number (v .rule) .0 in
-    let so : Season lent (v .k) (v .rule) (v .catalog) (callsIn v) (ran .numbers) left = rw (h .k, its, h .items, same) at (run .season) in
+    let run : SeasonLent (opening (x .k) rule (catalogIn first)) (callsOf (take (end + 7) (set calls end 1))) (ran .numbers) left = ran .season (ran .answer ∙ opens) .0 in
+    let so : Season lent (openingFor v (v .catalog)) (callsIn v) (ran .numbers) left = rw (h .k, own, h .items, same) at (run .season) in
     record { valid = so .valid; stands = text-stands v ok (ran .numbers) left so }

@@ -17,7 +17,7 @@ use Rattle.types.specs.Types.{deductionNumber}
 use Rattle.landlord.specs.Slot.{splitOf}
 use Rattle.landlord.specs.Figures.{ran, totalCost, leftSide, rightSide}
 use Rattle.landlord.specs.Plan.{costs}
-use Rattle.landlord.specs.Calls.{Call, close, callOf, Log, noLog, refusalAt, refusalIn, refusal, joins, logOf, ruleOver}
+use Rattle.landlord.specs.Calls.{Call, close, callOf, Log, noLog, refusalAt, refusalIn, refusal, joins, logOf, ruleOver, openingRefusal}
 use Rattle.landlord.specs.Claims.{AllowedLog}
 use Rattle.landlord.proofs.Folds.{fold-append}
 use Rattle.types.proofs.Deductions.{deduction-number}
@@ -36,7 +36,7 @@ use Rattle.season_tables.specs.Tables.{Sofar}
 use Rattle.season_tables.specs.InnerSound.{Sound}
 use Rattle.season_plan.specs.Plans.{priceOf}
 use Rattle.season_plan.specs.Inner.{planOf}
-use Rattle.season_text.specs.Answer.{closedSeason, callsIn, AllAccepted, Compared}
+use Rattle.season_text.specs.Answer.{closedSeason, callsIn, openingFor, AllAccepted, Compared}
 
 -- call i is step i
 call-at-step : (steps : List Step) (i : ℕ) → i < length steps → getD (map callOf steps ++ (close ∷ [])) i close ≡ callOf (getD steps i Flush)
@@ -74,9 +74,18 @@ module _ (v : Sofar) (ok : Sound v) where
       ∙ ap (λ (l : Log). joins (v .k) (v .catalog) l close) (allowed-logged (v .k) (v .catalog) (v .steps) (ok .allowed))
 
   -- where the season theorem says that a state stands after these calls
-  pub text-stands : (numbers d : List ℕ) → Season lent (v .k) (v .rule) (v .catalog) (callsIn v) numbers d → view (cacheOf d) ≡ closedSeason v
+  pub text-stands : (numbers d : List ℕ) → Season lent (openingFor v (v .catalog)) (callsIn v) numbers d → view (cacheOf d) ≡ closedSeason v
   unfolding ruleOver
-  text-stands numbers d so = so .stands ∙ ap (ruleOver (splitOf (v .rule)) (v .k) (v .catalog)) text-log
+  text-stands numbers d so =
+      so .stands
+      ∙ ap (λ (r : Deduction). ruleOver (splitOf r) (v .k) (v .catalog) (logOf (v .k) (v .catalog) (callsIn v))) (deduction-number (v .rule) .0)
+      ∙ ap (ruleOver (splitOf (v .rule)) (v .k) (v .catalog)) text-log
+
+  -- an opening with the text's numbers is accepted
+  pub text-opens : openingRefusal (openingFor v (v .catalog)) ≡ 0
+  text-opens =
+      opening-accepts (openingFor v (v .catalog))
+      (record { ranges = record { capacity = ok .capacity; catalog = ok .catalog; fresh = ok .fresh }; rule = deduction-number (v .rule) .1 })
 
   -- the rule keeps the text's capacity
   pub season-capacity : closedSeason v .k ≡ v .k
@@ -91,7 +100,7 @@ module _ (v : Sofar) (ok : Sound v) where
   pub calls-accepted : AllAccepted v
   calls-accepted =
       record {
-        opening = opening-accepts (v .k) (deductionNumber (v .rule)) (v .catalog) (ok .capacity) (ok .catalog) (ok .fresh) (deduction-number (v .rule) .1);
+        opening = text-opens;
         each = λ i l. at i (ℕ-discrete i (length (v .steps))) (omega (arith, length-append (map callOf (v .steps)) (close ∷ []), length-map (v .steps) callOf));
       }
     where
@@ -115,9 +124,8 @@ text-compared v cost ok e =
     record {
       figures = λ xs numbers d same chain.
           text-stands v ok numbers d
-          (subst (λ (cat : Catalog). Season lent (v .k) (v .rule) cat (callsIn v) numbers d) same
-          (subst (λ (r : Deduction). Season lent (v .k) r (catalogIn xs) (callsIn v) numbers d) (deduction-number (v .rule) .0)
-          (season-lent (v .k) (deductionNumber (v .rule)) xs (callsIn v) numbers d chain .season)));
+          (subst (λ (cat : Catalog). Season lent (openingFor v cat) (callsIn v) numbers d) same
+          (season-lent (openingFor v xs) (callsIn v) numbers d chain .season));
       capacity = season-capacity v ok;
       bound = subst (λ (k : ℕ). leftSide k (v .h) (totalCost (closedSeason v .figures)) ≤ rightSide k cost) (sym (season-capacity v ok))
           (competitive-bound (splitOf (v .rule)) (deduction-ok (v .rule)) (v .k) (v .catalog) (ok .catalog) (v .steps) (ok .allowed) (v .h) (ok .rivalLow) (ok .rivalHigh) (planOf (v .acts)) cost e);

@@ -5,7 +5,7 @@ use Prim.Native.Nat.{ℕ, _≤_, _<_}
 use lib.{ListN.{length, drop, getD, take}, Dec.leb}
 use Rattle.types.specs.declared.Refusal.{Refusal, the-variants.{InputTooLong, ShortBuffer}}
 use Rattle.types.specs.Types.{told, deductionNumber}
-use Rattle.landlord.specs.{Slot.splitOf, Figures.{Standing, season, totalCost, leftSide, rightSide}, Plan.{faultRefusal, Priced, costs, fault}, Calls.{Call, close, callOf, openingRefusal, refusal}}
+use Rattle.landlord.specs.{Slot.splitOf, Figures.{Standing, season, totalCost, leftSide, rightSide}, Plan.{faultRefusal, Priced, costs, fault}, Calls.{Opening, opening, Call, close, callOf, openingRefusal, refusal}, Catalog.Catalog}
 use Rattle.decimal.specs.Decimal.{fits, wroteOf, pageOf}
 use Rattle.report_lines.specs.declared.Rival.the-variants.{Against}
 use Rattle.report.specs.{declared.Written.Written, Report.{reportOf, refusalText, writtenTold, Put, longest}}
@@ -72,9 +72,13 @@ pub record Printed (s before : List ℕ) (r : ℕ) (after : List ℕ) : Type 0 w
 abbrev pub callsIn : Sofar → List Call
 callsIn v = map callOf (v .steps) ++ (close ∷ [])
 
+-- its opening, with the catalog in any form
+abbrev pub openingFor : {C : Type 0} → Sofar → C → Opening C
+openingFor v cat = opening (v .k) (deductionNumber (v .rule)) cat
+
 -- the opening and each of these calls is accepted
 pub record AllAccepted (v : Sofar) : Type 0 where
-  pub opening : openingRefusal (v .k) (deductionNumber (v .rule)) (v .catalog) ≡ 0
+  pub opening : openingRefusal (openingFor v (v .catalog)) ≡ 0
   pub each : (i : ℕ) → i < length (callsIn v) → refusal (v .k) (v .catalog) (take i (callsIn v)) (getD (callsIn v) i close) ≡ 0
 
 -- The figures reported are those of the state that any chain of these calls ends in, from any bytes of the same catalog, of which the
@@ -83,7 +87,7 @@ pub record Compared (v : Sofar) (cost : ℕ) : Type 0 where
   pub figures :
       (xs numbers d : List ℕ) →
       catalogIn xs ≡ v .catalog →
-      ChainLent (v .k) (deductionNumber (v .rule)) xs (callsIn v) numbers d →
+      ChainLent (openingFor v xs) (callsIn v) numbers d →
       lent .view d ≡ closedSeason v
   pub capacity : closedSeason v .k ≡ v .k
   pub bound : leftSide (closedSeason v .k) (v .h) (totalCost (closedSeason v .figures)) ≤ rightSide (closedSeason v .k) cost

@@ -3,6 +3,7 @@
 use mathlib.Core.Path.{refl}
 use native.Mathlib.Omega.{arith}
 use borrow.Author.Needs.{needs}
+use Rattle.landlord.specs.Calls.{opening}
 use Rattle.layout.proofs.Places.{readable}
 use Rattle.cache_open.proofs.Openings.{right, opening-refused, opening-done}
 use Rattle.cache_open.proofs.open.Statement.{statement}
@@ -14,7 +15,7 @@ opening-refused-requires c κs = search needs
 returns : tie.Need-returns
 returns c =
     let a = c .before .before .before .before .args in
-    opening-refused (a .b .now) (a .catalog .now) (a .k) (a .rule) _ (c .before .opening-refused .ensures) (c .if1 .taken)
+    opening-refused (a .b .now) (opening (a .k) (a .rule) (a .catalog .now)) _ (c .before .opening-refused .ensures) (c .if1 .taken)
 
 clear-requires : tie.Need-clear-requires
 clear-requires c κs = right (c .before .before .opening-refused .ensures) (c .before .if1 .left) .lengths .state
@@ -40,7 +41,7 @@ same-length c = search needs
 returns-2 : tie.Need-returns-2
 returns-2 c =
     let a = c .before .before .before .before .before .before .before .before .before .before .before .before .before .before .before .before .before .before .before .before .before .before .before .before .before .args in
-    opening-done (a .b .now) (a .catalog .now) (a .k) (a .rule) _ (c .before .before .before .before .before .before .before .before .before .before .before .before .before .before .before .before .before .before .before .before .before .before .opening-refused .ensures) (c .before .before .before .before .before .before .before .before .before .before .before .before .before .before .before .before .before .before .before .before .before .if1 .left) (c .before .before .before .before .before .before .before .before .before .before .before .before .before .before .before .before .before .before .before .clear .ensures) (c .before .before .before .before .before .before .before .before .before .before .before .before .before .before .before .put-capacity .ensures) (c .before .before .before .before .before .before .before .before .before .before .before .put-count .ensures) (c .before .before .before .before .before .before .before .deduction-of .ensures) (c .before .before .before .before .before .before .put-rule .ensures) (c .before .before .put-items .ensures)
+    opening-done (a .b .now) (opening (a .k) (a .rule) (a .catalog .now)) _ (c .before .before .before .before .before .before .before .before .before .before .before .before .before .before .before .before .before .before .before .before .before .before .opening-refused .ensures) (c .before .before .before .before .before .before .before .before .before .before .before .before .before .before .before .before .before .before .before .before .before .if1 .left) (c .before .before .before .before .before .before .before .before .before .before .before .before .before .before .before .before .before .before .before .clear .ensures) (c .before .before .before .before .before .before .before .before .before .before .before .before .before .before .before .put-capacity .ensures) (c .before .before .before .before .before .before .before .before .before .before .before .put-count .ensures) (c .before .before .before .before .before .before .before .deduction-of .ensures) (c .before .before .before .before .before .before .put-rule .ensures) (c .before .before .put-items .ensures)
 
 pub open-spec : {M : Type 1} → statement M
 open-spec =

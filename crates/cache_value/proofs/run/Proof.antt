@@ -19,7 +19,7 @@ returns : tie.Need-returns
 returns c =
     let a = c .before .before .before .before .before .before .args in
     let r = c .before .before .before .opening .result in
-    run-refused (a .k) (a .rule) _ (callsOf (a .calls .now)) (a .answers .now) (r .number) (r .cache) _ (c .before .before .before .opening .ensures) (c .before .if1 .taken) (c .answer-with .ensures .0) (c .answer-with .ensures .1)
+    run-refused _ (callsOf (a .calls .now)) (a .answers .now) (r .number) (r .cache) _ (c .before .before .before .opening .ensures) (c .before .if1 .taken) (c .answer-with .ensures .0) (c .answer-with .ensures .1)
 
 slice-aggregate-encode : tie.Need-slice-aggregate-encode
 slice-aggregate-encode c = search needs
@@ -49,7 +49,7 @@ returns-2 c =
     let a = c .before .before .before .before .before .before .before .before .before .before .before .before .before .before .before .before .args in
     let r = c .before .before .before .before .before .before .before .before .before .before .before .before .before .opening .result in
     let o = c .before .before .before .before .before .before .before .before .before .before .before .before .before .opening .ensures in
-    run-taken (a .k) (a .rule) _ (callsOf (a .calls .now)) (a .answers .now) (r .number) (r .cache) (c .decode .result) o (c .before .before .before .before .before .before .before .before .before .before .before .if1 .left)
+    run-taken _ (callsOf (a .calls .now)) (a .answers .now) (r .number) (r .cache) (c .decode .result) o (c .before .before .before .before .before .before .before .before .before .before .before .if1 .left)
     (stands (c .before .before .before .before .before .before .before .before .before .encode .ensures .0) (c .before .before .before .before .before .before .before .before .before .encode .ensures .1 (omega (arith, o .valid .fields .few)))) (c .before .before .before .before .before .run-calls .ensures .0) (c .decode .ensures)
 
 pub run-spec : {M : Type 1} → statement M

@@ -11,7 +11,7 @@ answer-with-requires : tie.Need-answer-with-requires
 answer-with-requires c κs = opening-number (c .opening .ensures)
 
 returns : tie.Need-returns
-returns c = opened-as _ _ _ (c .before .opening .result .number) (c .before .opening .result .cache) _ (c .before .opening .ensures) (c .answer-with .ensures .0) (c .answer-with .ensures .1)
+returns c = opened-as _ (c .before .opening .result .number) (c .before .opening .result .cache) _ (c .before .opening .ensures) (c .answer-with .ensures .0) (c .answer-with .ensures .1)
 
 pub open-spec : {M : Type 1} → statement M
 open-spec = tie.close (tie.spec opening-requires answer-with-requires returns)
