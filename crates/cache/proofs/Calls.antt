@@ -9,7 +9,7 @@ use borrow.Author.Tests.{ne-eqb}
 use Rattle.types.specs.declared.Numbers.{Numbers}
 use Rattle.types.specs.Types.{stepOf}
 use Rattle.landlord.specs.Rule.{flush}
-use Rattle.landlord.specs.Figures.{Standing, moved, took, closes}
+use Rattle.landlord.specs.Figures.{Standing, changed, moved, took, closes}
 use Rattle.landlord.specs.Calls.{Call, stepCall, close, refusalAt, refusalNow, accepted, after}
 use Rattle.landlord.specs.Valid.{StandingOk}
 use Rattle.landlord.proofs.Slots.{deduction-ok}
@@ -88,7 +88,7 @@ closed-becomes : (c q : Cache) → Becomes (moved (view c) (flush (stateOf c)) (
 closed-becomes c q h = record { stands = ended ∙ ap shut (h .stands) ∙ same; fields = closed-normal q (h .fields) }
   where
     shut : Standing → Standing
-    shut v = record { k = v .k; state = v .state; figures = v .figures; closed = true; split = v .split }
+    shut v = changed v (v .state) (v .figures) true
 
     same : shut (moved (view c) (flush (stateOf c)) (c .closed)) ≡ closes (view c)
     same = unfold closes in refl

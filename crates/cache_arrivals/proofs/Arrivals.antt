@@ -15,9 +15,9 @@ use lib.Seq.{getD-set-same, getD-set-other}
 use Rattle.types.specs.declared.Step.the-variants.{Arrive}
 use Rattle.landlord.specs.Fold.{tab, fold}
 use Rattle.landlord.specs.Catalog.{listed}
-use Rattle.landlord.specs.Slot.{absent, splitOf}
+use Rattle.landlord.specs.Slot.{absent}
 use Rattle.landlord.specs.Rule.{arrived, size, step}
-use Rattle.landlord.specs.Figures.{Use, useOf, noUse, useAt, plusUse, plusTotals, adds, took}
+use Rattle.landlord.specs.Figures.{Use, useOf, noUse, useAt, plusUse, plusTotals, adds, changed, took}
 use Rattle.landlord.proofs.Folds.{tab-eq, tab-more, tab-past}
 use Rattle.cache_state.specs.Cache.{Cache, dirtyAt, slotOf, catalogOf, slotsOf, usesOf, view, Emptied, Blank, Normal}
 use Rattle.cache_state.specs.InnerView.{itemOf, usageOf, slotFrom, stateOf, countsOf, figuresOf}
@@ -106,14 +106,7 @@ module _ (c : Cache) (b l w : ℕ) (s : WholeArrays c) (ok : Normal c) (few : c 
   stands-after : view after ≡ took (view c) (Arrive (c .n) b l w)
   unfolding took step fold catalogOf slotsOf usesOf
   stands-after =
-      λ z.
-      record {
-        k = c .k;
-        state = record { catalog = catalog-after z; slots = slots-after z };
-        figures = record { totals = totals-after z; uses = uses-after z };
-        closed = c .closed;
-        split = splitOf (c .rule);
-      }
+      λ z. changed (view c) (record { catalog = catalog-after z; slots = slots-after z }) (record { totals = totals-after z; uses = uses-after z }) (c .closed)
 
   past-after : (i : ℕ) → c .n + 1 ≤ i → i < 256 → Blank after i
   past-after i m q =

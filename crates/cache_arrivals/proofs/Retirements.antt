@@ -13,9 +13,9 @@ use lib.Seq.{set-getD}
 use Rattle.types.specs.declared.Step.the-variants.{Retire}
 use Rattle.landlord.specs.Fold.{fold}
 use Rattle.landlord.specs.Catalog.{departed, itemAt}
-use Rattle.landlord.specs.Slot.{absent, isDirty, splitOf}
+use Rattle.landlord.specs.Slot.{absent, isDirty}
 use Rattle.landlord.specs.Rule.{State, evicted, retired, Moved, size, slotAt, putSlot, dropItem, leave, step}
-use Rattle.landlord.specs.Figures.{Standing, plusTotals, adds, tally, moved, took}
+use Rattle.landlord.specs.Figures.{Standing, plusTotals, adds, tally, changed, moved, took}
 use Rattle.landlord.proofs.Folds.{tab-set}
 use Rattle.landlord.proofs.Keeps.{drop-catalog}
 use Rattle.landlord.proofs.Valid.{moved-joined}
@@ -49,7 +49,7 @@ module _ (c : Cache) (i : ℕ) (ok : Normal c) (l : i < c .n) where
   unheld-becomes h =
       record {
         stands =
-            sym (λ z. record { k = c .k; state = record { catalog = catalogOf c; slots = same z }; figures = figuresOf c; closed = c .closed; split = splitOf (c .rule) })
+            sym (λ z. changed (view c) (record { catalog = catalogOf c; slots = same z }) (figuresOf c) (c .closed))
             ∙ told false h;
         fields = ok;
       }
@@ -81,14 +81,7 @@ module _ (c : Cache) (i : ℕ) (ok : Normal c) (l : i < c .n) where
         record {
           stands =
               counted-view dropped i (dropped-sizes c i ws sizes ok l un) (dropped-normal c i ws sizes ok l un) l d
-              ∙ (λ z.
-              record {
-                k = c .k;
-                state = record { catalog = catalogOf c; slots = slots-after z };
-                figures = tally (catalogOf c) (figuresOf c) (evicted i ((was ∙ sym (dirty-is c ok i l)) z));
-                closed = c .closed;
-                split = splitOf (c .rule);
-              })
+              ∙ (λ z. changed (view c) (record { catalog = catalogOf c; slots = slots-after z }) (tally (catalogOf c) (figuresOf c) (evicted i ((was ∙ sym (dirty-is c ok i l)) z))) (c .closed))
               ∙ told true h;
           fields = counted-normal dropped i (dropped-sizes c i ws sizes ok l un) (dropped-normal c i ws sizes ok l un) l d;
         }
@@ -123,17 +116,9 @@ module _ (c : Cache) (i : ℕ) (gone : List ℕ) (ok : Normal c) (l : i < c .n) 
       record {
         stands =
             λ z.
-            record {
-              k = c .k;
-              state = record { catalog = catalog-after z; slots = slotsOf c };
-              figures =
-                  record {
-                    totals = totals-after z;
-                    uses = uses-by c after (retired i) refl (λ k. refl) (λ j b. same-line (eqb j i) (usageOf c j)) z;
-                  };
-              closed = c .closed;
-              split = splitOf (c .rule);
-            };
+            changed (view c) (record { catalog = catalog-after z; slots = slotsOf c })
+            (record { totals = totals-after z; uses = uses-by c after (retired i) refl (λ k. refl) (λ j b. same-line (eqb j i) (usageOf c j)) z })
+            (c .closed);
         fields = record { few = ok .few; past = past; absent = λ j b h. emptied j (ok .absent j b h); clean = ok .clean };
       }
     where

@@ -12,7 +12,7 @@ use Rattle.landlord.specs.Fold.{tab}
 use Rattle.landlord.specs.Catalog.{Catalog, Item}
 use Rattle.landlord.specs.Slot.{absent, splitOf}
 use Rattle.landlord.specs.Rule.{emptied}
-use Rattle.landlord.specs.Figures.{Standing, nothing, noUse, totalsOf}
+use Rattle.landlord.specs.Figures.{Standing, nothing, noUse, totalsOf, start, opened, changed}
 use Rattle.landlord.proofs.Folds.{tab-length, tab-eq}
 use Rattle.marks.specs.Marks.{bit, marked}
 use Rattle.cache_state.specs.Cache.{Cache, slotOf, catalogOf, slotsOf, usesOf, EmptyPlace, Blank}
@@ -38,7 +38,7 @@ empty-place k n blocks load write isClosed r i l =
 
 -- where the rule starts, and a closed cache as empty
 abbrev pub started : ℕ → Catalog → Bool → Deduction → Standing
-started k cat isClosed r = record { k = k; state = emptied cat; figures = nothing cat; closed = isClosed; split = splitOf r }
+started k cat isClosed r = changed (opened (start (splitOf r) k cat)) (emptied cat) (nothing cat) isClosed
 
 -- the empty cache with n items stands where the rule starts with their catalog
 module _ (k n : ℕ) (item : ℕ → Item) (isClosed : Bool) (r : Deduction) (blocks load write : List ℕ) (few : n ≤ 256) (b : Column n (λ i. item i .blocks) blocks) (l : Column n (λ i. item i .load) load) (w : Column n (λ i. item i .write) write) (stays : (i : ℕ) → item i .left ≡ false) where
@@ -72,12 +72,10 @@ module _ (k n : ℕ) (item : ℕ → Item) (isClosed : Bool) (r : Deduction) (bl
   unfolding slotsOf usesOf
   empty-becomes =
       record {
-        stands = λ z. record {
-          k = k;
-          state = record { catalog = same-catalog z; slots = (slots ∙ ap (λ (m : ℕ). tab m (λ i. absent)) same-length) z };
-          figures = record { totals = totalsOf 0 0 0 0 0 0 0 0 0 0 0; uses = (uses ∙ ap (λ (m : ℕ). tab m (λ i. noUse)) same-length) z };
-          closed = isClosed;
-          split = splitOf r;
-        };
+        stands = λ z.
+            changed (opened (start (splitOf r) k (tab n item)))
+            (record { catalog = same-catalog z; slots = (slots ∙ ap (λ (m : ℕ). tab m (λ i. absent)) same-length) z })
+            (record { totals = totalsOf 0 0 0 0 0 0 0 0 0 0 0; uses = (uses ∙ ap (λ (m : ℕ). tab m (λ i. noUse)) same-length) z })
+            isClosed;
         fields = record { few = few; past = past; absent = λ i m e. place i (omega (arith, few)) .slot; clean = λ i m e. place i (omega (arith, few)) .slot .writeCredit };
       }

@@ -12,7 +12,7 @@ use Rattle.types.specs.declared.Deduction.{Deduction}
 use Rattle.types.specs.Types.{deductionOf}
 use Rattle.landlord.specs.Catalog.{CatalogOk, noneLeft}
 use Rattle.landlord.specs.Slot.{splitOf}
-use Rattle.landlord.specs.Figures.{opened}
+use Rattle.landlord.specs.Figures.{start, opened}
 use Rattle.landlord.specs.Calls.{Opening, openingRefusal}
 use Rattle.landlord.specs.Inner.{CapacityFacts, OpeningRanges, OpeningOk}
 use Rattle.landlord.proofs.Valid.{ok-starts}
@@ -160,7 +160,7 @@ stored-column n f few =
       rest = λ i m u. store-past n f (replicate 256 0) i m ∙ getD-replicate 256 i 0 0 u;
     }
 
-opened-becomes : (k : ℕ) (r : Deduction) (xs : List ℕ) → length xs / 5 ≤ 256 → Becomes (opened (splitOf r) k (catalogIn xs)) (openedOf k r xs)
+opened-becomes : (k : ℕ) (r : Deduction) (xs : List ℕ) → length xs / 5 ≤ 256 → Becomes (opened (start (splitOf r) k (catalogIn xs))) (openedOf k r xs)
 unfolding catalogIn
 opened-becomes k r xs few =
     empty-becomes k (length xs / 5) (itemIn xs) false r _ _ _ few (stored-column (length xs / 5) (λ i. itemIn xs i .blocks) few)

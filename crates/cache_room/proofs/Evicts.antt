@@ -9,7 +9,7 @@ use lib.ListN.{getD, set}
 use Rattle.landlord.specs.Fold.{tab, fold}
 use Rattle.landlord.specs.Slot.{Slot, absent, isDirty, splitOf, lose}
 use Rattle.landlord.specs.Rule.{size, slotAt, blocksAt, rank, used, victim, evict, evictItem, evicted}
-use Rattle.landlord.specs.Figures.{Totals, Use, tally, moved}
+use Rattle.landlord.specs.Figures.{Totals, Use, tally, changed, moved}
 use Rattle.landlord.proofs.Folds.{tab-eq}
 use Rattle.landlord.proofs.Keeps.{victim-least}
 use Rattle.landlord.proofs.Valid.{line-writebacks}
@@ -62,14 +62,7 @@ module _
   unfolding fold catalogOf usesOf
   view-after =
       counted-view left v left-sizes left-normal l d
-      ∙ (λ z.
-      record {
-        k = c .k;
-        state = state-after z;
-        figures = tally (catalogOf c) (figuresOf c) (evicted v ((was ∙ sym (dirty-is c ok v l)) z));
-        closed = c .closed;
-        split = splitOf (c .rule);
-      })
+      ∙ (λ z. changed (view c) (state-after z) (tally (catalogOf c) (figuresOf c) (evicted v ((was ∙ sym (dirty-is c ok v l)) z))) (c .closed))
 
 -- the victim of a cache that holds something
 pub victim-known : (c : Cache) {v : ℕ} → 1 ≤ used (stateOf c) → v ≡ victim (stateOf c) → v < c .n

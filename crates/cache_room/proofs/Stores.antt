@@ -17,7 +17,7 @@ use Rattle.types.specs.declared.Deduction.the-variants.{WriteFirst, LoadFirst}
 use Rattle.landlord.specs.Fold.{tab}
 use Rattle.landlord.specs.Slot.{absent, clean, dirty, splitOf, lose}
 use Rattle.landlord.specs.Rule.{size, evicted}
-use Rattle.landlord.specs.Figures.{totalsOf, plusTotals, adds, Use, useOf, plusUse, noUse, usage, useAt, tally}
+use Rattle.landlord.specs.Figures.{totalsOf, plusTotals, adds, Use, useOf, plusUse, noUse, usage, useAt, tally, changed}
 use Rattle.landlord.proofs.Folds.{tab-eq}
 use Rattle.marks.specs.Marks.{marked}
 use Rattle.marks.specs.Inner.{marks}
@@ -300,9 +300,9 @@ module _ (c : Cache) (v : ℕ) (sizes : EvictionSizes c) (ok : Normal c) (l : v 
 
   pub counted-view :
       (d : Bool) →
-      view (counted d) ≡ record { k = c .k; state = stateOf c; figures = tally (catalogOf c) (figuresOf c) (evicted v d); closed = c .closed; split = splitOf (c .rule) }
+      view (counted d) ≡ changed (view c) (stateOf c) (tally (catalogOf c) (figuresOf c) (evicted v d)) (c .closed)
   unfolding catalogOf slotsOf usesOf
   counted-view false =
-      λ z. record { k = c .k; state = stateOf c; figures = record { totals = totals-more false z; uses = uses-more false z }; closed = c .closed; split = splitOf (c .rule) }
+      λ z. changed (view c) (stateOf c) (record { totals = totals-more false z; uses = uses-more false z }) (c .closed)
   counted-view true =
-      λ z. record { k = c .k; state = stateOf c; figures = record { totals = totals-more true z; uses = uses-more true z }; closed = c .closed; split = splitOf (c .rule) }
+      λ z. changed (view c) (stateOf c) (record { totals = totals-more true z; uses = uses-more true z }) (c .closed)

@@ -10,7 +10,7 @@ use Rattle.types.specs.Types.{deductionOf}
 use Rattle.landlord.specs.Fold.{fold}
 use Rattle.landlord.specs.Catalog.{Catalog, CatalogOk}
 use Rattle.landlord.specs.Figures.{Standing, totalCost, ran}
-use Rattle.landlord.specs.Calls.{Opening, Call, close, Log, noLog, refusalNow, refusalIn, refusal, joins, logOf, ruleOver, ruleFrom, seasonFrom, splitFrom, after}
+use Rattle.landlord.specs.Calls.{Opening, Call, close, Log, noLog, refusalNow, refusalIn, refusal, joins, logOf, ruleOver, ruleFrom, seasonFrom, startOf, after}
 use Rattle.landlord.specs.Inner.{OpeningOk}
 use Rattle.landlord.specs.Claims.{AllowedLog, WithinBound, SplitOk}
 use Rattle.landlord.proofs.Slots.{deduction-ok}
@@ -23,7 +23,7 @@ use Rattle.cache_run.specs.Season.{Follows, none, then, TableAnswers, Cl
 use Rattle.cache_run.specs.Inner.{BeginsAt}
 
 -- each rule of deduction splits as it may
-split-ok : (o : Opening Catalog) → SplitOk (splitFrom o)
+split-ok : (o : Opening Catalog) → SplitOk (startOf o .split)
 split-ok o = deduction-ok (deductionOf (o .rule))
 
 module _ {C : Type 0} (kind : Kind C) (o : Opening Catalog) (good : CatalogOk (o .catalog)) where
@@ -51,14 +51,14 @@ module _ {C : Type 0} (kind : Kind C) (o : Opening Catalog) (good : CatalogOk (o
   leads l a ok at none = record { valid = ok; stands = at; count = refl; each = λ i b. absurd (let z : i < 0 = b in omega arith) }
   leads l {c = c} a ok at (then {call = call} {calls = calls} {answer = answer} {numbers = numbers} h f) =
       let m : Log = joins k cat l call in
-      let next = h .fine ok .stands ∙ ap (λ (v : Standing). after v call) at ∙ one-call (splitFrom o) k cat (split-ok o) good l call a in
+      let next = h .fine ok .stands ∙ ap (λ (v : Standing). after v call) at ∙ one-call (startOf o) (split-ok o) good l call a in
       let open' : AllowedLog k cat (m .steps) = joins-either k cat l call (λ z. AllowedLog k cat (z .steps)) (λ e. logged-allowed k cat l call a e) a in
       let rest = leads m open' (h .fine ok .valid) next f in
       record {
         valid = rest .valid;
         stands = rest .stands;
         count = ap suc (rest .count);
-        each = answers (h .fine ok .answer ∙ ap (λ (v : Standing). refusalNow v call) at ∙ same-refusal (splitFrom o) k cat (split-ok o) good l call a) (rest .each);
+        each = answers (h .fine ok .answer ∙ ap (λ (v : Standing). refusalNow v call) at ∙ same-refusal (startOf o) (split-ok o) good l call a) (rest .each);
       }
     where
       answers :
@@ -86,11 +86,11 @@ bounded o calls numbers v good at answers closing =
     in
     let ended : l .closed ≡ true = closing-ends k cat calls (closing .place) (closing .within) (closing .isClose) asked in
     let exact : totalCost (v .figures) ≡ totalCost (seasonFrom o (l .steps) .figures) =
-    ap (λ (u : Standing). totalCost (u .figures)) at ∙ ap (λ (t : Bool). totalCost (cond t (seasonFrom o (l .steps)) (ran (splitFrom o) k cat (l .steps)) .figures)) ended
+    ap (λ (u : Standing). totalCost (u .figures)) at ∙ ap (λ (t : Bool). totalCost (cond t (seasonFrom o (l .steps)) (ran (startOf o) (l .steps)) .figures)) ended
     in
     record {
       exact = exact;
-      bound = subst (WithinBound k cat (l .steps)) (sym exact) (competitive-bound (splitFrom o) (split-ok o) k cat good (l .steps) (log-allowed k cat calls));
+      bound = subst (WithinBound k cat (l .steps)) (sym exact) (competitive-bound (startOf o) (split-ok o) good (l .steps) (log-allowed k cat calls));
     }
 
 -- Demand 3.

@@ -10,9 +10,9 @@ use lib.ListN.{getD, set, drop}
 use lib.Seq.{getD-set-same, getD-set-other}
 use Rattle.types.specs.declared.Step.the-variants.{Flush}
 use Rattle.landlord.specs.Fold.{fold}
-use Rattle.landlord.specs.Slot.{isDirty, flushed, splitOf}
+use Rattle.landlord.specs.Slot.{isDirty, flushed}
 use Rattle.landlord.specs.Rule.{State, wroteBack, flushStep, Moved, joined, stay, slotAt, putSlot, flush, step}
-use Rattle.landlord.specs.Figures.{Standing, plusTotals, adds, moved, took}
+use Rattle.landlord.specs.Figures.{Standing, plusTotals, adds, changed, moved, took}
 use Rattle.landlord.specs.Valid.{StandingOk}
 use Rattle.marks.specs.Inner.{marks, firstSet}
 use Rattle.marks.proofs.Laws.{marked-set-same, marked-set-other, NextMark, next-is}
@@ -235,13 +235,7 @@ flushed-stands : (c : Cache) → view (flushedOf c) ≡ moved (view c) (record {
 unfolding fold catalogOf slotsOf
 flushed-stands c =
     λ z.
-    record {
-      k = c .k;
-      state = stateOf c;
-      figures = record { totals = total z; uses = uses-by c (flushedOf c) flushStep refl (λ m. refl) (λ j l. plus-none (usageOf c j)) z };
-      closed = c .closed;
-      split = splitOf (c .rule);
-    }
+    changed (view c) (stateOf c) (record { totals = total z; uses = uses-by c (flushedOf c) flushStep refl (λ m. refl) (λ j l. plus-none (usageOf c j)) z }) (c .closed)
   where
     total : countsOf (flushedOf c) ≡ plusTotals (countsOf c) (adds (catalogOf c) flushStep)
     total = simp add-zero

@@ -14,7 +14,7 @@ use Rattle.landlord.specs.Fold.{tabFrom, fold}
 use Rattle.landlord.specs.Catalog.{Catalog, Item, listed, noneLeft, CapacityOk, CatalogOk, allInRange, catalogInRange}
 use Rattle.landlord.specs.Slot.{writeFirst}
 use Rattle.landlord.specs.Rule.{flush, writeBacks}
-use Rattle.landlord.specs.Figures.{Standing, opened, closes}
+use Rattle.landlord.specs.Figures.{Standing, start, opened, closes}
 use Rattle.landlord.specs.Calls.{Opening, opening, openingRefusal, startsAt}
 use Rattle.landlord.specs.Inner.{OpeningRanges}
 use Rattle.landlord.specs.Valid.{StandingOk}
@@ -56,7 +56,7 @@ stood o number c asked ok h empty e =
 
 -- a closed cache of 1 block with no items is in order
 refused-ok : StandingOk refusedOpening
-refused-ok = unfold closes flush writeBacks tabFrom fold in ok-closes (opened writeFirst 1 []) (ok-opened writeFirst 1 [] size none (unfold noneLeft in refl))
+refused-ok = unfold closes flush writeBacks tabFrom fold in ok-closes (opened (start writeFirst 1 [])) (ok-opened (start writeFirst 1 []) size none (unfold noneLeft in refl))
   where
     size : CapacityOk 1
     size = refl

@@ -3,7 +3,7 @@ use mathlib.Core.{Path._≡_, Bool.{true, cond}, List.{List, [], _∷_, map}, Lo
 use Prim.Native.Nat.{ℕ, _<_, _+_}
 use lib.{Dec.eqb, ListN.{getD, length, take}, Seq.sets}
 use Rattle.types.specs.Types.{telling, nothingTold, told, Told}
-use Rattle.landlord.specs.{Fold.tab, Catalog.{Catalog, listed}, Slot.writeFirst, Rule.emptied, Figures.{Standing, nothing}, Calls.{Opening, Call, callItem, openingRefusal, startsAt, close, refusal}}
+use Rattle.landlord.specs.{Fold.tab, Catalog.{Catalog, listed}, Slot.writeFirst, Rule.emptied, Figures.{Standing, nothing, start, opened, changed}, Calls.{Opening, Call, callItem, openingRefusal, startsAt, close, refusal}}
 use Rattle.cache_state.specs.Cache.{Cache as Record, view, Valid, EmptyPlace}
 use Rattle.cache.specs.Contract.{Kind, Called}
 use Rattle.cache_run.specs.Season.{Closing, Bounded, Season}
@@ -51,7 +51,7 @@ catalogFrom n blocks load write = tab n (λ i. listed (getD blocks i 0) (getD lo
 
 -- "refused by value, it gives a closed locker of 1 block with no sails"; "write-first if refused" (paper 02, 'Three')
 abbrev pub refusedOpening : Standing
-refusedOpening = record { k = 1; state = emptied []; figures = nothing []; closed = true; split = writeFirst }
+refusedOpening = changed (opened (start writeFirst 1 [])) (emptied []) (nothing []) true
 
 -- what a method's answer tells
 abbrev pub answerTold : Answer → Told

@@ -18,7 +18,7 @@ use Rattle.types.proofs.Steps.{same-step}
 use Rattle.landlord.specs.Fold.{fold}
 use Rattle.landlord.specs.Catalog.{Catalog, CatalogOk, listed, itemInRange, catalogAfter}
 use Rattle.landlord.specs.Slot.{Split}
-use Rattle.landlord.specs.Figures.{Standing, opened, took, ran, season}
+use Rattle.landlord.specs.Figures.{Standing, Start, opened, took, ran, season}
 use Rattle.landlord.specs.Calls.{Call, stepCall, close, Log, noLog, callOf, itemRefusal, refusalAt, refusalIn, refusal, refusalNow, logged, joins, logOf, ruleOver, accepted, after}
 use Rattle.landlord.specs.Claims.{SplitOk, AllowedLog}
 use Rattle.landlord.proofs.Folds.{either, fold-append, fold-more}
@@ -162,53 +162,59 @@ allowed-logged k cat steps a = from [] steps a
         ∙ from (seen ++ (s ∷ [])) steps (rw (append-snoc seen s steps) a)
         ∙ ap open-with (append-snoc seen s steps)
 
-module _ (split : Split) (k : ℕ) (cat : Catalog) (ok : SplitOk split) (good : CatalogOk cat) where
+module _ (o : Start) (ok : SplitOk (o .split)) (good : CatalogOk (o .catalog)) where
+  abbrev k : ℕ
+  k = o .k
+
+  abbrev cat : Catalog
+  cat = o .catalog
+
   -- where the rule stands after a log that the table lets through
   pub stands-over :
       (l : Log) →
       AllowedLog k cat (l .steps) →
-      StandsAfter k (catalogAfter cat (l .steps)) (length (l .steps)) (l .closed) (ruleOver split k cat l)
+      StandsAfter k (catalogAfter cat (l .steps)) (length (l .steps)) (l .closed) (ruleOver o l)
   unfolding ruleOver
   stands-over l a = go (l .closed)
     where
       now : Catalog
       now = catalogAfter cat (l .steps)
 
-      so : StandsAfter k now (length (l .steps)) false (ran split k cat (l .steps))
-      so = ran-stands split k cat (l .steps) ok good (all-served k cat (l .steps) a)
+      so : StandsAfter k now (length (l .steps)) false (ran o (l .steps))
+      so = ran-stands o (l .steps) ok good (all-served k cat (l .steps) a)
 
-      go : (c : Bool) → StandsAfter k now (length (l .steps)) c (cond c (season split k cat (l .steps)) (ran split k cat (l .steps)))
-      go true = closes-stands k now (length (l .steps)) (ran split k cat (l .steps)) so
+      go : (c : Bool) → StandsAfter k now (length (l .steps)) c (cond c (season o (l .steps)) (ran o (l .steps)))
+      go true = closes-stands k now (length (l .steps)) (ran o (l .steps)) so
       go false = so
 
   -- the table gives the same answer to the rule where it stands as to the log
-  pub same-refusal : (l : Log) (call : Call) → AllowedLog k cat (l .steps) → refusalNow (ruleOver split k cat l) call ≡ refusalIn k cat l call
+  pub same-refusal : (l : Log) (call : Call) → AllowedLog k cat (l .steps) → refusalNow (ruleOver o l) call ≡ refusalIn k cat l call
   same-refusal l call a =
       let so = stands-over l a in
       rw (so .capacity, so .catalog, so .taken, so .closed)
 
-  over-more : (l : Log) (call : Call) → l .closed ≡ false → accepted (ruleOver split k cat l) call ≡ ruleOver split k cat (logged l call)
+  over-more : (l : Log) (call : Call) → l .closed ≡ false → accepted (ruleOver o l) call ≡ ruleOver o (logged l call)
   unfolding ruleOver fold
-  over-more l (stepCall n) e = rw e (sym (fold-append took (opened split k cat) (l .steps) (stepOf n ∷ [])))
+  over-more l (stepCall n) e = rw e (sym (fold-append took (opened o) (l .steps) (stepOf n ∷ [])))
   over-more l close e = rw e
 
-  pub one-call : (l : Log) (call : Call) → AllowedLog k cat (l .steps) → after (ruleOver split k cat l) call ≡ ruleOver split k cat (joins k cat l call)
+  pub one-call : (l : Log) (call : Call) → AllowedLog k cat (l .steps) → after (ruleOver o l) call ≡ ruleOver o (joins k cat l call)
   unfolding after joins
   one-call l call a = rw (same-refusal l call a) (go (eqb (refusalIn k cat l call) 0) refl)
     where
       go :
           (t : Bool) →
           eqb (refusalIn k cat l call) 0 ≡ t →
-          cond t (accepted (ruleOver split k cat l) call) (ruleOver split k cat l) ≡ ruleOver split k cat (cond t (logged l call) l)
+          cond t (accepted (ruleOver o l) call) (ruleOver o l) ≡ ruleOver o (cond t (logged l call) l)
       go true e = over-more l call (open-log k (catalogAfter cat (l .steps)) (length (l .steps)) (l .closed) call (eqb-true (refusalIn k cat l call) 0 e))
       go false e = refl
 
   -- the rule asked call by call stands where it stands over the log of the calls
-  pub rule-follows : (calls : List Call) → fold after (opened split k cat) calls ≡ ruleOver split k cat (logOf k cat calls)
+  pub rule-follows : (calls : List Call) → fold after (opened o) calls ≡ ruleOver o (logOf k cat calls)
   unfolding fold ruleOver
   rule-follows calls = from noLog calls (log-allowed k cat [])
     where
-      from : (l : Log) (calls : List Call) → AllowedLog k cat (l .steps) → fold after (ruleOver split k cat l) calls ≡ ruleOver split k cat (fold (joins k cat) l calls)
+      from : (l : Log) (calls : List Call) → AllowedLog k cat (l .steps) → fold after (ruleOver o l) calls ≡ ruleOver o (fold (joins k cat) l calls)
       from l [] a = refl
       from l (call ∷ calls) a =
           ap (λ (v : Standing). fold after v calls) (one-call l call a)

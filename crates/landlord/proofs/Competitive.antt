@@ -18,8 +18,8 @@ use Rattle.types.specs.declared.Act.the-variants.{Evict, Fetch}
 use Rattle.landlord.specs.Fold.{fold, sumTo, tab}
 use Rattle.landlord.specs.Catalog.{Catalog, Item, CatalogOk, itemAt, listed, catalogNext, catalogAfter, unit, full}
 use Rattle.landlord.specs.Slot.{Slot, absent, clean, dirty, held, isDirty, loadCredit, writeCredit, Split, lose, brought, refilled, written, flushed}
-use Rattle.landlord.specs.Rule.{State, Event, hit, loaded, evicted, wrote, retired, Moved, size, slotAt, blocksAt, used, rank, victim, evictItem, evict, makeRoom, putSlot, found, flush, dropItem, step}
-use Rattle.landlord.specs.Figures.{Totals, Standing, adds, totalCost, opened, moved, took, closes, ran, season, leftSide, rightSide}
+use Rattle.landlord.specs.Rule.{State, emptied, Event, hit, loaded, evicted, wrote, retired, Moved, size, slotAt, blocksAt, used, rank, victim, evictItem, evict, makeRoom, putSlot, found, flush, dropItem, step}
+use Rattle.landlord.specs.Figures.{Totals, Standing, Start, adds, totalCost, opened, moved, took, closes, ran, season, leftSide, rightSide}
 use Rattle.landlord.specs.Plan.{Plan, Copy, noCopy, cleanCopy, dirtyCopy, has, isChanged, cleaned, copyAt, planUsed, owed, Done, done, faulty, Priced, costs, fault, ifPresent, planActs, andPaid, andThen, allActs, planServes, pricedWith, priceThen, priceFrom, price}
 use Rattle.landlord.specs.Claims.{SplitOk, SlotKept, Kept, Least, AllowedLog, CompetitiveBound, SharpBound}
 use Rattle.landlord.proofs.Ranges.{catalog-facts}
@@ -582,8 +582,8 @@ module _ (k h : ℕ) (low : 1 ≤ h) (high : h ≤ k) (cat : Catalog) (good : Ca
       (λ c r f. served-reach s st t v (b + c) r so f served)
 
   -- the start, where nothing is held and nothing paid
-  fresh : (split : Split) → Fresh terms (stand (opened split k cat) 0 (tab (length cat) (λ i. noCopy)))
-  fresh split =
+  fresh : Fresh terms (position 0 0 (emptied cat) (tab (length cat) (λ i. noCopy)))
+  fresh =
       record {
         cacheZero = refl;
         planZero = refl;
@@ -711,7 +711,13 @@ turned paid y k c l = omega arith
 turned-sharp : (paid y u p loads k c : ℕ) → y * u * paid + p * loads ≤ k * u * (0 + c) → y * paid * u + p * loads ≤ k * c * u
 turned-sharp paid y u p loads k c l = omega arith
 
-module _ (split : Split) (ok : SplitOk split) (k : ℕ) (cat : Catalog) (good : CatalogOk cat) (steps : List Step) (allowed : AllowedLog k cat steps) where
+module _ (o : Start) (ok : SplitOk (o .split)) (good : CatalogOk (o .catalog)) (steps : List Step) (allowed : AllowedLog (o .k) (o .catalog) steps) where
+  abbrev k : ℕ
+  k = o .k
+
+  abbrev cat : Catalog
+  cat = o .catalog
+
   served : AllServed k cat steps
   served = all-served k cat steps allowed
 
@@ -719,30 +725,30 @@ module _ (split : Split) (ok : SplitOk split) (k : ℕ) (cat : Catalog) (good : 
   priced :
       (h : ℕ) (low : 1 ≤ h) (high : h ≤ k) (plan : Plan) (c : ℕ) →
       price cat h plan steps ≡ costs c →
-      Reached k h low high (catalogAfter cat steps) (season split k cat steps) (0 + c)
+      Reached k h low high (catalogAfter cat steps) (season o steps) (0 + c)
   priced h low high plan c e =
-      subst (Ends k h low high (catalogAfter cat steps) (season split k cat steps) 0) e
-      (chain k h low high plan 0 0 steps cat good (opened split k cat) 0 (tab (length cat) (λ i. noCopy)) (opened-stands split k cat ok good)
-      (tab-length (length cat) _) served (Moves.start (fresh k h low high cat good split)))
+      subst (Ends k h low high (catalogAfter cat steps) (season o steps) 0) e
+      (chain k h low high plan 0 0 steps cat good (opened o) 0 (tab (length cat) (λ i. noCopy)) (opened-stands o ok good)
+      (tab-length (length cat) _) served (Moves.start (fresh k h low high cat good)))
 
   -- The wear bound, for every log that the table of refusals lets through: (rule's total over the log and its closing)
   -- × (k - h + 1) ≤ k × (cost of any plan that is legal over the log with h blocks), for every h from 1 to k.
-  pub competitive-bound : CompetitiveBound split k cat steps
+  pub competitive-bound : CompetitiveBound o steps
   competitive-bound h low high plan c e =
       let end = priced h low high plan c e in
-      turned (totalCost (season split k cat steps .figures)) (k - h + 1) k c
+      turned (totalCost (season o steps .figures)) (k - h + 1) k c
       (Moves.ratio (sized k h low high (catalogAfter cat steps) (end .good)) (let one : 1 ≤ unit = omega arith in one)
       (end .settled .holds .0) (end .settled .holds .1) (end .settled .clear))
 
   -- the sharper line, with the load credits held at the close
-  pub sharp-bound : SharpBound split k cat steps
+  pub sharp-bound : SharpBound o steps
   sharp-bound h low high plan c e =
       let end = priced h low high plan c e in
-      let x : State = season split k cat steps .state in
+      let x : State = season o steps .state in
       let last : Catalog = catalogAfter cat steps in
-      let same : x .catalog ≡ last = closes-stands k last (length steps) (ran split k cat steps) (ran-stands split k cat steps ok good served) .catalog in
+      let same : x .catalog ≡ last = closes-stands k last (length steps) (ran o steps) (ran-stands o steps ok good served) .catalog in
       let line =
-      turned-sharp (totalCost (season split k cat steps .figures)) (k - h + 1) unit (h - 1) (sumTo (length last) (λ i. loadCredit (slotAt x i))) k c
+      turned-sharp (totalCost (season o steps .figures)) (k - h + 1) unit (h - 1) (sumTo (length last) (λ i. loadCredit (slotAt x i))) k c
       (Moves.ratio-load (sized k h low high last (end .good)) (end .settled .holds .0) (end .settled .holds .1) (end .settled .clear))
       in
-      subst (λ (z : Catalog). leftSide k h (totalCost (season split k cat steps .figures)) * unit + (h - 1) * sumTo (length z) (λ i. loadCredit (slotAt x i)) ≤ rightSide k c * unit) (sym same) line
+      subst (λ (z : Catalog). leftSide k h (totalCost (season o steps .figures)) * unit + (h - 1) * sumTo (length z) (λ i. loadCredit (slotAt x i)) ≤ rightSide k c * unit) (sym same) line

@@ -15,7 +15,7 @@ use Rattle.landlord.specs.Fold.{fold, sumTo}
 use Rattle.landlord.specs.Catalog.{Catalog, CatalogOk, itemAt, listed, itemInRange, catalogNext, catalogAfter}
 use Rattle.landlord.specs.Slot.{Split, held, isDirty}
 use Rattle.landlord.specs.Rule.{State, Event, hit, loaded, evicted, wroteBack, wrote, retired, Moved, dropItem, evict, victim, makeRoom, found, slotAt, writeBacks, flush, step, size, blocksAt}
-use Rattle.landlord.specs.Figures.{Totals, Figures, Standing, plusTotals, adds, tally, opened, took, closes, ran}
+use Rattle.landlord.specs.Figures.{Totals, Figures, Standing, Start, plusTotals, adds, tally, opened, took, closes, ran}
 use Rattle.landlord.specs.Calls.{callOf, inRange, refusalAt}
 use Rattle.landlord.specs.Claims.{SplitOk, Kept, AllowedLog}
 use Rattle.landlord.proofs.Sums.{sum-zero}
@@ -220,9 +220,9 @@ pub record StandsAfter (k : ℕ) (cat : Catalog) (t : ℕ) (isClosed : Bool) (v 
   pub closed : v .closed ≡ isClosed
   pub fit : SplitOk (v .split)
 
-pub opened-stands : (split : Split) (k : ℕ) (cat : Catalog) → SplitOk split → CatalogOk cat → StandsAfter k cat 0 false (opened split k cat)
-opened-stands split k cat ok good =
-    record { capacity = refl; catalog = refl; kept = empty-kept k cat good; taken = refl; closed = refl; fit = ok }
+pub opened-stands : (o : Start) → SplitOk (o .split) → CatalogOk (o .catalog) → StandsAfter (o .k) (o .catalog) 0 false (opened o)
+opened-stands o ok good =
+    record { capacity = refl; catalog = refl; kept = empty-kept (o .k) (o .catalog) good; taken = refl; closed = refl; fit = ok }
 
 pub took-stands :
     (k : ℕ) (cat : Catalog) (t : ℕ) (v : Standing) (s : Step) →
@@ -267,15 +267,18 @@ closes-stands k cat t v so =
 
 -- What the rule keeps, for every log that the table lets through and every split in multiples of the blocks.
 pub ran-stands :
-    (split : Split) (k : ℕ) (cat : Catalog) (steps : List Step) →
-    SplitOk split →
-    CatalogOk cat →
-    AllServed k cat steps →
-    StandsAfter k (catalogAfter cat steps) (length steps) false (ran split k cat steps)
+    (o : Start) (steps : List Step) →
+    SplitOk (o .split) →
+    CatalogOk (o .catalog) →
+    AllServed (o .k) (o .catalog) steps →
+    StandsAfter (o .k) (catalogAfter (o .catalog) steps) (length steps) false (ran o steps)
 unfolding fold
-ran-stands split k cat steps ok good served =
-    rw (let e : length steps ≡ 0 + length steps = omega arith in e) (from 0 cat (opened split k cat) steps (opened-stands split k cat ok good) served)
+ran-stands o steps ok good served =
+    rw (let e : length steps ≡ 0 + length steps = omega arith in e) (from 0 (o .catalog) (opened o) steps (opened-stands o ok good) served)
   where
+    k : ℕ
+    k = o .k
+
     from :
         (t : ℕ) (cat : Catalog) (v : Standing) (steps : List Step) →
         StandsAfter k cat t false v →

@@ -17,8 +17,8 @@ use Rattle.landlord.specs.Fold.{fold}
 use Rattle.landlord.specs.Catalog.{Catalog, Item, CatalogOk, CapacityOk, noneLeft, itemAt, listed, itemInRange, full}
 use Rattle.landlord.specs.Slot.{Slot, absent, clean, dirty, held, isDirty, Split, written}
 use Rattle.landlord.specs.Rule.{State, size, slotAt, blocksAt, used, heldCount, emptied, wrote, flushStep, evicted, retired, Moved, stay, joined, victim, evictItem, evict, makeRoom, putSlot, found, readSlot, serveRead, serveWrite, flush, arrive, dropItem, leave, step}
-use Rattle.landlord.specs.Figures.{Totals, Figures, Standing, useAt, tally, opened, moved, took, closes}
-use Rattle.landlord.specs.Calls.{Call, stepCall, close, callOf, inRange, itemRefusal, refusalAt, refusalNow, logOf, ruleOver, accepted, after, Opening, splitFrom, startsAt}
+use Rattle.landlord.specs.Figures.{Totals, Figures, Standing, Start, useAt, tally, opened, changed, moved, took, closes}
+use Rattle.landlord.specs.Calls.{Call, stepCall, close, callOf, inRange, itemRefusal, refusalAt, refusalNow, logOf, ruleOver, accepted, after, Opening, startOf, startsAt}
 use Rattle.landlord.specs.Inner.{OpeningOk}
 use Rattle.landlord.specs.Claims.{SplitOk, SlotKept, Kept, Least}
 use Rattle.landlord.specs.Valid.{dirtyCount, leftCount, StandingOk}
@@ -43,10 +43,6 @@ Clean x isClosed = isClosed ≡ true → (i : ℕ) → i < size x → isDirty (s
 -- the figures of a cache that stands so, where t steps are taken
 abbrev Right : State → ℕ → Figures → Type 0
 Right x t f = CountsKept (size x) (leftCount (x .catalog)) t (heldCount x) (dirtyCount x) (1440 * t) f
-
--- a standing, by its parts
-abbrev standingWith : ℕ → State → Figures → Bool → Split → Standing
-standingWith k x f c split = record { k = k; state = x; figures = f; closed = c; split = split }
 
 -- What holds where the rule stands is what holds of its state and what holds of its figures; so it comes apart and together.
 counted-of : (v : Standing) → StandingOk v → Right (v .state) (taken v) (v .figures)
@@ -96,13 +92,16 @@ standing-of v t capacity kept few c tidy =
     }
 
 -- at opening nothing is held, none has left, and nothing is counted
-pub ok-opened : (split : Split) (k : ℕ) (cat : Catalog) → CapacityOk k → CatalogOk cat → noneLeft cat ≡ true → StandingOk (opened split k cat)
+pub ok-opened : (o : Start) → CapacityOk (o .k) → CatalogOk (o .catalog) → noneLeft (o .catalog) ≡ true → StandingOk (opened o)
 unfolding heldCount dirtyCount
-ok-opened split k cat capacity good new =
-    standing-of (opened split k cat) 0 capacity (empty-kept k cat good) (omega arith)
+ok-opened o capacity good new =
+    standing-of (opened o) 0 capacity (empty-kept (o .k) cat good) (omega arith)
     (rw (none held refl, none isDirty refl, left-none cat new) (nothing-counted cat))
     (λ c. absurd (false≢true c))
   where
+    cat : Catalog
+    cat = o .catalog
+
     none : (mark : Slot → Bool) → mark absent ≡ false → markSum mark (λ i. 1) (emptied cat) ≡ 0
     none mark e =
         sum-zero (length cat) _
@@ -110,7 +109,7 @@ ok-opened split k cat capacity good new =
 
 -- so it is from each opening that is not refused
 pub ok-starts : (o : Opening Catalog) → OpeningOk o → StandingOk (startsAt o)
-ok-starts o f = ok-opened (splitFrom o) (o .k) (o .catalog) (f .ranges .capacity) (f .ranges .catalog) (f .ranges .fresh)
+ok-starts o f = ok-opened (startOf o) (f .ranges .capacity) (f .ranges .catalog) (f .ranges .fresh)
 
 -- an eviction takes the victim out of the dirty ones
 evict-dirty : (split : Split) (v : ℕ) (x : State) → v < size x → dirtyCount (evictItem split v x) + cond (isDirty (slotAt x v)) 1 0 ≡ dirtyCount x
@@ -170,24 +169,24 @@ pub moved-joined :
     a .state .catalog ≡ v .state .catalog →
     moved v (joined a b) c ≡ moved (moved v a c) b c
 moved-joined v a b c e =
-    ap (λ (f : Figures). standingWith (v .k) (b .state) f c (v .split))
+    ap (λ (f : Figures). changed v (b .state) f c)
     (fold-append (tally (v .state .catalog)) (v .figures) (a .events) (b .events)
     ∙ ap (λ (cat : Catalog). fold (tally cat) (moved v a c .figures) (b .events)) (sym e))
 
 -- the loop that makes room, eviction by eviction
 evicting-ok :
-    (split : Split) (k blocks : ℕ) (x : State) (m : Moved) (f : Figures) (c : Bool) (own : Split) →
+    (split : Split) (v : Standing) (blocks : ℕ) (x : State) (m : Moved) (f : Figures) →
     SplitOk split →
-    Evicting split k blocks x m →
-    StandingOk (standingWith k x f c own) →
-    StandingOk (moved (standingWith k x f c own) m c)
+    Evicting split (v .k) blocks x m →
+    StandingOk (changed v x f (v .closed)) →
+    StandingOk (moved (changed v x f (v .closed)) m (v .closed))
 unfolding fold
-evicting-ok split k blocks x m f c own ok (enough l) o = o
-evicting-ok split k blocks x m f c own ok (more {m = n} over low next) o =
-    let v : Standing = standingWith k x f c own in
-    let w : Standing = moved v (evict split x) c in
-    rw (moved-joined v (evict split x) n c (evict-catalog split (victim x) x))
-    (evicting-ok split k blocks (w .state) n (w .figures) c own ok next (ok-evict split v ok o low))
+evicting-ok split v blocks x m f ok (enough l) o = o
+evicting-ok split v blocks x m f ok (more {m = n} over low next) o =
+    let u : Standing = changed v x f (v .closed) in
+    let w : Standing = moved u (evict split x) (v .closed) in
+    rw (moved-joined u (evict split x) n (v .closed) (evict-catalog split (victim x) x))
+    (evicting-ok split v blocks (w .state) n (w .figures) ok next (ok-evict split u ok o low))
 
 -- room made for an item, whether it was held or not
 pub ok-room :
@@ -206,8 +205,8 @@ ok-room split v i ok o l fits = go (held (slotAt (v .state) i)) refl
     room = make-room split (v .k) i (v .state) ok l fits
 
     go : (t : Bool) → held (slotAt (v .state) i) ≡ t → StandingOk (moved v m (v .closed))
-    go true e = rw (room .stayed e) (evicting-ok split (v .k) 0 (v .state) (stay (v .state)) (v .figures) (v .closed) (v .split) ok (enough (omega (arith, o .kept .room))) o)
-    go false e = evicting-ok split (v .k) (blocksAt (v .state) i) (v .state) m (v .figures) (v .closed) (v .split) ok (room .ran e .1) o
+    go true e = rw (room .stayed e) (evicting-ok split v 0 (v .state) (stay (v .state)) (v .figures) ok (enough (omega (arith, o .kept .room))) o)
+    go false e = evicting-ok split v (blocksAt (v .state) i) (v .state) m (v .figures) ok (room .ran e .1) o
 
 -- an eviction is no step
 pub evict-steps : (split : Split) (v : Standing) (c : Bool) → moved v (evict split (v .state)) c .figures .totals .steps ≡ v .figures .totals .steps
@@ -303,10 +302,10 @@ serve-ok :
     SlotKept (itemAt (v .state .catalog) i) s →
     held s ≡ true →
     Right (putSlot (v .state) i s) (taken v + 1) f →
-    StandingOk (standingWith (v .k) (putSlot (v .state) i s) f (v .closed) (v .split))
+    StandingOk (changed v (putSlot (v .state) i s) f (v .closed))
 serve-ok v i s f r new h right =
     let o : StandingOk v = r .taking .standing in
-    standing-of (standingWith (v .k) (putSlot (v .state) i s) f (v .closed) (v .split)) (taken v + 1) (o .capacity)
+    standing-of (changed v (putSlot (v .state) i s) f (v .closed)) (taken v + 1) (o .capacity)
     (put-kept (v .k) (v .state) i s (o .kept) (r .below) new h (r .present) (r .free))
     (omega (arith, r .taking .few)) right (λ c. absurd (false≢true (sym (r .taking .isOpen) ∙ c)))
 
@@ -437,7 +436,7 @@ ok-drop v i o l = go (held (slotAt x i)) refl
     go :
         (t : Bool) →
         held (slotAt x i) ≡ t →
-        StandingOk (standingWith (v .k) y (fold (tally (x .catalog)) (v .figures) (cond t (evicted i (isDirty (slotAt x i)) ∷ []) [])) (v .closed) (v .split))
+        StandingOk (changed v y (fold (tally (x .catalog)) (v .figures) (cond t (evicted i (isDirty (slotAt x i)) ∷ []) [])) (v .closed))
     go true e =
         standing-of _ (taken v) (o .capacity) (drop-kept (v .k) x i (o .kept) l) (o .taken)
         (evicted-counted (x .catalog) (v .figures) i (isDirty (slotAt x i)) _ _ _ _ _ _ _ (o .kept .catalog) l (counted-of v o) (rw e at helds) dirties)
@@ -566,15 +565,15 @@ ok-after v call ok o =
 
 -- so wherever the rule stands over the log of a list of calls
 pub ok-over :
-    (split : Split) (k : ℕ) (cat : Catalog) (calls : List Call) →
-    SplitOk split →
-    CapacityOk k →
-    CatalogOk cat →
-    noneLeft cat ≡ true →
-    StandingOk (ruleOver split k cat (logOf k cat calls))
+    (o : Start) (calls : List Call) →
+    SplitOk (o .split) →
+    CapacityOk (o .k) →
+    CatalogOk (o .catalog) →
+    noneLeft (o .catalog) ≡ true →
+    StandingOk (ruleOver o (logOf (o .k) (o .catalog) calls))
 unfolding fold
-ok-over split k cat calls ok capacity good new =
-    rw (rule-follows split k cat ok good calls) at (from (opened split k cat) calls ok (ok-opened split k cat capacity good new))
+ok-over o calls ok capacity good new =
+    rw (rule-follows o ok good calls) at (from (opened o) calls ok (ok-opened o capacity good new))
   where
     from : (v : Standing) (calls : List Call) → SplitOk (v .split) → StandingOk v → StandingOk (fold after v calls)
     from v [] ok o = o

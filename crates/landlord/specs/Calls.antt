@@ -5,7 +5,7 @@ use Prim.Native.Nat.{ℕ}
 use lib.{ListN.length, Dec.{leb, ltb, eqb}}
 use Rattle.types.specs.declared.{Step.{Step, the-variants.{Read, Write, Flush, Arrive, Retire}}, Numbers.Numbers}
 use Rattle.types.specs.Types.{numbersOf, stepOf, isDeduction, deductionOf}
-use Rattle.landlord.specs.{Fold.fold, Catalog.{Catalog, itemAt, listed, catalogAfter, itemInRange, catalogInRange, noneLeft, capacityInRange}, Slot.{Split, splitOf}, Figures.{Standing, opened, took, closes, ran, season}}
+use Rattle.landlord.specs.{Fold.fold, Catalog.{Catalog, itemAt, listed, catalogAfter, itemInRange, catalogInRange, noneLeft, capacityInRange}, Slot.splitOf, Figures.{Standing, Start, opened, took, closes, ran, season}}
 
 -- What an opening is given: the capacity, the number of a rule of deduction, and the catalog, in the form in which it is handed over.
 pub record Opening (C : Type 0) : Type 0 where
@@ -104,22 +104,22 @@ abbrev pub refusal : ℕ → Catalog → List Call → Call → ℕ
 refusal k cat before call = refusalIn k cat (logOf k cat before) call
 
 -- where the rule stands after a log, from an empty cache: over its steps, and over its closing if it has one
-unfoldable pub ruleOver : Split → ℕ → Catalog → Log → Standing
-ruleOver split k cat l = cond (l .closed) (season split k cat (l .steps)) (ran split k cat (l .steps))
+unfoldable pub ruleOver : Start → Log → Standing
+ruleOver o l = cond (l .closed) (season o (l .steps)) (ran o (l .steps))
 
--- how a loss is split from an opening on: by its rule
-abbrev pub splitFrom : Opening Catalog → Split
-splitFrom o = splitOf (deductionOf (o .rule))
+-- what a season starts with from an opening: a loss is split by the opening's rule
+abbrev pub startOf : Opening Catalog → Start
+startOf o = record { k = o .k; catalog = o .catalog; split = splitOf (deductionOf (o .rule)) }
 
 -- where the rule stands at an opening, after a log from there, and after a season
 abbrev pub startsAt : Opening Catalog → Standing
-startsAt o = opened (splitFrom o) (o .k) (o .catalog)
+startsAt o = opened (startOf o)
 
 abbrev pub ruleFrom : Opening Catalog → Log → Standing
-ruleFrom o l = ruleOver (splitFrom o) (o .k) (o .catalog) l
+ruleFrom o l = ruleOver (startOf o) l
 
 abbrev pub seasonFrom : Opening Catalog → List Step → Standing
-seasonFrom o steps = season (splitFrom o) (o .k) (o .catalog) steps
+seasonFrom o steps = season (startOf o) steps
 
 -- where the rule stands after a call that is not refused
 abbrev pub accepted : Standing → Call → Standing

@@ -4,7 +4,7 @@ use mathlib.Core.{Path._≡_, Bool.{true, false}, List.List}
 use Prim.Native.Nat.{ℕ, _+_, _*_, _-_, _≤_, _<_, _∣_}
 use lib.ListN.{length, getD, take}
 use Rattle.types.specs.declared.Step.{Step, the-variants.Flush}
-use Rattle.landlord.specs.{Fold.sumTo, Catalog.{Catalog, Item, itemAt, catalogAfter, CatalogOk, full, unit}, Slot.{Split, Slot, held, loadCredit, writeCredit}, Rule.{State, size, slotAt, used, rank}, Figures.{season, totalCost, leftSide, rightSide}, Plan.{Plan, price, costs}, Calls.{callOf, refusalAt}}
+use Rattle.landlord.specs.{Fold.sumTo, Catalog.{Catalog, Item, itemAt, catalogAfter, CatalogOk, full, unit}, Slot.{Split, Slot, held, loadCredit, writeCredit}, Rule.{State, size, slotAt, used, rank}, Figures.{Start, season, totalCost, leftSide, rightSide}, Plan.{Plan, price, costs}, Calls.{callOf, refusalAt}}
 
 -- a list of steps that the table of refusals lets through, each at its place in an open log and by the catalog as the steps before it
 -- have left it
@@ -55,8 +55,8 @@ WithinBound k cat steps total =
     (h : ℕ) → 1 ≤ h → h ≤ k → (plan : Plan) (c : ℕ) → price cat h plan steps ≡ costs c → leftSide k h total ≤ rightSide k c
 
 -- the wear bound of one log: the rule's total over the steps and the closing is within it
-abbrev pub CompetitiveBound : Split → ℕ → Catalog → List Step → Type 0
-CompetitiveBound split k cat steps = WithinBound k cat steps (totalCost (season split k cat steps .figures))
+abbrev pub CompetitiveBound : Start → List Step → Type 0
+CompetitiveBound o steps = WithinBound (o .k) (o .catalog) steps (totalCost (season o steps .figures))
 
 -- the load credits held, in shares
 abbrev pub loadCredits : State → ℕ
@@ -64,8 +64,8 @@ loadCredits x = sumTo (size x) (λ i. loadCredit (slotAt x i))
 
 -- The sharper line: (h - 1) times the load credits held at the close is added on the left. All is in shares, that is,
 -- multiplied by 720,720.
-abbrev pub SharpBound : Split → ℕ → Catalog → List Step → Type 0
-SharpBound split k cat steps =
-    (h : ℕ) → 1 ≤ h → h ≤ k → (plan : Plan) (c : ℕ) → price cat h plan steps ≡ costs c →
-    leftSide k h (totalCost (season split k cat steps .figures)) * unit + (h - 1) * loadCredits (season split k cat steps .state)
-    ≤ rightSide k c * unit
+abbrev pub SharpBound : Start → List Step → Type 0
+SharpBound o steps =
+    (h : ℕ) → 1 ≤ h → h ≤ o .k → (plan : Plan) (c : ℕ) → price (o .catalog) h plan steps ≡ costs c →
+    leftSide (o .k) h (totalCost (season o steps .figures)) * unit + (h - 1) * loadCredits (season o steps .state)
+    ≤ rightSide (o .k) c * unit

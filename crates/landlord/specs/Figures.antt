@@ -157,20 +157,26 @@ pub record Standing : Type 0 where
   pub closed : Bool
   pub split : Split
 
+-- what a season starts with: the capacity, the catalog, and how a loss is split
+pub record Start : Type 0 where
+  pub k : ℕ
+  pub catalog : Catalog
+  pub split : Split
+
+abbrev pub start : Split → ℕ → Catalog → Start
+start split k cat = record { k = k; catalog = cat; split = split }
+
 -- at opening: "empty", nothing counted
-abbrev pub opened : Split → ℕ → Catalog → Standing
-opened split k cat = record { k = k; state = emptied cat; figures = nothing cat; closed = false; split = split }
+abbrev pub opened : Start → Standing
+opened o = record { k = o .k; state = emptied (o .catalog); figures = nothing (o .catalog); closed = false; split = o .split }
+
+-- a standing with another state and other figures, closed or not; what else it has stays
+abbrev pub changed : Standing → State → Figures → Bool → Standing
+changed v x f isClosed = record { k = v .k; state = x; figures = f; closed = isClosed; split = v .split }
 
 -- a standing moved on: the next state, and the events counted
 abbrev pub moved : Standing → Moved → Bool → Standing
-moved v m isClosed =
-    record {
-      k = v .k;
-      state = m .state;
-      figures = fold (tally (v .state .catalog)) (v .figures) (m .events);
-      closed = isClosed;
-      split = v .split;
-    }
+moved v m isClosed = changed v (m .state) (fold (tally (v .state .catalog)) (v .figures) (m .events)) isClosed
 
 -- one step more
 unfoldable pub took : Standing → Step → Standing
@@ -181,9 +187,9 @@ unfoldable pub closes : Standing → Standing
 closes v = moved v (flush (v .state)) true
 
 -- the rule over a list of steps, from an empty cache
-abbrev pub ran : Split → ℕ → Catalog → List Step → Standing
-ran split k cat steps = fold took (opened split k cat) steps
+abbrev pub ran : Start → List Step → Standing
+ran o steps = fold took (opened o) steps
 
 -- the rule over a list of steps and the closing
-abbrev pub season : Split → ℕ → Catalog → List Step → Standing
-season split k cat steps = closes (ran split k cat steps)
+abbrev pub season : Start → List Step → Standing
+season o steps = closes (ran o steps)

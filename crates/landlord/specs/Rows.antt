@@ -9,7 +9,7 @@ use native.Mathlib.Omega.{arith}
 use lib.ListN.{getD}
 use Rattle.types.specs.declared.{Step.{Step, the-variants.Write}, Act.{Act, the-variants.{Evict, Fetch}}, Deduction.{Deduction, the-variants.{WriteFirst, LoadFirst}}}
 use Rattle.types.specs.Types.{numbersFrom, stepOf}
-use Rattle.landlord.specs.{Fold.{sumTo, tab, tabFrom, bestTo, fold}, Catalog.{Catalog, Item, listed, departed, allInRange, catalogInRange, noneLeft, unit}, Slot.{Slot, absent, clean, dirty, Split, writeFirst, splitOf}, Rule.{State, Event, hit, loaded, evicted, wroteBack, wrote, flushStep, arrived, retired, emptied, used, heldCount, victim, evictItem, evictFor, makeRoom, writeBacks, flush, dropItem, step}, Figures.{Totals, Use, Standing, totalsOf, useOf, tenthsOf, took, closes, season, totalCost, leftSide, rightSide}, Plan.{Plan, Priced, costs, fault, unknownItem, retiredItem, notHeld, alreadyHeld, requestNotHeld, overCapacity, planUsed, owed, planActs, allActs, planServes, priceFrom, price}, Claims.loadCredits, Calls.{Call, stepCall, close, Log, noLog, refusalAt, refusalIn, joins, logOf, ruleOver, Opening, opening, openingRefusal}}
+use Rattle.landlord.specs.{Fold.{sumTo, tab, tabFrom, bestTo, fold}, Catalog.{Catalog, Item, listed, departed, allInRange, catalogInRange, noneLeft, unit}, Slot.{Slot, absent, clean, dirty, Split, writeFirst, splitOf}, Rule.{State, Event, hit, loaded, evicted, wroteBack, wrote, flushStep, arrived, retired, emptied, used, heldCount, victim, evictItem, evictFor, makeRoom, writeBacks, flush, dropItem, step}, Figures.{Totals, Use, Standing, start, totalsOf, useOf, tenthsOf, took, closes, season, totalCost, leftSide, rightSide}, Plan.{Plan, Priced, costs, fault, unknownItem, retiredItem, notHeld, alreadyHeld, requestNotHeld, overCapacity, planUsed, owed, planActs, allActs, planServes, priceFrom, price}, Claims.loadCredits, Calls.{Call, stepCall, close, Log, noLog, refusalAt, refusalIn, joins, logOf, ruleOver, Opening, opening, openingRefusal}}
 
 -- a rival of a row: its blocks, and its acts before step 0, 1, 2 and on; no acts after the last list
 pub record RowRival : Type 0 where
@@ -62,7 +62,7 @@ evictedItems (retired i ∷ es) = evictedItems es
 unfoldable pub resultOf : BenchRow → RowResult
 resultOf r =
     let l = logOf (r .k) (r .catalog) (r .calls) in
-    let v = ruleOver (splitOf (r .rule)) (r .k) (r .catalog) l in
+    let v = ruleOver (start (splitOf (r .rule)) (r .k) (r .catalog)) l in
     record {
       answers = answers (r .k) (r .catalog) noLog (r .calls);
       total = totalCost (v .figures);
@@ -322,7 +322,7 @@ tight-right = (refl, refl)
 
 -- the season of the whole example
 abbrev exampleEnd : Standing
-exampleEnd = season writeFirst 3 three (logOf 3 three (fourSteps ++ (flushCall ∷ [])) .steps)
+exampleEnd = season (start writeFirst 3 three) (logOf 3 three (fourSteps ++ (flushCall ∷ [])) .steps)
 
 -- its report's last figures: total 28, left 56, right 96. The load credits held at the close are worth 7, which makes the
 -- sharper line 63 against 96.
@@ -347,7 +347,7 @@ oneFetch s = getD ((Fetch 0 ∷ []) ∷ []) s []
 -- A claim with k - h + 2 in place of k - h + 1 is false there: 20 is not at most 10.
 pub stronger-false :
     ((k h : ℕ) (cat : Catalog) (steps : List Step) → 1 ≤ h → h ≤ k → (plan : Plan) (c : ℕ) → price cat h plan steps ≡ costs c →
-    (k - h + 2) * totalCost (season writeFirst k cat steps .figures) ≤ k * c) →
+    (k - h + 2) * totalCost (season (start writeFirst k cat) steps .figures) ≤ k * c) →
     ⊥
 unfolding sumTo tabFrom bestTo fold used heldCount victim evictItem evictFor makeRoom writeBacks flush dropItem step took closes planUsed owed planActs allActs planServes priceFrom
 stronger-false claim =

@@ -15,7 +15,7 @@ use Rattle.landlord.specs.Fold.{fold}
 use Rattle.landlord.specs.Catalog.{Catalog, catalogAfter}
 use Rattle.types.specs.Types.{deductionNumber}
 use Rattle.landlord.specs.Slot.{splitOf}
-use Rattle.landlord.specs.Figures.{ran, totalCost, leftSide, rightSide}
+use Rattle.landlord.specs.Figures.{start, ran, totalCost, leftSide, rightSide}
 use Rattle.landlord.specs.Plan.{costs}
 use Rattle.landlord.specs.Calls.{Call, close, callOf, Log, noLog, refusalAt, refusalIn, refusal, joins, logOf, ruleOver, openingRefusal}
 use Rattle.landlord.specs.Claims.{AllowedLog}
@@ -78,8 +78,8 @@ module _ (v : Sofar) (ok : Sound v) where
   unfolding ruleOver
   text-stands numbers d so =
       so .stands
-      ∙ ap (λ (r : Deduction). ruleOver (splitOf r) (v .k) (v .catalog) (logOf (v .k) (v .catalog) (callsIn v))) (deduction-number (v .rule) .0)
-      ∙ ap (ruleOver (splitOf (v .rule)) (v .k) (v .catalog)) text-log
+      ∙ ap (λ (r : Deduction). ruleOver (start (splitOf r) (v .k) (v .catalog)) (logOf (v .k) (v .catalog) (callsIn v))) (deduction-number (v .rule) .0)
+      ∙ ap (ruleOver (start (splitOf (v .rule)) (v .k) (v .catalog))) text-log
 
   -- an opening with the text's numbers is accepted
   pub text-opens : openingRefusal (openingFor v (v .catalog)) ≡ 0
@@ -93,8 +93,9 @@ module _ (v : Sofar) (ok : Sound v) where
       let k = v .k in
       let cat = v .catalog in
       let steps = v .steps in
-      closes-stands k (catalogAfter cat steps) (length steps) (ran (splitOf (v .rule)) k cat steps)
-      (ran-stands (splitOf (v .rule)) k cat steps (deduction-ok (v .rule)) (ok .catalog) (all-served k cat steps (ok .allowed))) .capacity
+      let o = start (splitOf (v .rule)) k cat in
+      closes-stands k (catalogAfter cat steps) (length steps) (ran o steps)
+      (ran-stands o steps (deduction-ok (v .rule)) (ok .catalog) (all-served k cat steps (ok .allowed))) .capacity
 
   -- "The steps of an accepted text, with its closing, are such a list."
   pub calls-accepted : AllAccepted v
@@ -128,5 +129,5 @@ text-compared v cost ok e =
           (season-lent (openingFor v xs) (callsIn v) numbers d chain .season));
       capacity = season-capacity v ok;
       bound = subst (λ (k : ℕ). leftSide k (v .h) (totalCost (closedSeason v .figures)) ≤ rightSide k cost) (sym (season-capacity v ok))
-          (competitive-bound (splitOf (v .rule)) (deduction-ok (v .rule)) (v .k) (v .catalog) (ok .catalog) (v .steps) (ok .allowed) (v .h) (ok .rivalLow) (ok .rivalHigh) (planOf (v .acts)) cost e);
+          (competitive-bound (start (splitOf (v .rule)) (v .k) (v .catalog)) (deduction-ok (v .rule)) (ok .catalog) (v .steps) (ok .allowed) (v .h) (ok .rivalLow) (ok .rivalHigh) (planOf (v .acts)) cost e);
     }

@@ -5,7 +5,7 @@ use Prim.Native.Nat.{ℕ, _≤_, _<_}
 use lib.{ListN.{length, drop, getD, take}, Dec.leb}
 use Rattle.types.specs.declared.Refusal.{Refusal, the-variants.{InputTooLong, ShortBuffer}}
 use Rattle.types.specs.Types.{told, deductionNumber}
-use Rattle.landlord.specs.{Slot.splitOf, Figures.{Standing, season, totalCost, leftSide, rightSide}, Plan.{faultRefusal, Priced, costs, fault}, Calls.{Opening, opening, Call, close, callOf, openingRefusal, refusal}, Catalog.Catalog}
+use Rattle.landlord.specs.{Slot.splitOf, Figures.{Standing, start, season, totalCost, leftSide, rightSide}, Plan.{faultRefusal, Priced, costs, fault}, Calls.{Opening, opening, Call, close, callOf, openingRefusal, refusal}, Catalog.Catalog}
 use Rattle.decimal.specs.Decimal.{fits, wroteOf, pageOf}
 use Rattle.report_lines.specs.declared.Rival.the-variants.{Against}
 use Rattle.report.specs.{declared.Written.Written, Report.{reportOf, refusalText, writtenTold, Put, longest}}
@@ -17,7 +17,7 @@ use Rattle.cache_run.specs.Season.{ChainLent}
 
 -- where the text's rule stands over its steps; "The program closes the log itself"
 abbrev pub closedSeason : Sofar → Standing
-closedSeason v = season (splitOf (v .rule)) (v .k) (v .catalog) (v .steps)
+closedSeason v = season (start (splitOf (v .rule)) (v .k) (v .catalog)) (v .steps)
 
 -- the report of an accepted text whose plan costs so much
 abbrev pub reportAgainst : Sofar → ℕ → List ℕ
