@@ -11,7 +11,7 @@ use Rattle.landlord.specs.Slot.{splitOf}
 use Rattle.landlord.specs.Rule.{size, victim, evict}
 use Rattle.landlord.specs.Figures.{moved}
 use Rattle.landlord.specs.Claims.{Least}
-use Rattle.landlord.proofs.Keeps.{victim-least, bears-rank}
+use Rattle.landlord.proofs.Keeps.{victim-least, least-rank, bears-rank}
 use Rattle.marks.specs.Inner.{marks}
 use Rattle.cache_state.specs.Cache.{Cache, dirtyAt, view, Normal, Valid}
 use Rattle.cache_state.specs.InnerView.{stateOf}
@@ -196,7 +196,7 @@ module _ (b : List ℕ) (n : ℕ) {v : ℕ} (p : CrowdedAt b n) (is : v ≡ vict
       let k : i < size (stateOf q) = omega (arith, size-is q) in
       let low : Least (stateOf q) (victim (stateOf q)) = victim-least (stateOf q) (p .some) in
       rw (← rank-is q (ok .fields) v known, ← load-is q (ok .fields) i m, ← write-is q (ok .fields) i m, ← blocks-is q i m, is)
-      (bears-rank (q .k) (stateOf q) (victim (stateOf q)) i (ok .rule .kept) k (low .least i k (held-is q i m ∙ h)))
+      (bears-rank (q .k) (stateOf q) (victim (stateOf q)) i (ok .rule .kept) k (least-rank low i k (held-is q i m ∙ h)))
 
   pub chargeable : {m : ℕ} → m ≡ rankOf (cacheOf b) v → ChargeableAt b n m
   chargeable e =

@@ -12,7 +12,7 @@ use lib.ListN.{getD}
 use Rattle.landlord.specs.Fold.{bestTo}
 use Rattle.landlord.specs.Catalog.{itemAt}
 use Rattle.landlord.specs.Slot.{Slot, held, isDirty, loadCredit, writeCredit}
-use Rattle.landlord.specs.Rule.{size, slotAt, blocksAt, rank, goesBefore, victim}
+use Rattle.landlord.specs.Rule.{size, slotAt, blocksAt, rank, precedence, goesBefore, victim}
 use Rattle.landlord.specs.Claims.{SlotKept}
 use Rattle.landlord.specs.Inner.{ItemFacts}
 use Rattle.cache_state.specs.Cache.{Cache, dirtyAt, Normal, Valid}
@@ -74,9 +74,10 @@ rank-bound c ok i l =
 pub record Choosing (c : Cache) (best least i : ℕ) : Type 0 where
   pub within : i ≤ c .n
   pub bestSoFar : best ≡ bestTo (goesBefore (stateOf c)) (size (stateOf c)) i
-  pub leastSoFar : least ≡ rank (stateOf c) best
+  pub leastSoFar : least ≡ precedence (stateOf c) best
 
 pub choosing-starts : (c : Cache) → Choosing c (c .n) 0 0
+unfolding precedence
 choosing-starts c =
     record { within = omega arith; bestSoFar = sym (size-is c) ∙ sym (best-start _ (size (stateOf c))); leastSoFar = sym (rank-past c) }
 
@@ -92,12 +93,12 @@ choosing-passes c {best} {least} {i} so l h =
       within = omega arith;
       bestSoFar =
           best-more (goesBefore (stateOf c)) (size (stateOf c)) i best false (so .bestSoFar)
-          (ap (λ (t : Bool). cond t (cond (eqb best (size (stateOf c))) true (ltb (rank (stateOf c) i) (rank (stateOf c) best))) false)
+          (ap (λ (t : Bool). cond t (cond (eqb best (size (stateOf c))) true (ltb (precedence (stateOf c) i) (precedence (stateOf c) best))) false)
           (held-is c i l ∙ h));
       leastSoFar = so .leastSoFar;
     }
 
--- one item more that is held, of rank `here`
+-- one item more that is held, of precedence `here`, which is its rank
 pub record Turn (c : Cache) (best least i here : ℕ) : Type 0 where
   pub fields : Normal c
   pub soFar : Choosing c best least i
@@ -106,7 +107,8 @@ pub record Turn (c : Cache) (best least i here : ℕ) : Type 0 where
   pub is : here ≡ rankOf c i
 
 module _ (c : Cache) {best least i here : ℕ} (turn : Turn c best least i here) where
-  here-is : here ≡ rank (stateOf c) i
+  here-is : here ≡ precedence (stateOf c) i
+  unfolding precedence
   here-is = turn .is ∙ sym (rank-is c (turn .fields) i (turn .below))
 
   tested : goesBefore (stateOf c) i best ≡ cond (eqb best (c .n)) true (ltb here least)
@@ -115,7 +117,7 @@ module _ (c : Cache) {best least i here : ℕ} (turn : Turn c best least i here)
       cond ((held-is c i (turn .below) ∙ turn .isHeld) z)
       (cond (eqb best (size-is c z)) true (ltb (sym here-is z) (sym (turn .soFar .leastSoFar) z))) false
 
-  -- not the first: by its rank alone
+  -- not the first: by its precedence alone
   ranked-only : best ≢ c .n → goesBefore (stateOf c) i best ≡ ltb here least
   ranked-only e = tested ∙ ap (λ (t : Bool). cond t true (ltb here least)) (ne-eqb best (c .n) e)
 
@@ -127,7 +129,7 @@ module _ (c : Cache) {best least i here : ℕ} (turn : Turn c best least i here)
         leastSoFar = here-is;
       }
 
-  -- it is the first, or its rank is less than the least so far, or it is not
+  -- it is the first, or its precedence is less than the least so far, or it is not
   pub choosing-first : best ≡ c .n → Choosing c i here (i + 1)
   choosing-first e = takes (tested ∙ ap (λ (t : Bool). cond t true (ltb here least)) (eq-eqb best (c .n) e))
 

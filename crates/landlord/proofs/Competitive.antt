@@ -27,7 +27,7 @@ use Rattle.landlord.proofs.Folds.{either, tab-at, tab-length}
 use Rattle.landlord.proofs.Slots.{Lost, lose-lost, read-held, flush-held}
 use Rattle.landlord.proofs.Sums.{sum-eq}
 use Rattle.landlord.proofs.Potential
-use Rattle.landlord.proofs.Keeps.{Evicting, enough, more, RoomMade, make-room, Served, rank-whole, bears-rank, evicted-slot, other-slot, evict-catalog, evict-kept, still-absent, put-same, put-other, flush-slot, grown, grown-slot, drop-slot, drop-other}
+use Rattle.landlord.proofs.Keeps.{Evicting, enough, more, RoomMade, make-room, Served, least-rank, rank-whole, bears-rank, evicted-slot, other-slot, evict-catalog, evict-kept, still-absent, put-same, put-other, flush-slot, grown, grown-slot, drop-slot, drop-other}
 use Rattle.landlord.proofs.Catalogs.{padded, one-longer, arrived-other, retired-length, retired-alike}
 use Rattle.landlord.proofs.Logs.{eventSum, eventSum-none, eventSum-one, event-append, write-backs-sum, tally-part, AllServed, all-served, StandsAfter, opened-stands, took-stands, closes-stands, ran-stands}
 use Rattle.landlord.proofs.Potential.{Both, both, Terms, Charged, heldBlocks, wasRead, keeps-takes}
@@ -224,7 +224,7 @@ module _ (k h : ℕ) (low : 1 ≤ h) (high : h ≤ k) (cat : Catalog) (good : Ca
         bears : (i : ℕ) → i < size x → held (slotAt x i) ≡ true → blocksOf i * m ≤ loadCredit (slotAt x i) + writeCredit (slotAt x i)
         bears i b t =
             subst (λ (n : ℕ). n * m ≤ loadCredit (slotAt x i) + writeCredit (slotAt x i)) (blocks-same x e i)
-            (bears-rank k x (victim x) i kept b (least .least i b t))
+            (bears-rank k x (victim x) i kept b (least-rank least i b t))
 
         charged : (i : ℕ) → i < size x → i ≢ victim x → Charged terms i m (joint (slotAt x i) (copyAt q i)) (joint (slotAt (evictItem split (victim x) x) i) (copyAt q i))
         charged i b d =

@@ -17,7 +17,7 @@ use Rattle.types.specs.declared.Step.the-variants.{Read, Write, Flush, Arrive, 
 use Rattle.landlord.specs.Fold.{sumTo}
 use Rattle.landlord.specs.Catalog.{Catalog, Item, CatalogOk, itemAt, listed, catalogNext, itemInRange, full}
 use Rattle.landlord.specs.Slot.{Slot, absent, held, loadCredit, writeCredit, Split, lose, written, flushed}
-use Rattle.landlord.specs.Rule.{State, size, slotAt, blocksAt, used, heldCount, rank, victim, evictItem, evict, evictFor, makeRoom, Moved, stay, joined, putSlot, readSlot, flush, dropItem, leave, step, emptied}
+use Rattle.landlord.specs.Rule.{State, size, slotAt, blocksAt, used, heldCount, rank, precedence, victim, evictItem, evict, evictFor, makeRoom, Moved, stay, joined, putSlot, readSlot, flush, dropItem, leave, step, emptied}
 use Rattle.landlord.specs.Inner.{ItemFacts}
 use Rattle.landlord.specs.Claims.{SplitOk, SlotKept, Kept, Least}
 use Rattle.landlord.proofs.Ranges.{catalog-facts, item-facts}
@@ -32,14 +32,23 @@ isHeld x i = held (slotAt x i)
 abbrev credits : State → ℕ → ℕ
 credits x i = loadCredit (slotAt x i) + writeCredit (slotAt x i)
 
--- where some item is held, the victim is held, of least rank, and the lowest number of these
+-- where some item is held, the victim is held, of least precedence, and the lowest number of these
 pub victim-least : (x : State) → 1 ≤ used x → Least x (victim x)
 unfolding used victim
-victim-least x l = go (best-is (size x) (isHeld x) (rank x) (size x) (omega arith))
+victim-least x l = go (best-is (size x) (isHeld x) (precedence x) (size x) (omega arith))
   where
-    go : Best (size x) (size x) (isHeld x) (rank x) (victim x) → Least x (victim x)
+    go : Best (size x) (size x) (isHeld x) (precedence x) (victim x) → Least x (victim x)
     go (nobody e h) = absurd (let z : used x ≡ 0 = sum-zero (size x) _ (λ i b. rw (h i b)) in omega arith)
     go (somebody low here least first) = record { below = low; isHeld = here; least = least; first = first }
+
+-- an item that goes no later has no greater rank
+precedence-rank : (x : State) (v i : ℕ) → precedence x v ≤ precedence x i → rank x v ≤ rank x i
+unfolding precedence
+precedence-rank x v i le = le
+
+-- so the victim's rank is the least
+pub least-rank : {x : State} {v : ℕ} → Least x v → (i : ℕ) → i < size x → held (slotAt x i) ≡ true → rank x v ≤ rank x i
+least-rank {x = x} {v = v} low i l h = precedence-rank x v i (low .least i l h)
 
 -- ranks divide exactly: nothing is rounded
 pub rank-whole : (k : ℕ) (x : State) (i : ℕ) → Kept k x → i < size x → rank x i * blocksAt x i ≡ credits x i
@@ -143,7 +152,7 @@ evict-kept k split v x ok kept low =
     at i l (no e) =
         rw (other-slot split v x i l e)
         (lose-kept split ok (itemAt (x .catalog) i) (catalog-facts (x .catalog) (kept .catalog) .each i l .some) (blocksAt x i * rank x v) (slotAt x i)
-        (dvd-mul-right (blocksAt x i) (rank x v)) (kept .slot i l) (λ h. bears-rank k x v i kept l (low .least i l h)))
+        (dvd-mul-right (blocksAt x i) (rank x v)) (kept .slot i l) (λ h. bears-rank k x v i kept l (least-rank low i l h)))
 
 -- Making room, as the paper's loop: evictions of the victim while the free blocks are too few, then nothing more.
 pub data Evicting (split : Split) (k blocks : ℕ) : State → Moved → Type 0 where

@@ -9,7 +9,7 @@ use native.Mathlib.Omega.{arith}
 use lib.ListN.{getD}
 use Rattle.types.specs.declared.{Step.{Step, the-variants.Write}, Act.{Act, the-variants.{Evict, Fetch}}, Deduction.{Deduction, the-variants.{WriteFirst, LoadFirst}}}
 use Rattle.types.specs.Types.{numbersFrom, stepOf}
-use Rattle.landlord.specs.{Fold.{sumTo, tab, tabFrom, bestTo, fold}, Catalog.{Catalog, Item, listed, departed, allInRange, catalogInRange, noneLeft, unit}, Slot.{Slot, absent, clean, dirty, Split, writeFirst, splitOf}, Rule.{State, Event, hit, loaded, evicted, wroteBack, wrote, flushStep, arrived, retired, emptied, used, heldCount, victim, evictItem, evictFor, makeRoom, writeBacks, flush, dropItem, step}, Figures.{Totals, Use, Standing, start, totalsOf, useOf, tenthsOf, took, closes, season, totalCost, leftSide, rightSide}, Plan.{Plan, Priced, costs, fault, unknownItem, retiredItem, notHeld, alreadyHeld, requestNotHeld, overCapacity, planUsed, owed, planActs, allActs, planServes, priceFrom, price}, Claims.loadCredits, Calls.{Call, stepCall, close, Log, noLog, refusalAt, refusalIn, joins, logOf, ruleOver, Opening, opening, openingRefusal}}
+use Rattle.landlord.specs.{Fold.{sumTo, tab, tabFrom, bestTo, fold}, Catalog.{Catalog, Item, listed, departed, allInRange, catalogInRange, noneLeft, unit}, Slot.{Slot, absent, clean, dirty, Split, writeFirst, splitOf}, Rule.{State, Event, hit, loaded, evicted, wroteBack, wrote, flushStep, arrived, retired, emptied, used, heldCount, precedence, victim, evictItem, evictFor, makeRoom, writeBacks, flush, dropItem, step}, Figures.{Totals, Use, Standing, start, totalsOf, useOf, tenthsOf, took, closes, season, totalCost, leftSide, rightSide}, Plan.{Plan, Priced, costs, fault, unknownItem, retiredItem, notHeld, alreadyHeld, requestNotHeld, overCapacity, planUsed, owed, planActs, allActs, planServes, priceFrom, price}, Claims.loadCredits, Calls.{Call, stepCall, close, Log, noLog, refusalAt, refusalIn, joins, logOf, ruleOver, Opening, opening, openingRefusal}}
 
 -- a rival of a row: its blocks, and its acts before step 0, 1, 2 and on; no acts after the last list
 pub record RowRival : Type 0 where
@@ -305,7 +305,7 @@ benchRows =
 
 -- every row of the table is what the definitions give
 pub rows-right : map resultOf benchRows ≡ map (λ (r : BenchRow). r .expected) benchRows
-unfolding resultOf answers trace evictedItems sumTo tabFrom bestTo fold used heldCount victim evictItem evictFor makeRoom writeBacks flush dropItem step took closes stepOf refusalAt joins ruleOver planUsed owed planActs allActs planServes priceFrom
+unfolding resultOf answers trace evictedItems sumTo tabFrom bestTo fold used heldCount precedence victim evictItem evictFor makeRoom writeBacks flush dropItem step took closes stepOf refusalAt joins ruleOver planUsed owed planActs allActs planServes priceFrom
 rows-right = refl
 
 -- the tenths that are printed for a row's items
@@ -331,7 +331,7 @@ pub example-right :
     × (leftSide 3 2 (totalCost (exampleEnd .figures)) ≡ 56)
     × (rightSide 3 32 ≡ 96)
     × ((2 - 1) * loadCredits (exampleEnd .state) ≡ 7 * unit)
-unfolding sumTo tabFrom bestTo fold used heldCount victim evictItem evictFor makeRoom writeBacks flush dropItem step took closes stepOf refusalAt joins
+unfolding sumTo tabFrom bestTo fold used heldCount precedence victim evictItem evictFor makeRoom writeBacks flush dropItem step took closes stepOf refusalAt joins
 example-right = (refl, refl, refl, refl)
 
 -- The row '10 against 10': its season, and its rival as a plan.
@@ -349,7 +349,7 @@ pub stronger-false :
     ((k h : ℕ) (cat : Catalog) (steps : List Step) → 1 ≤ h → h ≤ k → (plan : Plan) (c : ℕ) → price cat h plan steps ≡ costs c →
     (k - h + 2) * totalCost (season (start writeFirst k cat) steps .figures) ≤ k * c) →
     ⊥
-unfolding sumTo tabFrom bestTo fold used heldCount victim evictItem evictFor makeRoom writeBacks flush dropItem step took closes planUsed owed planActs allActs planServes priceFrom
+unfolding sumTo tabFrom bestTo fold used heldCount precedence victim evictItem evictFor makeRoom writeBacks flush dropItem step took closes planUsed owed planActs allActs planServes priceFrom
 stronger-false claim =
     let l : 20 ≤ 10 = claim 1 1 oneItem oneWrite (omega arith) (omega arith) oneFetch 10 refl in
     omega arith

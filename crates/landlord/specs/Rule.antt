@@ -64,9 +64,13 @@ heldCount x = sumTo (size x) (λ i. cond (held (slotAt x i)) 1 0)
 abbrev pub rank : State → ℕ → ℕ
 rank x i = (loadCredit (slotAt x i) + writeCredit (slotAt x i)) / blocksAt x i
 
--- a held item goes before the best so far if its rank is less, or if there is none so far
+-- what decides which item goes: the least of these, and of equal ones the lowest number
+unfoldable pub precedence : State → ℕ → ℕ
+precedence x i = rank x i
+
+-- a held item goes before the best so far if its precedence is less, or if there is none so far
 abbrev pub goesBefore : State → ℕ → ℕ → Bool
-goesBefore x i best = cond (held (slotAt x i)) (cond (eqb best (size x)) true (ltb (rank x i) (rank x best))) false
+goesBefore x i best = cond (held (slotAt x i)) (cond (eqb best (size x)) true (ltb (precedence x i) (precedence x best))) false
 
 -- "the least value among held sails; equal values go to the lowest sail number"; the count of items if none is held
 unfoldable pub victim : State → ℕ
