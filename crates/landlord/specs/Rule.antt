@@ -162,16 +162,26 @@ dropItem i x =
 abbrev pub leave : ℕ → State → Moved
 leave i x = record { state = record { catalog = catalogNext (x .catalog) (Retire i); slots = x .slots }; events = retired i ∷ [] }
 
--- one step of the log: room is made, then the step is served; or the catalog changes
-unfoldable pub step : Split → ℕ → Step → State → Moved
-step split k (Read i) x =
-    let room = makeRoom split k i x in
-    joined room (serveRead i (room .state))
-step split k (Write i minutes) x =
-    let room = makeRoom split k i x in
-    joined room (serveWrite i minutes (room .state))
-step split k Flush x = joined (record { state = x; events = flushStep ∷ [] }) (flush x)
-step split k (Arrive i b l w) x = arrive (Arrive i b l w) i x
-step split k (Retire i) x =
+-- the first half of a step: a read or a write makes room for its item, and no other step does
+abbrev pub clearing : Split → ℕ → Step → State → Moved
+clearing split k (Read i) x = makeRoom split k i x
+clearing split k (Write i minutes) x = makeRoom split k i x
+clearing split k Flush x = stay x
+clearing split k (Arrive i b l w) x = stay x
+clearing split k (Retire i) x = stay x
+
+-- the second half: the step is served, or the catalog changes
+abbrev pub serving : Step → State → Moved
+serving (Read i) x = serveRead i x
+serving (Write i minutes) x = serveWrite i minutes x
+serving Flush x = joined (record { state = x; events = flushStep ∷ [] }) (flush x)
+serving (Arrive i b l w) x = arrive (Arrive i b l w) i x
+serving (Retire i) x =
     let dropped = dropItem i x in
     joined dropped (leave i (dropped .state))
+
+-- one step of the log: the two halves, one after the other
+unfoldable pub step : Split → ℕ → Step → State → Moved
+step split k s x =
+    let room = clearing split k s x in
+    joined room (serving s (room .state))
