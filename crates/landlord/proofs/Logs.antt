@@ -1,10 +1,11 @@
 -- Laws of logs: what the table lets through can be served; what a log's events add up to; where the rule stands after a log
 -- that the table lets through; and a list of calls against its log. Assumes nothing.
-use mathlib.Core.Path.{_≡_, refl, ap, _∙_}
+use mathlib.Core.Path.{_≡_, refl, sym, ap, _∙_}
 use mathlib.Core.Bool.{Bool, true, false, cond}
 use mathlib.Core.List.{List, [], _∷_, _++_}
 use Prim.Native.Nat.{ℕ, zero, suc, _+_, _≤_, _<_}
 use native.Mathlib.Omega.{arith}
+use native.Mathlib.Nat.{add-zero, zero-add, add-assoc}
 use lib.ListN.{length, getD, take}
 use lib.Dec.{leb, ltb, eqb}
 use borrow.Author.Tests.{ltb-true, leb-true, eqb-true}
@@ -15,9 +16,10 @@ use Rattle.landlord.specs.Fold.{fold, sumTo}
 use Rattle.landlord.specs.Catalog.{Catalog, CatalogOk, itemAt, listed, itemInRange, catalogNext, catalogAfter}
 use Rattle.landlord.specs.Slot.{Split, held, isDirty}
 use Rattle.landlord.specs.Rule.{State, Event, hit, loaded, evicted, wroteBack, wrote, retired, Moved, dropItem, evict, victim, makeRoom, found, slotAt, writeBacks, flush, step, size, blocksAt}
-use Rattle.landlord.specs.Figures.{Totals, Figures, Standing, Start, plusTotals, adds, tally, opened, took, closes, ran}
+use Rattle.landlord.specs.Figures.{Totals, Figures, Standing, Start, totalsOf, plusTotals, adds, tally, opened, took, closes, ran}
 use Rattle.landlord.specs.Calls.{callOf, inRange, refusalAt}
 use Rattle.landlord.specs.Claims.{SplitOk, Kept, AllowedLog}
+use Rattle.landlord.specs.Inner.{paid}
 use Rattle.landlord.proofs.Sums.{sum-zero}
 use Rattle.landlord.proofs.Ranges.{and-left, and-right}
 use Rattle.landlord.proofs.Keeps.{Evicting, enough, more, RoomMade, make-room, Served, next-ok, step-kept, step-catalog, flush-keeps, flush-catalog, empty-kept}
@@ -112,6 +114,28 @@ pub tally-part :
 unfolding fold eventSum
 tally-part p plus cat f [] = omega arith
 tally-part p plus cat f (e ∷ es) = omega (arith, tally-part p plus cat (tally cat f e) es, plus (f .totals) (adds cat e))
+
+-- totals added up: to nothing, and in any order of the sums
+plus-nothing : (a : Totals) → plusTotals a (totalsOf 0 0 0 0 0 0 0 0 0 0 0) ≡ a
+plus-nothing a = simp add-zero
+
+nothing-plus : (a : Totals) → plusTotals (totalsOf 0 0 0 0 0 0 0 0 0 0 0) a ≡ a
+nothing-plus a = simp zero-add
+
+plus-assoc : (a b c : Totals) → plusTotals (plusTotals a b) c ≡ plusTotals a (plusTotals b c)
+plus-assoc a b c = simp add-assoc
+
+-- The totals grow by what the events add up to.
+pub tally-paid : (cat : Catalog) (f : Figures) (es : List Event) → fold (tally cat) f es .totals ≡ plusTotals (f .totals) (paid cat es)
+unfolding fold paid
+tally-paid cat f [] = sym (plus-nothing (f .totals))
+tally-paid cat f (e ∷ es) = tally-paid cat (tally cat f e) es ∙ plus-assoc (f .totals) (adds cat e) (paid cat es)
+
+-- What two lists of events add up to is added up.
+pub paid-append : (cat : Catalog) (xs ys : List Event) → paid cat (xs ++ ys) ≡ plusTotals (paid cat xs) (paid cat ys)
+unfolding paid
+paid-append cat [] ys = sym (nothing-plus (paid cat ys))
+paid-append cat (x ∷ xs) ys = ap (plusTotals (adds cat x)) (paid-append cat xs ys) ∙ sym (plus-assoc (adds cat x) (paid cat xs) (paid cat ys))
 
 -- the writebacks of a flush, added up
 pub write-backs-sum :

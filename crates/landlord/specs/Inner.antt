@@ -1,10 +1,10 @@
 -- The ranges of specs/Catalog.antt read off as inequalities, and what an opening has that is not refused, for the proofs
--- (proofs/Ranges.antt). Assumes nothing.
-use mathlib.Core.{Path._≡_, Bool.true}
+-- (proofs/Ranges.antt); what events add up to (proofs/Logs.antt). Assumes nothing.
+use mathlib.Core.{Path._≡_, Bool.true, List.{List, [], _∷_}}
 use Prim.Native.Nat.{ℕ, _≤_, _<_}
 use lib.ListN.{length}
 use Rattle.types.specs.Types.{isDeduction}
-use Rattle.landlord.specs.{Catalog.{Item, Catalog, itemAt, CapacityOk, CatalogOk, noneLeft}, Calls.Opening}
+use Rattle.landlord.specs.{Catalog.{Item, Catalog, itemAt, CapacityOk, CatalogOk, noneLeft}, Rule.Event, Figures.{Totals, totalsOf, adds, plusTotals}, Calls.Opening}
 
 -- what an item in range has
 pub record ItemFacts (x : Item) : Type 0 where
@@ -33,3 +33,8 @@ pub record OpeningRanges (o : Opening Catalog) : Type 0 where
 pub record OpeningOk (o : Opening Catalog) : Type 0 where
   pub ranges : OpeningRanges o
   pub rule : isDeduction (o .rule) ≡ true
+
+-- what events add up to: the totals grow by it (proofs/Logs.antt, tally-paid)
+unfoldable pub paid : Catalog → List Event → Totals
+paid cat [] = totalsOf 0 0 0 0 0 0 0 0 0 0 0
+paid cat (e ∷ es) = plusTotals (adds cat e) (paid cat es)
