@@ -2,7 +2,7 @@
 use mathlib.Core.Path.{_≡_, refl, sym, ap, subst, _∙_}
 use mathlib.Core.Logic.{_≢_}
 use mathlib.Core.List.{List, [], _∷_, _++_, append-nil}
-use Prim.Native.Nat.{ℕ, suc, _+_, _*_, _/_, _≤_, _<_}
+use Prim.Native.Nat.{ℕ, suc, _+_, _≤_, _<_}
 use native.Mathlib.Omega.{arith}
 use native.Mathlib.Numerals.{add-one}
 use lib.ListN.{length, getD, drop, set, length-append, drop-of-length-le}
@@ -10,12 +10,12 @@ use lib.Seq.{sets, drop-cons, append-snoc}
 use borrow.Author.Tests.{eq-eqb, ne-eqb}
 use Rattle.types.specs.declared.Numbers.{Numbers}
 use Rattle.landlord.specs.Calls.{Opening, Call, stepCall, close}
-use Rattle.landlord.proofs.Folds.{tab-length, tab-at}
+use Rattle.landlord.specs.CallNumbers.{callFrom}
 use Rattle.cache_open.specs.Opening.{OpenedLent}
 use Rattle.cache.specs.Contract.{Kind, lent, Answers}
-use Rattle.cache_run.specs.Season.{Follows, none, then, callsOf, RanLent}
+use Rattle.cache_run.specs.Season.{Follows, none, then, RanLent}
 use Rattle.cache.proofs.Calls.{answers-called}
-use Rattle.cache_run.specs.Inner.{callAt, callFrom, RanCalls}
+use Rattle.cache_run.specs.Inner.{RanCalls}
 use Rattle.cache_run.proofs.Season.{season-lent}
 
 -- a call of numbers
@@ -24,15 +24,6 @@ call-takes b left which n step e h = rw (eq-eqb which 0 e) h
 
 pub call-closes : (b left : List ℕ) (which n : ℕ) (step : Numbers) → which ≢ 0 → Answers lent b close n left → Answers lent b (callFrom which step) n left
 call-closes b left which n step e h = rw (ne-eqb which 0 e) h
-
-pub count-is : (xs : List ℕ) → length (callsOf xs) ≡ length xs / 7
-unfolding callsOf
-count-is xs = tab-length (length xs / 7) (λ i. callAt xs (7 * i))
-
--- call i, where the code keeps seven times its number
-pub call-is : (xs : List ℕ) (i at : ℕ) → i < length xs / 7 → at ≡ 7 * i → getD (callsOf xs) i close ≡ callAt xs at
-unfolding callsOf
-call-is xs i at l e = tab-at (length xs / 7) (λ j. callAt xs (7 * j)) i close l ∙ ap (callAt xs) (sym e)
 
 -- storing a run of values and one more
 sets-more : (l vs : List ℕ) (at v : ℕ) → sets l at (vs ++ (v ∷ [])) ≡ set (sets l at vs) (at + length vs) v

@@ -1,19 +1,10 @@
 -- What is said of calls made one after another. Assumes nothing.
-use mathlib.Core.{Bool.cond, Path._≡_, List.List}
+use mathlib.Core.{Path._≡_, List.List}
 use Prim.Native.Nat.{ℕ}
-use lib.{Dec.eqb, Seq.sets, ListN.getD}
-use Rattle.types.specs.declared.Numbers.{Numbers}
-use Rattle.landlord.specs.{Catalog.Catalog, Inner.OpeningOk, Calls.{Opening, startsAt, Call, close, stepCall}}
+use lib.Seq.{sets}
+use Rattle.landlord.specs.{Catalog.Catalog, Inner.OpeningOk, Calls.{Opening, startsAt, Call}}
 use Rattle.cache.specs.Contract.{Kind}
-use Rattle.cache_run.specs.Season.{Follows, numbersBehind}
-
--- a call from a number, which tells a step or the closing, and a step's numbers
-abbrev pub callFrom : ℕ → Numbers → Call
-callFrom which n = cond (eqb which 0) (stepCall n) close
-
--- the call of the seven numbers from a place on
-abbrev pub callAt : List ℕ → ℕ → Call
-callAt xs at = callFrom (getD xs at 0) (numbersBehind xs at)
+use Rattle.cache_run.specs.Season.{Follows}
 
 -- the calls were made, each on the state that the last one left, and their answers noted as far as there was place
 pub record RanCalls {C : Type 0} (kind : Kind C) (c : C) (calls : List Call) (before after : List ℕ) (d : C) : Type 0 where

@@ -1,10 +1,8 @@
 -- The season as one list: the season theorem's hypothesis and its conclusions, and a list of calls run by one function. Assumes nothing.
-use mathlib.Core.{Path._≡_, Logic._≢_, Bool.cond, List.{List, [], _∷_}}
-use Prim.Native.Nat.{ℕ, _<_, _+_, _*_, _/_}
-use lib.{Dec.eqb, ListN.{length, getD, take, drop}, Seq.sets}
-use Rattle.types.specs.declared.Numbers.{Numbers}
-use Rattle.types.specs.Types.{numbersFrom}
-use Rattle.landlord.specs.{Figures.totalCost, Calls.{Opening, Call, close, logOf, refusal, ruleFrom, seasonFrom, stepCall}, Catalog.Catalog, Claims.WithinBound, Fold.tab}
+use mathlib.Core.{Path._≡_, Logic._≢_, List.{List, [], _∷_}}
+use Prim.Native.Nat.{ℕ, _<_, _+_}
+use lib.{ListN.{length, getD, take, drop}, Seq.sets}
+use Rattle.landlord.specs.{Figures.totalCost, Calls.{Opening, Call, close, logOf, refusal, ruleFrom, seasonFrom}, Catalog.Catalog, Claims.WithinBound}
 use Rattle.layout.specs.Layout.{numberAt}
 use Rattle.cache_open.specs.Opening.{openingIn, openingNumber, OpenedLent}
 use Rattle.cache.specs.Contract.{Kind, lent, Called}
@@ -66,17 +64,7 @@ pub record SeasonLent (o : Opening Catalog) (calls : List Call) (numbers d : Lis
   pub season : Season lent o calls numbers d
   pub cost : Closing calls numbers → Bounded o calls (numberAt d 40 8 + numberAt d 48 8)
 
--- ---- a list of calls as one slice of numbers, and what running it gives
-
--- a step's six numbers, behind a place of a list
-abbrev pub numbersBehind : List ℕ → ℕ → Numbers
-numbersBehind xs at =
-    numbersFrom (getD xs (at + 1) 0) (getD xs (at + 2) 0) (getD xs (at + 3) 0) (getD xs (at + 4) 0) (getD xs (at + 5) 0) (getD xs (at + 6) 0)
-
--- The calls that numbers stand for, seven to a call: 0 and then a step's kind, item, minutes, blocks, load cost and write cost; or
--- another number, and it is the closing. A remainder is no call.
-unfoldable pub callsOf : List ℕ → List Call
-callsOf xs = tab (length xs / 7) λ i. cond (eqb (getD xs (7 * i) 0) 0) (stepCall (numbersBehind xs (7 * i))) close
+-- ---- a list of calls as one slice of numbers (landlord's `callsOf`), and what running it gives
 
 -- The season theorem of the arguments alone: a refused opening leaves every byte and every answer as it was; else the three
 -- conclusions hold of the answers noted and of the bytes left.

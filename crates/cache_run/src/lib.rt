@@ -3,13 +3,14 @@ ghost use mathlib.Core.Path.{_≡_};
 ghost use Prim.Native.Nat.{_+_, _<_};
 ghost use lib.ListN.{length, set};
 ghost use Rattle.landlord.specs.Calls.{opening};
+ghost use Rattle.landlord.specs.CallNumbers.{callAt, callsOf};
 ghost use Rattle.layout.specs.Layout.{ValidBytes};
 ghost use Rattle.cache.specs.Contract.{lent, Answers};
-ghost use Rattle.cache_run.specs.Season.{callsOf, RanLent};
-ghost use Rattle.cache_run.specs.Inner.{callAt, RanCalls};
+ghost use Rattle.cache_run.specs.Season.{RanLent};
+ghost use Rattle.cache_run.specs.Inner.{RanCalls};
 use types::Numbers;
 
-// The call of the seven numbers from `at` on, on a valid state: 0 and then a step's numbers; or another number, and it is the closing.
+// The call of the seven numbers from `at` on, on a valid state: 0 and then a step's numbers; or 1 or any other number, and it is the closing.
 fn call(b: &mut [u8], calls: &[u32], at: usize) -> u32
     requires { ⌜ ValidBytes (now b) × (at + 6 < length (now calls)) ⌝ }
     ensures { λ r. ⌜ Answers lent (now (b .entry)) (callAt (now (calls .entry)) at) r (now (b .exit)) ⌝ }

@@ -15,7 +15,7 @@ use Rattle.layout.specs.Layout.{cacheOf, ValidBytes}
 use Rattle.layout.specs.Inner.{Stands}
 use Rattle.cache.specs.Contract.{lent, Called}
 use Rattle.cache.proofs.Calls.{invalid-called, refused-answers}
-use Rattle.cache_run.specs.Inner.{callFrom}
+use Rattle.landlord.specs.CallNumbers.{callFrom}
 use Rattle.cache_value.specs.declared.Cache.{Cache}
 use Rattle.cache_value.specs.Contract.{recordOf, byValue}
 

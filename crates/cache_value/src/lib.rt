@@ -6,8 +6,7 @@ ghost use Rattle.types.specs.Types.{telling};
 ghost use Rattle.landlord.specs.Calls.{opening, close, callOf};
 ghost use Rattle.cache_open.specs.Inner.{emptyWith};
 ghost use Rattle.cache.specs.Contract.{lent, Called};
-ghost use Rattle.cache_run.specs.Season.{callsOf};
-ghost use Rattle.cache_run.specs.Inner.{callFrom};
+ghost use Rattle.landlord.specs.CallNumbers.{callFrom, callsOf};
 ghost use Rattle.cache_value.specs.Contract.{recordOf, byValue, catalogFrom, answerTold, CalledBy, OpenedBy, Ran};
 ghost use Rattle.cache_value.specs.Inner.{nothingOpened, Opened};
 use types::Deduction;
@@ -161,7 +160,7 @@ fn opening(
 
 // ---- the calls
 
-// A call, in place on any bytes: 0 and then a step's numbers; or another number, and it is the closing.
+// A call, in place on any bytes: 0 and then a step's numbers; or 1 or any other number, and it is the closing.
 fn call_bytes(b: &mut [u8], which: u32, n: Numbers) -> u32
     ensures { λ r. ⌜ Called lent (now (b .entry)) (callFrom which n) r (now (b .exit)) ⌝ }
 {

@@ -11,6 +11,7 @@ pub mod Slots
 pub mod Keeps
 pub mod Logs
 pub mod Calls
+pub mod CallNumbers
 pub mod Competitive
 pub mod Counts
 pub mod Valid

@@ -5,6 +5,7 @@ pub mod Rule
 pub mod Figures
 pub mod Plan
 pub mod Calls
+pub mod CallNumbers
 pub mod Claims
 pub mod Valid
 pub mod Rows

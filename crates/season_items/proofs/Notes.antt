@@ -9,7 +9,8 @@ use lib.Seq.{sets, sets-eq, length-sets, length-take-le, take-at, drop-at, take-
 use Rattle.types.specs.declared.Step.{Step}
 use Rattle.types.specs.declared.Step.the-variants.{Flush}
 use Rattle.types.specs.Types.{numbersFrom, numbersOf}
-use Rattle.season_items.specs.Inner.{callNumbers, numbersAt, putAt}
+use Rattle.landlord.specs.CallNumbers.{callNumbers, numbersBehind}
+use Rattle.season_items.specs.Inner.{putAt}
 
 -- numbers stored one by one
 pub put-sets : (l : List ℕ) (i : ℕ) (xs : List ℕ) → i + length xs ≤ length l → sets l i xs ≡ putAt l i xs
@@ -93,7 +94,7 @@ calls-more [] s = refl
 calls-more (t ∷ steps) s = rw (calls-more steps s)
 
 -- step s is noted by its own numbers
-step-numbers : (steps : List Step) (s : ℕ) → s < length steps → numbersAt (callNumbers steps) (7 * s) ≡ numbersOf (getD steps s Flush)
+step-numbers : (steps : List Step) (s : ℕ) → s < length steps → numbersBehind (callNumbers steps) (7 * s) ≡ numbersOf (getD steps s Flush)
 unfolding callNumbers
 step-numbers [] s l = absurd (let z : s < 0 = l in omega arith)
 step-numbers (x ∷ steps) zero l = refl
@@ -110,7 +111,7 @@ pub noted-step :
     (calls : List ℕ) (steps : List Step) (s : ℕ) →
     take (7 * length steps) calls ≡ callNumbers steps →
     s < length steps →
-    numbersAt calls (7 * s) ≡ numbersOf (getD steps s Flush)
+    numbersBehind calls (7 * s) ≡ numbersOf (getD steps s Flush)
 noted-step calls steps s e l =
     (λ i. numbersFrom (front 1 (omega arith) i) (front 2 (omega arith) i) (front 3 (omega arith) i) (front 4 (omega arith) i) (front 5 (omega arith) i) (front 6 (omega arith) i))
     ∙ step-numbers steps s l

@@ -29,7 +29,8 @@ use Rattle.catalog_bytes.specs.Catalogs.{itemIn}
 use Rattle.catalog_bytes.specs.Inner.{itemBytes, catalogOfFirst}
 use Rattle.catalog_bytes.proofs.Laws.{first-length, first-at, one-more}
 use Rattle.season_items.specs.declared.Present.{Present}
-use Rattle.season_items.specs.Inner.{HasItems, Tells, nonePresent, Advances, Walks, CatchesUp, withArrival, numbersAt}
+use Rattle.landlord.specs.CallNumbers.{numbersBehind}
+use Rattle.season_items.specs.Inner.{HasItems, Tells, nonePresent, Advances, Walks, CatchesUp, withArrival}
 use Rattle.season_items.proofs.Notes.{put-sets, put-before, noted-past, noted-step}
 
 -- ## How many there are, and which have left
@@ -142,7 +143,7 @@ walk-ends p q calls from to s e c = subst (λ (z : ℕ). CatchesUp p calls from 
 pub walk-on :
     (p q r : Present) (calls : List ℕ) (from s : ℕ) (n : Numbers) →
     CatchesUp p calls from s q →
-    n ≡ numbersAt calls (7 * s) →
+    n ≡ numbersBehind calls (7 * s) →
     Advances q n r →
     CatchesUp p calls from (s + 1) r
 walk-on p q r calls from s n c e a cat steps w =

@@ -1,26 +1,13 @@
--- What is known of the items after some steps, the items as bytes, steps and acts as numbers, and what the functions of this crate ask
+-- What is known of the items after some steps, the items as bytes, acts as numbers, and what the functions of this crate ask
 -- and give. Assumes nothing.
 use mathlib.Core.{Path._≡_, List.{List, [], _∷_, _++_}}
 use Prim.Native.Nat.{ℕ, _+_, _*_, _≤_, _<_}
-use lib.{ListN.{length, take, drop, getD, replicate}, Seq.sets}
-use Rattle.types.specs.{declared.{Step.{Step, the-variants.{Read, Write, Flush, Arrive, Retire}}, Numbers.Numbers, Act.Act}, Types.{numbersFrom, numbersOf, stepOf, actKind, actItem}}
-use Rattle.landlord.specs.{Catalog.{Catalog, itemAt, listed, catalogNext, catalogAfter}, Calls.{ifKnown, itemRefusal}}
+use lib.{ListN.{length, take, drop, replicate}, Seq.sets}
+use Rattle.types.specs.{declared.{Step.{Step, the-variants.{Read, Write, Flush, Arrive, Retire}}, Numbers.Numbers, Act.Act}, Types.{stepOf, actKind, actItem}}
+use Rattle.landlord.specs.{Catalog.{Catalog, itemAt, listed, catalogNext, catalogAfter}, Calls.{ifKnown, itemRefusal}, CallNumbers.callNumbers}
 use Rattle.marks.specs.Marks.{marked}
 use Rattle.catalog_bytes.specs.{Catalogs.itemIn, Inner.itemBytes}
 use Rattle.season_items.specs.declared.Present.{Present}
-
--- the steps as calls, seven numbers each: 0, and then the step's own
-unfoldable pub callNumbers : List Step → List ℕ
-callNumbers [] = []
-callNumbers (s ∷ steps) =
-    let n = numbersOf s in
-    0 ∷ n .kind ∷ n .item ∷ n .minutes ∷ n .blocks ∷ n .load ∷ n .write ∷ callNumbers steps
-
--- the numbers of the step that is noted from place i on
-abbrev pub numbersAt : List ℕ → ℕ → Numbers
-numbersAt calls i =
-    numbersFrom (getD calls (i + 1) 0) (getD calls (i + 2) 0) (getD calls (i + 3) 0) (getD calls (i + 4) 0) (getD calls (i + 5) 0)
-    (getD calls (i + 6) 0)
 
 -- an act as it is noted: its place, kind and item
 abbrev pub actNoted : ℕ → Act → List ℕ

@@ -8,7 +8,8 @@ ghost use lib.ListN.{length};
 ghost use Rattle.types.specs.declared.Step.the-variants.{Read};
 ghost use Rattle.types.specs.Types.{stepOf};
 ghost use Rattle.landlord.specs.Calls.{inRange};
-ghost use Rattle.season_items.specs.Inner.{Lookable, Walkable, callNumbers, numbersAt, actNoted, putAt, nonePresent, TellsKnown, Advances, CatchesUp, TellsRefusal, withArrival};
+ghost use Rattle.landlord.specs.CallNumbers.{callNumbers, numbersBehind};
+ghost use Rattle.season_items.specs.Inner.{Lookable, Walkable, actNoted, putAt, nonePresent, TellsKnown, Advances, CatchesUp, TellsRefusal, withArrival};
 use types::Act;
 use types::Numbers;
 use types::Step;
@@ -97,7 +98,7 @@ pub fn advanced(p: Present, step: Numbers) -> Present
 // The numbers of a step, noted as a call from place `i` on.
 fn numbers_at(calls: &[u32], i: usize) -> Numbers
     requires { ⌜ (i + 7 ≤ length (now calls)) × (i ≤ 76454) ⌝ }
-    ensures { λ r. ⌜ r ≡ numbersAt (now (calls .entry)) i ⌝ }
+    ensures { λ r. ⌜ r ≡ numbersBehind (now (calls .entry)) i ⌝ }
 {
     Numbers {
         kind: calls[i + 1],

@@ -23,7 +23,8 @@ use Rattle.landlord.proofs.Logs.{allowed-served}
 use Rattle.season_lines.specs.Lines.{actOf}
 use Rattle.season_tables.specs.declared.Seen.{Seen}
 use Rattle.season_tables.specs.Tables.{Placed, Sofar}
-use Rattle.season_items.specs.Inner.{HasItems, callNumbers}
+use Rattle.landlord.specs.CallNumbers.{callNumbers}
+use Rattle.season_items.specs.Inner.{HasItems}
 use Rattle.season_items.proofs.Presence as kept
 use Rattle.season_items.proofs.Notes as notes
 use Rattle.season_tables.specs.Inner.{Holds, actNumbers}

@@ -39,7 +39,8 @@ use Rattle.season_tables.specs.declared.Verdict.the-variants.{Taken, Ref
 use Rattle.season_tables.specs.Tables.{Placed, Sofar, on, stop, atStart, nowNamed, namedBy, nextTable, takes, atEnd}
 use Rattle.season_tables.specs.Inner.{lastPlace, Holds, nothingRead, endVerdict, Leads, LeadsFrom, LeadsBy, NotesItem, NotesStep, NotesAct, KeepsPast, actNumbers, Takeable, StepTakeable, ActTakeable}
 use Rattle.season_tables.specs.InnerSound.{catalogBefore}
-use Rattle.season_items.specs.Inner.{Tells, HasItems, callNumbers, actNoted, putAt, withArrival, TellsKnown, TellsRefusal, Advances, Walks, CatchesUp, Lookable, Walkable}
+use Rattle.landlord.specs.CallNumbers.{callNumbers}
+use Rattle.season_items.specs.Inner.{Tells, HasItems, actNoted, putAt, withArrival, TellsKnown, TellsRefusal, Advances, Walks, CatchesUp, Lookable, Walkable}
 use Rattle.season_items.proofs.Notes.{noted-more, noted-past, calls-more}
 use Rattle.season_items.proofs.Presence.{tells-none, tells-more, before-follows, stored-items, stored-past, Stored, stored-by}
 use Rattle.season_tables.proofs.Told.{step-range, step-told, act-range, act-told}

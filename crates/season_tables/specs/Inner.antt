@@ -10,7 +10,8 @@ use Prim.Native.Nat.{ℕ, _*_, _≤_}
 use Rattle.catalog_bytes.specs.Inner.{catalogOfFirst}
 use Rattle.line_fields.specs.{declared.Field.Field, Fields.fieldsOf, Inner.heldField}
 use Rattle.season_lines.specs.{declared.Line.{Line, the-variants.{Sizes, Item as ItemLine, Step as StepLine, Act as ActLine, Refused as RefusedLine}}, Inner.Judgeable}
-use Rattle.season_items.specs.Inner.{callNumbers, HasItems, Tells, nonePresent}
+use Rattle.landlord.specs.CallNumbers.{callNumbers}
+use Rattle.season_items.specs.Inner.{HasItems, Tells, nonePresent}
 
 -- a blank line
 abbrev pub isBlank : List ℕ → Bool

@@ -1,7 +1,7 @@
 -- `cache_run::call` meets its contract: the closing, or a step by the six numbers behind the first. Assumes nothing.
 use native.Mathlib.Omega.{arith}
 use borrow.Author.Needs.{needs}
-use Rattle.cache_run.specs.Season.{numbersBehind}
+use Rattle.landlord.specs.CallNumbers.{numbersBehind}
 use Rattle.cache_run.proofs.Runs.{call-takes, call-closes}
 use Rattle.cache_run.proofs.call.Statement.{statement}
 use Rattle.cache_run.proofs.call.Tie as tie

@@ -1,7 +1,7 @@
 -- `cache_run::run` meets its contract: the season theorem of its arguments. Assumes nothing.
 use borrow.Author.Needs.{needs}
 use Rattle.landlord.specs.Calls.{opening}
-use Rattle.cache_run.specs.Season.{callsOf}
+use Rattle.landlord.specs.CallNumbers.{callsOf}
 use Rattle.cache_run.proofs.Runs.{run-refused, run-taken}
 use Rattle.cache_run.proofs.run.Statement.{statement}
 use Rattle.cache_run.proofs.run.Tie as tie

@@ -6,8 +6,9 @@ use lib.ListN.{length}
 use lib.Seq.{length-sets}
 use borrow.Author.Needs.{needs}
 use Rattle.cache.specs.Contract.{lent}
-use Rattle.cache_run.specs.Season.{callsOf}
-use Rattle.cache_run.proofs.Runs.{count-is, call-is, CallsGoing, going-starts, going-on, going-ends}
+use Rattle.landlord.specs.CallNumbers.{callsOf}
+use Rattle.landlord.proofs.CallNumbers.{count-is, call-is}
+use Rattle.cache_run.proofs.Runs.{CallsGoing, going-starts, going-on, going-ends}
 use Rattle.cache_run.proofs.run_calls.Statement.{statement}
 use Rattle.cache_run.proofs.run_calls.Tie as tie
 

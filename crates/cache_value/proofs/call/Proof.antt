@@ -2,7 +2,7 @@
 use native.Mathlib.Omega.{arith}
 use borrow.Author.Needs.{needs}
 use Rattle.layout.proofs.Places.{stands}
-use Rattle.cache_run.specs.Inner.{callFrom}
+use Rattle.landlord.specs.CallNumbers.{callFrom}
 use Rattle.cache_value.proofs.Calls.{many-called, refused-called, taken-called}
 use Rattle.cache_value.proofs.call.Statement.{statement}
 use Rattle.cache_value.proofs.call.Tie as tie

@@ -2,7 +2,7 @@
 use native.Mathlib.Omega.{arith}
 use borrow.Author.Needs.{needs}
 use Rattle.layout.proofs.Places.{stands}
-use Rattle.cache_run.specs.Season.{callsOf}
+use Rattle.landlord.specs.CallNumbers.{callsOf}
 use Rattle.cache_value.proofs.Answers.{opening-number}
 use Rattle.cache_value.proofs.Runs.{run-refused, run-taken}
 use Rattle.cache_value.proofs.Calls.{valid-there}

@@ -2,7 +2,7 @@
 use borrow.Author.Needs.{needs}
 use native.Mathlib.Omega.{arith}
 use lib.ListN.{length-set}
-use Rattle.season_items.specs.Inner.{callNumbers}
+use Rattle.landlord.specs.CallNumbers.{callNumbers}
 use Rattle.season_items.proofs.Notes.{put-seven}
 use Rattle.season_items.proofs.put_step.Statement.{statement}
 use Rattle.season_items.proofs.put_step.Tie as tie
