@@ -12,7 +12,7 @@ use lib.ListN.{take, drop, getD}
 use lib.Seq.{drop-drop, getD-drop}
 use borrow.Author.Tests.{eq-eqb, eqb-true, not-false}
 use Rattle.fields.specs.LittleEndian.{un, unrun}
-use Rattle.validity.specs.InnerDecided.{Decided}
+use Rattle.basis.specs.InnerDecided.{Decided}
 use Rattle.layout.proofs.Places.{unrun-at, flag-at}
 use Rattle.cache_check.specs.Inner.{Zeros, BlankRun, BlankFlags}
 

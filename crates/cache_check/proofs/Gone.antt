@@ -10,8 +10,8 @@ use Rattle.marks.specs.Inner.{marks, countSet, firstSet}
 use Rattle.marks.proofs.Laws.{NextMark, next-is, length-marks}
 use Rattle.cache_state.specs.Cache.{Cache, leftAt}
 use Rattle.cache_state.specs.InnerParts.{LeftOk}
-use Rattle.validity.specs.InnerDecided.{Decided}
-use Rattle.validity.proofs.Decides as decides
+use Rattle.basis.specs.InnerDecided.{Decided}
+use Rattle.basis.proofs.Decides as decides
 
 -- where the first mark lies past them all, none is set
 none-counted : (l : List Bool) → length l ≤ firstSet l → 0 ≡ countSet l

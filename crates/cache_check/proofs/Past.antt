@@ -13,8 +13,8 @@ use Rattle.marks.specs.Inner.{marks, firstSet}
 use Rattle.marks.proofs.Laws.{NextMark, next-is}
 use Rattle.cache_state.specs.Cache.{Blank}
 use Rattle.cache_state.specs.InnerParts.{PastOk}
-use Rattle.validity.specs.InnerDecided.{Decided}
-use Rattle.validity.proofs.Decides.{clash}
+use Rattle.basis.specs.InnerDecided.{Decided}
+use Rattle.basis.proofs.Decides.{clash}
 use Rattle.layout.specs.Layout.{cacheOf}
 use Rattle.layout.specs.InnerRows.{atLoadCredits, atWriteCredits, atMinutes, atItemLoads, atItemWritebacks, atItemLoadCosts, atItemWriteCosts, atBlocks, atHeld}
 use Rattle.cache_check.specs.Inner.{BlankRun, BlankFlags, BlankMarks}

@@ -8,7 +8,7 @@ ghost use lib.ListN.{length, getD};
 ghost use Rattle.landlord.specs.Fold.{sumTo};
 ghost use Rattle.landlord.specs.Rule.{used, heldCount};
 ghost use Rattle.marks.specs.Inner.{marks, countSet};
-ghost use Rattle.validity.specs.InnerDecided.{Decided};
+ghost use Rattle.basis.specs.InnerDecided.{Decided};
 ghost use Rattle.validity.specs.Inner.{CountsOk};
 ghost use Rattle.cache_state.specs.Cache.{Valid};
 ghost use Rattle.cache_state.specs.InnerView.{stateOf, countsOf};

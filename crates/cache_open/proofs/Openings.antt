@@ -27,8 +27,8 @@ use Rattle.cache_state.specs.InnerWith.{withCapacity, withCount, withRule, with
 use Rattle.layout.specs.Layout.{stateBytes, cacheOf}
 use Rattle.layout.specs.Inner.{Stands, cleared}
 use Rattle.layout.proofs.Places.{stands-as, stands-become, becomes-valid}
-use Rattle.cache_room.specs.InnerStores.{storeTo}
-use Rattle.cache_room.proofs.Laws.{store-more, store-past, store-at}
+use Rattle.basis.specs.InnerStores.{storeTo}
+use Rattle.basis.proofs.Stores.{store-more, store-past, store-at}
 use Rattle.cache_open.specs.Opening.{openingIn, openingNumber, OpenedLent}
 use Rattle.cache_open.specs.Inner.{BlocksOk, WholeCatalog, enteredOf, Column}
 use Rattle.cache_open.proofs.Blocks.{catalog-blocks, blocks-catalog}

@@ -6,7 +6,7 @@ use Rattle.types.specs.declared.Deduction.{Deduction}
 use Rattle.landlord.specs.Catalog.{blocksInRange}
 use Rattle.catalog_bytes.specs.Catalogs.{itemIn}
 use Rattle.cache_state.specs.{Cache.Cache, InnerWith.{withCatalog, withMode}}
-use Rattle.cache_room.specs.InnerStores.{storeTo}
+use Rattle.basis.specs.InnerStores.{storeTo}
 use Rattle.layout.specs.Inner.{Readable, cleared}
 
 -- the blocks of the first n items are in range; costs are by their width

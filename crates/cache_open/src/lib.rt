@@ -2,7 +2,7 @@
 // byte as it was.
 ghost use mathlib.Core.Path.{_≡_};
 ghost use Rattle.landlord.specs.Calls.{opening};
-ghost use Rattle.validity.specs.InnerDecided.{Decided};
+ghost use Rattle.basis.specs.InnerDecided.{Decided};
 ghost use Rattle.catalog_bytes.specs.Catalogs.{itemIn};
 ghost use Rattle.layout.specs.Layout.{cacheOf};
 ghost use Rattle.layout.specs.Inner.{Stands};

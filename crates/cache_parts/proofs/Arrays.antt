@@ -8,7 +8,7 @@ use lib.ListN.{length, getD, set, replicate, getD-replicate}
 use lib.Seq.{getD-set-same, getD-set-other}
 use borrow.Author.Count.{below-more}
 use Rattle.landlord.proofs.Ranges.{capacity-ok}
-use Rattle.validity.specs.InnerDecided.{Decided}
+use Rattle.basis.specs.InnerDecided.{Decided}
 use Rattle.cache_open.specs.Inner.{BlocksOk}
 use Rattle.cache_parts.specs.Inner.{FirstOf, Opens}
 

@@ -7,7 +7,7 @@ ghost use lib.ListN.{length, getD};
 ghost use Rattle.fields.specs.LittleEndian.{le};
 ghost use Rattle.fields.specs.Inner.{runOf, flags};
 ghost use Rattle.types.specs.Types.{deductionNumber};
-ghost use Rattle.validity.specs.InnerDecided.{Decided};
+ghost use Rattle.basis.specs.InnerDecided.{Decided};
 ghost use Rattle.layout.specs.Layout.{stateBytes, format};
 ghost use Rattle.layout.specs.InnerRows.{atFormat, atCapacity, atCount, atClosed, atSteps, atHits, atLoads, atEvictions, atDirtyEvictions, atWritebacks, atFlushes, atLoadCost, atWriteCost, atDirty, atLoadCredits, atWriteCredits, atMinutes, atItemLoads, atItemWritebacks, atItemLoadCosts, atItemWriteCosts, atBlocks, atHeld, atRule, atLeft, atArrivals, atRetirements, flag};
 ghost use Rattle.layout.proofs.Rows.{stored};

@@ -22,7 +22,7 @@ use Rattle.layout.specs.Inner.{Stands, Readable, ValidAt, BecomesAt}
 use Rattle.layout.proofs.Rounds.{whole}
 use Rattle.layout.proofs.Places.{readable, stands-as, valid-reads}
 use Rattle.cache_room.specs.Inner.{mostCredit, Ranked, withCounts, lossAt, borneAt, loadLeft, writeLeft, chargedOf, droppedOf, countedOf, ChargeableAt, DroppedAt, CountableAt, CrowdedAt}
-use Rattle.cache_room.proofs.Laws.{store-past}
+use Rattle.basis.proofs.Stores.{store-past}
 use Rattle.cache_room.proofs.Views.{rankOf, load-is, write-is, rank-is, ranked, rank-bound, Choosing, Turn}
 use Rattle.cache_room.proofs.Stores.{EvictionSizes, Borne, split-borne, charge-starts, charge-more, charge-skip}
 use Rattle.cache_room.proofs.Evicts.{Leaving, victim-known, countable, evict-becomes}

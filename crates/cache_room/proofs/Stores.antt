@@ -27,7 +27,7 @@ use Rattle.cache_state.specs.InnerView.{usageOf, slotFrom, stateOf, countsOf, f
 use Rattle.cache_state.proofs.Views.{size-is, item-is, use-is}
 use Rattle.cache_state.proofs.Normals.{figures-normal}
 use Rattle.cache_room.specs.Inner.{loadLeft, writeLeft, chargedOf, droppedOf, countedOf, mostCredit, withSlots}
-use Rattle.cache_room.proofs.Laws.{store-length, store-at, store-past, store-start, store-more, store-skip}
+use Rattle.basis.proofs.Stores.{store-length, store-at, store-past, store-start, store-more, store-skip}
 
 -- the arrays that an eviction changes have their 256 places
 pub record EvictionSizes (c : Cache) : Type 0 where

@@ -6,7 +6,7 @@ use Rattle.landlord.specs.{Catalog.full, Slot.splitOf, Rule.used, Figures.total
 use Rattle.marks.specs.Inner.{marks}
 use Rattle.cache_state.specs.{Cache.{Cache, Normal}, InnerView.stateOf}
 use Rattle.layout.specs.{Layout.{cacheOf, ValidBytes}, Inner.{Readable, ValidAt}}
-use Rattle.cache_room.specs.InnerStores.{storeTo}
+use Rattle.basis.specs.InnerStores.{storeTo}
 pub use Rattle.cache_state.specs.InnerWith.{withSlots, withFigures}
 
 -- no credit is greater than this

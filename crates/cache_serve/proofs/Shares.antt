@@ -7,7 +7,7 @@ use native.Mathlib.Nat.{mul-le-mul, div-le-self}
 use native.Mathlib.Omega.{arith}
 use lib.ListN.{getD}
 use Rattle.landlord.specs.Catalog.{full, unit, sharesPerBlock}
-use Rattle.landlord.proofs.Tables.{tabulates, entry-is}
+use Rattle.basis.proofs.Tables.{tabulates, entry-is}
 use Rattle.landlord.proofs.Slots.{share-fact, sixteen-divide}
 use Rattle.cache_state.specs.Cache.{Cache}
 use Rattle.cache_serve.specs.InnerReady.{Refillable}

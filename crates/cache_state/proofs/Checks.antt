@@ -23,8 +23,8 @@ use Rattle.cache_state.specs.Cache.{Cache, dirtyAt, leftAt, catalogOf, v
 use Rattle.cache_state.specs.InnerView.{itemOf, stateOf, countsOf, figuresOf}
 use Rattle.validity.specs.Inner.{CountsOk}
 use Rattle.cache_state.specs.InnerParts.{PastOk, EntryAt, EntriesOk, LeftOk, SumsOf}
-use Rattle.validity.specs.InnerDecided.{Decided}
-use Rattle.validity.proofs.Decides.{no, sure, denied}
+use Rattle.basis.specs.InnerDecided.{Decided}
+use Rattle.basis.proofs.Decides.{no, sure, denied}
 use Rattle.cache_state.proofs.Views.{size-is, slots-length, uses-length, item-is, slot-is, use-is, left-is, held-is, from-dirty, from-load, from-write}
 
 -- ---- sums, as the loops make them

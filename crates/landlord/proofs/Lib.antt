@@ -1,6 +1,5 @@
 pub mod Bench
 pub mod Sums
-pub mod Tables
 pub mod Potential
 pub mod Moves
 pub mod Folds

@@ -12,7 +12,7 @@ use Rattle.types.specs.declared.Deduction.the-variants.{WriteFirst, LoadFirst}
 use Rattle.landlord.specs.Catalog.{Item, full, unit, sharesPerBlock}
 use Rattle.landlord.specs.Inner.{ItemFacts}
 use Rattle.landlord.specs.Slot.{Slot, absent, clean, dirty, held, isDirty, loadCredit, writeCredit, Split, writeFirst, loadFirst, splitOf, lose, brought, refilled, written, flushed}
-use Rattle.landlord.proofs.Tables.{every, every-at}
+use Rattle.basis.proofs.Tables.{every, every-at}
 use Rattle.landlord.specs.Claims.{Bears, SplitOk, SlotKept}
 
 -- The share fact, for a general s: where s divides the unit, a cost spread over s blocks loses nothing.

@@ -19,7 +19,7 @@ use Rattle.decimal.proofs.Laws.{less-or-not, digits-all, digits-length, wrote-a
 use Rattle.decimal.proofs.Texts.{same-true}
 use Rattle.decimal.proofs.Pages.{TextGoing, go-first, go-as, go-room, go-next, go-end}
 use Rattle.types.specs.Types.{namesItem}
-use Rattle.landlord.proofs.Tables.{every, every-at}
+use Rattle.basis.proofs.Tables.{every, every-at}
 use Rattle.sentence.specs.Sentences.{words, wordOf, inTable, linePart, itemPart, sentenceOf, longestSentence}
 use Rattle.sentence.specs.InnerSentences.{inOneText, startOf, WordAt, OnPage, toldOf, isStop, pieceOf, placeOf}
 

@@ -3,7 +3,7 @@
 // product of counts is made in 64 bits, where it cannot wrap.
 ghost use Prim.Native.Nat.{_≤_};
 ghost use Rattle.landlord.specs.Figures.{totalsOf};
-ghost use Rattle.validity.specs.InnerDecided.{Decided};
+ghost use Rattle.basis.specs.InnerDecided.{Decided};
 ghost use Rattle.validity.specs.Inner.{CreditOk, MarksOk, EntryOk, CountsOk, SumsOk};
 
 // Whether a credit is a multiple of the item's blocks, and no more than the cost in shares.

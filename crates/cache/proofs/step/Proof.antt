@@ -1,7 +1,7 @@
 -- `cache::step` meets its contract: bytes that are not valid stay; else as on valid ones. Assumes nothing.
 use borrow.Author.Needs.{needs}
 use Rattle.landlord.specs.Calls.{stepCall}
-use Rattle.validity.proofs.Decides.{denied, granted}
+use Rattle.basis.proofs.Decides.{denied, granted}
 use Rattle.cache.specs.Contract.{lent}
 use Rattle.cache.proofs.Calls.{invalid-called, answers-called}
 use Rattle.cache.proofs.step.Statement.{statement}

@@ -6,7 +6,7 @@ use borrow.Author.Needs.{needs}
 use lib.ListN.{drop}
 use Rattle.fields.specs.Inner.{Below}
 use Rattle.fields.proofs.Laws.{unrun-lt, below-drop}
-use Rattle.validity.proofs.Decides.{no, denied, granted}
+use Rattle.basis.proofs.Decides.{no, denied, granted}
 use Rattle.cache_state.proofs.Checks.{Costs, parts-of, valid-of}
 use Rattle.layout.specs.Layout.{cacheOf}
 use Rattle.layout.specs.InnerRows.{atItemLoadCosts, atItemWriteCosts}

@@ -7,8 +7,8 @@ use borrow.Author.Count.{below-none, below-more}
 use lib.ListN.{length}
 use Rattle.cache_state.specs.InnerParts.{EntryAt}
 use Rattle.cache_state.proofs.Checks.{entries-fail, entries-end}
-use Rattle.validity.specs.InnerDecided.{Decided}
-use Rattle.validity.proofs.Decides.{granted}
+use Rattle.basis.specs.InnerDecided.{Decided}
+use Rattle.basis.proofs.Decides.{granted}
 use Rattle.layout.specs.Layout.{stateBytes, cacheOf}
 use Rattle.cache_check.proofs.entries_ok.Statement.{statement}
 use Rattle.cache_check.proofs.entries_ok.Tie as tie

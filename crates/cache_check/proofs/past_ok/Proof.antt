@@ -1,7 +1,7 @@
 -- `cache_check::past_ok` meets its contract: the tests of runs and of marks find that every place is blank. Assumes nothing.
 use borrow.Author.Needs.{needs}
 use Rattle.cache_state.specs.InnerParts.{PastOk}
-use Rattle.validity.proofs.Decides.{no, denied, granted}
+use Rattle.basis.proofs.Decides.{no, denied, granted}
 use Rattle.layout.specs.Layout.{cacheOf}
 use Rattle.layout.specs.InnerRows.{atLoadCredits}
 use Rattle.cache_check.specs.Inner.{BlankRun}

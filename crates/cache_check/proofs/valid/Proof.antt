@@ -3,7 +3,7 @@ use mathlib.Core.Path.{_≡_}
 use native.Mathlib.Omega.{arith}
 use lib.ListN.{length}
 use borrow.Author.Needs.{needs}
-use Rattle.validity.proofs.Decides.{no, denied, granted}
+use Rattle.basis.proofs.Decides.{no, denied, granted}
 use Rattle.layout.specs.Layout.{stateBytes}
 use Rattle.cache_check.proofs.valid.Statement.{statement}
 use Rattle.cache_check.proofs.valid.Tie as tie

@@ -1,7 +1,7 @@
 -- `cache_open::opening_refused` meets its contract: each answer is a law of proofs/Openings.antt. Assumes nothing.
 use mathlib.Core.Path.{refl}
 use native.Mathlib.Omega.{arith}
-use Rattle.validity.proofs.Decides.{denied, granted}
+use Rattle.basis.proofs.Decides.{denied, granted}
 use Rattle.landlord.specs.Calls.{opening}
 use Rattle.cache_open.proofs.Openings.{wrong-size, ragged, too-long, no-capacity, blocks-refused, rule-odd, all-taken}
 use Rattle.cache_open.proofs.opening_refused.Statement.{statement}

@@ -3,7 +3,7 @@ use mathlib.Core.Path.{_≡_}
 use Prim.Native.Nat.{_≤_, _-_}
 use native.Mathlib.Omega.{arith}
 use lib.ListN.{getD}
-use Rattle.validity.proofs.Decides.{no, sure}
+use Rattle.basis.proofs.Decides.{no, sure}
 use Rattle.cache_open.specs.Inner.{BlocksOk}
 use Rattle.cache_open.proofs.Blocks.{no-blocks, more-blocks, blocks-low, blocks-high}
 use Rattle.cache_parts.proofs.blocks_ok.Statement.{statement}

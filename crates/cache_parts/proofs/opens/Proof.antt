@@ -1,7 +1,7 @@
 -- `cache_parts::opens` meets its contract. Assumes nothing.
 use native.Mathlib.Omega.{arith}
 use borrow.Author.Needs.{needs}
-use Rattle.validity.proofs.Decides.{no}
+use Rattle.basis.proofs.Decides.{no}
 use Rattle.cache_parts.proofs.Arrays.{opens-so}
 use Rattle.cache_parts.proofs.opens.Statement.{statement}
 use Rattle.cache_parts.proofs.opens.Tie as tie

@@ -5,7 +5,7 @@ use mir.Syntax.{w16}
 use mir.Val.{Fits}
 use lib.ListN.{getD}
 use borrow.Author.Needs.{needs}
-use Rattle.validity.proofs.Decides.{denied, granted}
+use Rattle.basis.proofs.Decides.{denied, granted}
 use Rattle.cache_value.proofs.Openings.{open-refused, open-odd, open-taken}
 use Rattle.cache_value.proofs.opening.Statement.{statement}
 use Rattle.cache_value.proofs.opening.Tie as tie

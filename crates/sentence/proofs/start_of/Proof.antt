@@ -4,7 +4,7 @@ use mathlib.Core.List.{List, [], _∷_}
 use Prim.Native.Nat.{ℕ}
 use borrow.Author.Needs.{needs}
 use Rattle.sentence.specs.InnerSentences.{inOneText, startOf}
-use Rattle.landlord.proofs.Tables.{entry-is}
+use Rattle.basis.proofs.Tables.{entry-is}
 use Rattle.sentence.proofs.Laws.{start-past}
 use Rattle.sentence.proofs.start_of.Statement.{statement}
 use Rattle.sentence.proofs.start_of.Tie as tie

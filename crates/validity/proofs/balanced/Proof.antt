@@ -2,7 +2,7 @@
 use native.Mathlib.Omega.{arith}
 use borrow.Author.Needs.{needs}
 use borrow.Author.Tests.{eqb-true, eqb-false}
-use Rattle.validity.proofs.Decides.{forced, no}
+use Rattle.basis.proofs.Decides.{forced, no}
 use Rattle.validity.proofs.balanced.Statement.{statement}
 use Rattle.validity.proofs.balanced.Tie as tie
 

@@ -2,7 +2,7 @@
 use native.Mathlib.Omega.{arith}
 use borrow.Author.Needs.{needs}
 use borrow.Author.Tests.{leb-true, leb-false}
-use Rattle.validity.proofs.Decides.{forced, no}
+use Rattle.basis.proofs.Decides.{forced, no}
 use Rattle.validity.proofs.counts_ok.Statement.{statement}
 use Rattle.validity.proofs.counts_ok.Tie as tie
 

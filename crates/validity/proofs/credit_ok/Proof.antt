@@ -5,7 +5,7 @@ use native.Mathlib.Nat.{dvd-of-mod-eq-zero, mod-eq-zero-of-dvd}
 use native.Mathlib.Omega.{arith}
 use borrow.Author.Needs.{needs}
 use borrow.Author.Tests.{leb-true, leb-false}
-use Rattle.validity.proofs.Decides.{forced, no}
+use Rattle.basis.proofs.Decides.{forced, no}
 use Rattle.validity.proofs.credit_ok.Statement.{statement}
 use Rattle.validity.proofs.credit_ok.Tie as tie
 

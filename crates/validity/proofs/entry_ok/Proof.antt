@@ -2,7 +2,7 @@
 use native.Mathlib.Omega.{arith}
 use borrow.Author.Needs.{needs}
 use borrow.Author.Tests.{leb-true, leb-false}
-use Rattle.validity.proofs.Decides.{forced, no, denied, granted}
+use Rattle.basis.proofs.Decides.{forced, no, denied, granted}
 use Rattle.validity.proofs.entry_ok.Statement.{statement}
 use Rattle.validity.proofs.entry_ok.Tie as tie
 

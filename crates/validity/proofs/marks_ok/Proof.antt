@@ -3,7 +3,7 @@
 use native.Mathlib.Omega.{arith}
 use borrow.Author.Needs.{needs}
 use borrow.Author.Tests.{not-true, not-false, eqb-true, eqb-false}
-use Rattle.validity.proofs.Decides.{clash, forced, no, sure}
+use Rattle.basis.proofs.Decides.{clash, forced, no, sure}
 use Rattle.validity.proofs.marks_ok.Statement.{statement}
 use Rattle.validity.proofs.marks_ok.Tie as tie
 

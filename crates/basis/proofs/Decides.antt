@@ -2,7 +2,7 @@
 use mathlib.Core.Path.{_≡_, refl, sym, _∙_}
 use mathlib.Core.Bool.{Bool, true, false, not, false≢true}
 use borrow.Author.Tests.{not-true, not-false}
-use Rattle.validity.specs.InnerDecided.{Decided}
+use Rattle.basis.specs.InnerDecided.{Decided}
 
 -- no Bool is both
 pub clash : {A : Type 0} (t : Bool) → t ≡ true → t ≡ false → A

@@ -1,0 +1,2 @@
+pub mod InnerDecided
+pub mod InnerStores
