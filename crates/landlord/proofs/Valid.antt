@@ -369,8 +369,7 @@ pub ok-closes : (v : Standing) → StandingOk v → StandingOk (closes v)
 unfolding closes
 ok-closes v o = ok-flush v true o
 
-pub ok-flush-step : (v : Standing) → Taking v → StandingOk (took v Flush)
-unfolding took step
+ok-flush-step : (v : Standing) → Taking v → StandingOk (moved v (joined (flushCounts (v .state)) (flush (v .state))) (v .closed))
 ok-flush-step v r =
     rw (moved-joined v (flushCounts (v .state)) (flush (v .state)) (v .closed) refl)
     (ok-flush (moved v (flushCounts (v .state)) (v .closed)) (v .closed) (ok-flushCounts v r))
@@ -494,7 +493,28 @@ ok-retires v i r l present =
     (record { standing = ok-drop v i (r .standing) l; few = omega (arith, none, r .few); isOpen = r .isOpen })
     (rw same l) (rw same present) (ap held (drop-slot (v .state) i (omega (arith, r .standing .kept .slots)))))
 
--- every step that the table lets through
+-- every step that the table lets through: what it moves
+ok-step :
+    (v : Standing) (s : Step) →
+    SplitOk (v .split) →
+    Taking v →
+    Served (v .k) (v .state .catalog) s →
+    numbersOf s .minutes ≤ 1440 →
+    StandingOk (moved v (step (v .split) (v .k) s (v .state)) (v .closed))
+unfolding step
+ok-step v (Read i) ok r served few =
+    let m : Moved = makeRoom (v .split) (v .k) i (v .state) in
+    rw (moved-joined v m (serveRead i (m .state)) (v .closed) (make-room (v .split) (v .k) i (v .state) ok (served .0) (served .1) .catalog))
+    (ok-serve-read (moved v m (v .closed)) i (room-ready (v .split) v i ok r (served .0) (served .1) (served .2)))
+ok-step v (Write i minutes) ok r served few =
+    let m : Moved = makeRoom (v .split) (v .k) i (v .state) in
+    rw (moved-joined v m (serveWrite i minutes (m .state)) (v .closed) (make-room (v .split) (v .k) i (v .state) ok (served .0) (served .1) .catalog))
+    (ok-serve-write (moved v m (v .closed)) i minutes (room-ready (v .split) v i ok r (served .0) (served .1) (served .2)) few)
+ok-step v Flush ok r served few = ok-flush-step v r
+ok-step v (Arrive i b l w) ok r served few = ok-arrives v i b l w r (served .2) (served .1)
+ok-step v (Retire i) ok r served few = ok-retires v i r (served .0) (served .1)
+
+-- so each step that is taken
 pub ok-took :
     (v : Standing) (s : Step) →
     SplitOk (v .split) →
@@ -502,18 +522,8 @@ pub ok-took :
     Served (v .k) (v .state .catalog) s →
     numbersOf s .minutes ≤ 1440 →
     StandingOk (took v s)
-unfolding took step
-ok-took v (Read i) ok r served few =
-    let m : Moved = makeRoom (v .split) (v .k) i (v .state) in
-    rw (moved-joined v m (serveRead i (m .state)) (v .closed) (make-room (v .split) (v .k) i (v .state) ok (served .0) (served .1) .catalog))
-    (ok-serve-read (moved v m (v .closed)) i (room-ready (v .split) v i ok r (served .0) (served .1) (served .2)))
-ok-took v (Write i minutes) ok r served few =
-    let m : Moved = makeRoom (v .split) (v .k) i (v .state) in
-    rw (moved-joined v m (serveWrite i minutes (m .state)) (v .closed) (make-room (v .split) (v .k) i (v .state) ok (served .0) (served .1) .catalog))
-    (ok-serve-write (moved v m (v .closed)) i minutes (room-ready (v .split) v i ok r (served .0) (served .1) (served .2)) few)
-ok-took v Flush ok r served few = ok-flush-step v r
-ok-took v (Arrive i b l w) ok r served few = ok-arrives v i b l w r (served .2) (served .1)
-ok-took v (Retire i) ok r served few = ok-retires v i r (served .0) (served .1)
+unfolding took
+ok-took v s ok r served few = ok-step v s ok r served few
 
 -- the two first tests of the table that an answer of 0 has passed: the log is not full, and the numbers are in range
 passed : (a b : Bool) (z : ℕ) → cond a 8 (cond b z 3) ≡ 0 → (a ≡ false) × (b ≡ true)
