@@ -97,7 +97,7 @@ end-some form = go (eqb form 1)
     go true = omega arith
     go false = omega arith
 
-step-long : (form : ℕ) (s : Step) → 6 ≤ length (stepText form s)
+pub step-long : (form : ℕ) (s : Step) → 6 ≤ length (stepText form s)
 unfolding stepText
 step-long form (Read i) = omega (arith, end-some form, length-append (digitsOf i) (textOf " -" ++ noValues form), digits-some i)
 step-long form (Write i m) =

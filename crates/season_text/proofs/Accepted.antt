@@ -12,33 +12,34 @@ use Rattle.landlord.specs.Plan.{Priced, costs, fault}
 use Rattle.season_tables.specs.Tables.{Sofar, Led, on, stop, readingOf}
 use Rattle.season_tables.proofs.Sound.{accepted-sound}
 use Rattle.season_plan.specs.Plans.{priceOf}
-use Rattle.season_text.specs.Answer.{Outcome, refused, reported, priced, readingOutcome, outcomeOf, Accepted}
+use Rattle.printed.specs.Printed.{Outcome, refused, prints}
+use Rattle.season_text.specs.Answer.{priced, readingOutcome, outcomeOf, Accepted}
 use Rattle.season_text.proofs.Season.{calls-accepted, text-compared}
 
 -- what an outcome holds, told apart by its case
 abbrev textOf : Outcome → List ℕ
 textOf (refused r) = []
-textOf (reported t) = t
+textOf (prints t) = t
 
 abbrev isReported : Outcome → Type 0
 isReported (refused r) = ⊥
-isReported (reported t) = Unit {0}
+isReported (prints t) = Unit {0}
 
-not-refused : (r : Refusal) (t : List ℕ) → refused r ≡ reported t → ⊥
+not-refused : (r : Refusal) (t : List ℕ) → refused r ≡ prints t → ⊥
 not-refused r t e = subst isReported (sym e) tt
 
 -- a report is only of a text that is short enough
-short : (b : Bool) (o : Outcome) (t : List ℕ) → cond b o (refused (InputTooLong 0)) ≡ reported t → (b ≡ true) × (o ≡ reported t)
+short : (b : Bool) (o : Outcome) (t : List ℕ) → cond b o (refused (InputTooLong 0)) ≡ prints t → (b ≡ true) × (o ≡ prints t)
 short true o t e = (refl, e)
 short false o t e = absurd (not-refused (InputTooLong 0) t e)
 
-pub report-accepted : (s t : List ℕ) → outcomeOf s ≡ reported t → Accepted s t
+pub report-accepted : (s t : List ℕ) → outcomeOf s ≡ prints t → Accepted s t
 unfolding outcomeOf
 report-accepted s t e =
     let fits = short (leb (length s) 65536) (readingOutcome (readingOf s)) t e in
     read (readingOf s) refl (leb-true (length s) 65536 (fits .0)) (fits .1)
   where
-    price : (v : Sofar) → readingOf s ≡ on v → length s ≤ 65536 → (p : Priced) → priceOf v ≡ p → priced v p ≡ reported t → Accepted s t
+    price : (v : Sofar) → readingOf s ≡ on v → length s ≤ 65536 → (p : Priced) → priceOf v ≡ p → priced v p ≡ prints t → Accepted s t
     price v is few (costs c) at h =
         let ok = accepted-sound s v few is in
         record {
@@ -52,6 +53,6 @@ report-accepted s t e =
         }
     price v is few (fault f) at h = absurd (not-refused _ t h)
 
-    read : (led : Led) → readingOf s ≡ led → length s ≤ 65536 → readingOutcome led ≡ reported t → Accepted s t
+    read : (led : Led) → readingOf s ≡ led → length s ≤ 65536 → readingOutcome led ≡ prints t → Accepted s t
     read (on v) is few h = price v is few (priceOf v) refl h
     read (stop r) is few h = absurd (not-refused r t h)

@@ -1,4 +1,4 @@
--- Laws of `answer` and `output`: what each way through them says of the text. Assumes nothing.
+-- Laws of `answer`: what each way through it says of the text. Assumes nothing.
 use mathlib.Core.Path.{_≡_, refl, sym, ap, subst, _∙_}
 use mathlib.Core.List.{List}
 use Prim.Native.Nat.{ℕ, _≤_, _<_}
@@ -31,8 +31,10 @@ use Rattle.season_plan.specs.declared.Price.{Price}
 use Rattle.season_plan.specs.declared.Price.the-variants.{Cost, Refused as Faulty}
 use Rattle.season_plan.specs.Plans.{faultLine, priceOf, PricedBy}
 use Rattle.season_plan.specs.Inner.{Priceable, PricedAs}
-use Rattle.season_text.specs.Answer.{Outcome, refused, reported, closedSeason, reportAgainst, priced, readingOutcome, outcomeOf, TextAnswered}
-use Rattle.season_text.specs.Inner.{ClosedAt, Closes, Reportable, Reports, ReportFits}
+use Rattle.printed.specs.Printed.{Outcome, refused, prints, Answered}
+use Rattle.printed.specs.Inner.{OutcomeFits}
+use Rattle.season_text.specs.Answer.{closedSeason, reportAgainst, priced, readingOutcome, outcomeOf}
+use Rattle.season_text.specs.Inner.{ClosedAt, Closes, Reportable, Reports}
 use Rattle.season_tables.proofs.Sound.{accepted-sound}
 use Rattle.report.proofs.Longest.{no-longer}
 use Rattle.season_text.proofs.Season.{season-capacity}
@@ -121,17 +123,17 @@ reportable {acts = acts} r small =
 
 -- what `answer` ensures
 abbrev Tells : List ℕ → List ℕ → Written → List ℕ → Type 0
-Tells s page r after = TextAnswered (outcomeOf s) page r after × ReportFits (outcomeOf s)
+Tells s page r after = Answered (outcomeOf s) page r after × OutcomeFits longest (outcomeOf s)
 
 -- it follows from the outcome: a refusal that leaves the page as it was, or a report put on it
-tells-as : (s before after : List ℕ) (w : Written) {o : Outcome} → outcomeOf s ≡ o → TextAnswered o before w after × ReportFits o → Tells s before w after
-tells-as s before after w is h = subst (λ (o : Outcome). TextAnswered o before w after × ReportFits o) (sym is) h
+tells-as : (s before after : List ℕ) (w : Written) {o : Outcome} → outcomeOf s ≡ o → Answered o before w after × OutcomeFits longest o → Tells s before w after
+tells-as s before after w is h = subst (λ (o : Outcome). Answered o before w after × OutcomeFits longest o) (sym is) h
 
 tells-refusal : (s page : List ℕ) (x y : Refusal) → outcomeOf s ≡ refused y → told x ≡ told y → Tells s page (Refused x) page
 tells-refusal s page x y is e = tells-as s page page (Refused x) is ((e, refl), tt)
 
 tells-report :
-    (s before after : List ℕ) (w : Written) (t : List ℕ) → outcomeOf s ≡ reported t → Put t before w after → length t ≤ longest → Tells s before w after
+    (s before after : List ℕ) (w : Written) (t : List ℕ) → outcomeOf s ≡ prints t → Put t before w after → length t ≤ longest → Tells s before w after
 tells-report s before after w t is put few = tells-as s before after w is (put, few)
 
 long-outcome : (s : List ℕ) → 65536 < length s → outcomeOf s ≡ refused (InputTooLong 0)

@@ -3,6 +3,5 @@ pub mod Season
 pub mod Closing
 pub mod Answers
 pub mod LineNumbers
-pub mod Prints
 pub mod Accepted
 pub mod ThirdTable

@@ -15,7 +15,8 @@ use Rattle.season_tables.specs.Tables.{Sofar, Led, on, stop, readingOf}
 use Rattle.season_tables.proofs.LineNumbers.{stop-line}
 use Rattle.season_plan.specs.Plans.{faultLine, priceOf}
 use Rattle.season_plan.proofs.FaultLines.{fault-line}
-use Rattle.season_text.specs.Answer.{Outcome, refused, priced, readingOutcome, outcomeOf}
+use Rattle.printed.specs.Printed.{Outcome, refused}
+use Rattle.season_text.specs.Answer.{priced, readingOutcome, outcomeOf}
 use Rattle.season_text.specs.Inner.{outcomeLine}
 
 -- there are no more line feeds than bytes, and a text that is too long names no line

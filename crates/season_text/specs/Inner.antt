@@ -8,17 +8,13 @@ use Rattle.landlord.specs.Figures.{Standing}
 use Rattle.layout.specs.Layout.{stateBytes, cacheOf, ValidBytes}
 use Rattle.report.specs.{declared.Written.Written, Report.{Put, longest}}
 use Rattle.season_tables.specs.{declared.Seen.Seen, Tables.Sofar, Inner.Holds, InnerSound.Sound}
-use Rattle.season_text.specs.Answer.{Outcome, refused, reported, closedSeason, reportAgainst}
+use Rattle.printed.specs.Printed.{Outcome, refused, prints}
+use Rattle.season_text.specs.Answer.{closedSeason, reportAgainst}
 
 -- the line that an outcome names
 abbrev pub outcomeLine : Outcome → ℕ
 outcomeLine (refused r) = refusalLine r
-outcomeLine (reported t) = 0
-
--- no report is longer than the page of the program: 15 is never told there
-abbrev pub ReportFits : Outcome → Type 0
-ReportFits (refused r) = Unit {0}
-ReportFits (reported t) = length t ≤ longest
+outcomeLine (prints t) = 0
 
 -- valid bytes where the rule stands
 pub record ClosedAt (v : Standing) (b : List ℕ) : Type 0 where

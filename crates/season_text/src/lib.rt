@@ -1,8 +1,11 @@
 // A season's text to its report: the tables are read, the plan is priced, the season is run and closed, and the report is written.
 ghost use Prim.Native.Nat.{_≤_};
 ghost use lib.ListN.{length};
-ghost use Rattle.season_text.specs.Answer.{outcomeOf, TextAnswered, Printed};
-ghost use Rattle.season_text.specs.Inner.{Closable, Closes, Reportable, Reports, ReportFits};
+ghost use Rattle.report.specs.Report.{longest};
+ghost use Rattle.printed.specs.Printed.{Answered, Printed};
+ghost use Rattle.printed.specs.Inner.{OutcomeFits};
+ghost use Rattle.season_text.specs.Answer.{outcomeOf};
+ghost use Rattle.season_text.specs.Inner.{Closable, Closes, Reportable, Reports};
 use report::Written;
 use report_lines::Rival;
 use season_plan::Price;
@@ -55,8 +58,8 @@ fn report_season(
 
 // The answer to a text: refused, with every byte of the page as before; or accepted, with its report at the start of the page.
 pub fn answer(text: &[u8], page: &mut [u8]) -> Written
-    ensures { λ r. ⌜ TextAnswered (outcomeOf (now (text .entry))) (now (page .entry)) r (now (page .exit)) ⌝ }
-    ensures { λ _. ⌜ ReportFits (outcomeOf (now (text .entry))) ⌝ }
+    ensures { λ r. ⌜ Answered (outcomeOf (now (text .entry))) (now (page .entry)) r (now (page .exit)) ⌝ }
+    ensures { λ _. ⌜ OutcomeFits longest (outcomeOf (now (text .entry))) ⌝ }
 {
     if 65536 < text.len() {
         return Written::Refused(Refusal::InputTooLong { line: 0 });
@@ -78,14 +81,9 @@ pub fn answer(text: &[u8], page: &mut [u8]) -> Written
 
 // What is printed for a text, at the start of the page: its report, or the refusal's number and line. Answers how many bytes.
 pub fn output(text: &[u8], page: &mut [u8]) -> usize
-    ensures { λ r. ⌜ Printed (now (text .entry)) (now (page .entry)) r (now (page .exit)) ⌝ }
+    ensures { λ r. ⌜ Printed longest (outcomeOf (now (text .entry))) (now (page .entry)) r (now (page .exit)) ⌝ }
     ensures { λ r. ⌜ r ≤ length (now (page .exit)) ⌝ }
 {
-    match answer(text, page) {
-        Written::Text(n) => n,
-        Written::Refused(r) => match report::refused(r, page) {
-            Written::Text(n) => n,
-            Written::Refused(_) => 0,
-        },
-    }
+    let answered = answer(text, page);
+    printed::print(answered, page)
 }

@@ -36,7 +36,7 @@ array-share-prefix-page : tie.Need-array-share-prefix-page
 array-share-prefix-page c = search needs
 
 slice-aggregate-write-all : tie.Need-slice-aggregate-write-all
-slice-aggregate-write-all c = let p = c .before .before .output in sym (length-take-le (p .result) (p .last .1 .0) (p .ensures))
+slice-aggregate-write-all c = let p = c .before .before .output in sym (length-take-le (p .result) (p .last .1 .0) (p .ensures .1))
 
 write-all-requires : tie.Need-write-all-requires
 write-all-requires c κs = search needs

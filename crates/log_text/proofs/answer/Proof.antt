@@ -1,17 +1,16 @@
--- `check_log::output` meets its contract: the steps that were read are within the list, and what is printed within the page. Assumes
--- nothing.
-use mathlib.Core.Path.{sym, _∙_}
+-- `log_text::answer` meets its contract: the steps that were read are within the list, and are written again. Assumes nothing.
+use mathlib.Core.Path.{refl, sym, ap, _∙_}
 use Prim.Native.Nat.{_*_, _≤_}
 use native.Mathlib.Omega.{arith}
 use borrow.Author.Needs.{needs}
-use lib.ListN.{length, take}
+use lib.ListN.{length}
 use lib.Seq.{length-take-le}
 use denote.Ref
-use Rattle.season_log.specs.Log.{listed, readLog}
-use Rattle.season_log.proofs.Answers.{written-within}
+use Rattle.season_log.specs.Log.{readLog}
 use Rattle.log_reader.proofs.Answers.{read-within}
-use Rattle.check_log.proofs.output.Statement.{statement}
-use Rattle.check_log.proofs.output.Tie as tie
+use Rattle.log_text.proofs.Answers.{written, not-read, log-again}
+use Rattle.log_text.proofs.answer.Statement.{statement}
+use Rattle.log_text.proofs.answer.Tie as tie
 
 slice-aggregate-read-log : tie.Need-slice-aggregate-read-log
 slice-aggregate-read-log c = search needs
@@ -21,9 +20,6 @@ read-log-requires c κs = search needs
 
 enum-known-r : tie.Need-enum-known-r
 enum-known-r c = search needs
-
-put-refusal-requires : tie.Need-put-refusal-requires
-put-refusal-requires c κs = search needs
 
 enum-known-heading : tie.Need-enum-known-heading
 enum-known-heading c = search needs
@@ -52,55 +48,56 @@ write-log-requires c κs = search needs
 enum-known-r-2 : tie.Need-enum-known-r-2
 enum-known-r-2 c = search needs
 
-put-refusal-requires-2 : tie.Need-put-refusal-requires-2
-put-refusal-requires-2 c κs = search needs
-
 enum-known-n : tie.Need-enum-known-n
 enum-known-n c = search needs
+
+returns : tie.Need-returns
+returns c =
+    let a = c .before .before .before .before .before .before .before .before .args in
+    let r = c .before .before .before .before .read-log in
+    let x = c .before .r .given in
+    not-read (denote.Ref.now (a .text)) _ (denote.Ref.now (a .page)) (x .0 .0) refl (sym (x .1) ∙ r .ensures .0)
 
 same-length : tie.Need-same-length
 same-length c = search needs
 
-returns : tie.Need-returns
-returns c = search needs
+returns-2 : tie.Need-returns-2
+returns-2 c =
+    let h = c .before .before .before .before .before .before .before .before .before in
+    let a = h .before .before .before .before .before .before .before .args in
+    let r = h .before .before .before .read-log in
+    let n = h .heading .given in
+    let w = c .before .before .before .before .before .write-log in
+    log-again (denote.Ref.now (a .text)) _ (r .last .1 .0) (denote.Ref.now (a .page)) _ (n .0 .0) (n .0 .1 .0) (w .result) _ (sym (n .1) ∙ r .ensures .0) (r .ensures .1) (w .ensures .0) (w .ensures .1) (ap written (c .before .r2 .given .1))
 
 same-length-2 : tie.Need-same-length-2
 same-length-2 c = search needs
 
-returns-2 : tie.Need-returns-2
-returns-2 c = search needs
-
-same-length-3 : tie.Need-same-length-3
-same-length-3 c = search needs
-
 returns-3 : tie.Need-returns-3
 returns-3 c =
-    let e = c .before .before .before .before .before .before .before .before in
-    let list = e .before .before .before .before .read-log .last .1 .0 in
+    let h = c .before .before .before .before .before .before .before .before .before in
+    let a = h .before .before .before .before .before .before .before .args in
+    let r = h .before .before .before .read-log in
+    let n = h .heading .given in
     let w = c .before .before .before .before .before .write-log in
-    let n = c .before .n .given in
-    let h = e .before .heading .given .0 in
-    written-within (listed (h .0) (take (24 * (h .1 .0)) list)) _ (w .last .1 .1 .0) (n .0 .0) (sym (n .1) ∙ w .ensures .0) (w .ensures .1)
+    log-again (denote.Ref.now (a .text)) _ (r .last .1 .0) (denote.Ref.now (a .page)) _ (n .0 .0) (n .0 .1 .0) (w .result) _ (sym (n .1) ∙ r .ensures .0) (r .ensures .1) (w .ensures .0) (w .ensures .1) (ap written (c .before .n .given .1))
 
-pub output-spec : {M : Type 1} → statement M
-output-spec =
+pub answer-spec : {M : Type 1} → statement M
+answer-spec =
     tie.close
     (tie.spec
     slice-aggregate-read-log
     read-log-requires
     enum-known-r
-    put-refusal-requires
     enum-known-heading
     mul-bytes
     array-share-prefix-list
     slice-aggregate-write-log
     write-log-requires
     enum-known-r-2
-    put-refusal-requires-2
     enum-known-n
-    same-length
     returns
-    same-length-2
+    same-length
     returns-2
-    same-length-3
+    same-length-2
     returns-3)

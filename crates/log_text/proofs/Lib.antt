@@ -1,0 +1,2 @@
+-- The laws of `log_text`. Assumes nothing.
+pub mod Answers

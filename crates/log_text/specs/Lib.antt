@@ -1,0 +1,2 @@
+-- The definitions that the contracts of `log_text` cite. Assumes nothing.
+pub mod Answer

@@ -1,0 +1,2 @@
+-- The laws of `printed`. Assumes nothing.
+pub mod Prints
