@@ -38,20 +38,20 @@ use Rattle.season_lines.proofs.Pieces.{Says, line-says}
 -- ## The first line of what is left
 
 pub line-first :
-    (n : ℕ) (s : List ℕ) (v : Sofar) →
+    (upto n : ℕ) (s : List ℕ) (v : Sofar) →
     length (before 10 s) < length s →
-    readFrom n (split 10 s) v
-    ≡ goesOn (leads v (before 10 s) n) (readFrom (suc n) (split 10 (drop (length (before 10 s) + 1) s)))
+    readFrom upto n (split 10 s) v
+    ≡ goesOn (leads upto v (before 10 s) n) (readFrom upto (suc n) (split 10 (drop (length (before 10 s) + 1) s)))
 unfolding readFrom
-line-first n s v h = rw (split-more 10 s h, split-some 10 (drop (length (before 10 s) + 1) s) .1)
+line-first upto n s v h = rw (split-more 10 s h, split-some 10 (drop (length (before 10 s) + 1) s) .1)
 
 pub until-first :
-    (n : ℕ) (s : List ℕ) (v : Sofar) →
+    (upto n : ℕ) (s : List ℕ) (v : Sofar) →
     length (before 10 s) < length s →
-    readUntil n (split 10 s) v
-    ≡ onward v (leads v (before 10 s) n) (readUntil (suc n) (split 10 (drop (length (before 10 s) + 1) s)))
+    readUntil upto n (split 10 s) v
+    ≡ onward v (leads upto v (before 10 s) n) (readUntil upto (suc n) (split 10 (drop (length (before 10 s) + 1) s)))
 unfolding readUntil
-until-first n s v h = rw (split-more 10 s h, split-some 10 (drop (length (before 10 s) + 1) s) .1)
+until-first upto n s v h = rw (split-more 10 s h, split-some 10 (drop (length (before 10 s) + 1) s) .1)
 
 -- where the first line ends, as it is found: in the part of the text from byte `at` up to the text's end
 pub line-end :
@@ -61,41 +61,41 @@ pub line-end :
 line-end s at m e = rw (e, take-all (length s - at) (drop at s) (omega (arith, length-drop at s)))
 
 -- nothing is left
-pub nothing-left : (n at : ℕ) (s : List ℕ) (v : Sofar) → length s ≤ at → readFrom n (split 10 (drop at s)) v ≡ atEnd v n
+pub nothing-left : (upto n at : ℕ) (s : List ℕ) (v : Sofar) → length s ≤ at → readFrom upto n (split 10 (drop at s)) v ≡ atEnd upto v n
 unfolding readFrom split
-nothing-left n at s v h = rw (drop-of-length-le s {i = at} h)
+nothing-left upto n at s v h = rw (drop-of-length-le s {i = at} h)
 
-pub until-end : (n at : ℕ) (s : List ℕ) (v : Sofar) → length s ≤ at → readUntil n (split 10 (drop at s)) v ≡ v
+pub until-end : (upto n at : ℕ) (s : List ℕ) (v : Sofar) → length s ≤ at → readUntil upto n (split 10 (drop at s)) v ≡ v
 unfolding readUntil split
-until-end n at s v h = rw (drop-of-length-le s {i = at} h)
+until-end upto n at s v h = rw (drop-of-length-le s {i = at} h)
 
 -- bytes without a line feed are left
 pub no-feed :
-    (n : ℕ) (s : List ℕ) (v : Sofar) →
+    (upto n : ℕ) (s : List ℕ) (v : Sofar) →
     0 < length s →
     length s ≤ length (before 10 s) →
-    readFrom n (split 10 s) v ≡ stop (Malformed n)
+    readFrom upto n (split 10 s) v ≡ stop (Malformed n)
 unfolding readFrom
-no-feed n s v p h = rw (split-last 10 s h, ne-eqb (length (before 10 s)) 0 (λ e. omega arith))
+no-feed upto n s v p h = rw (split-last 10 s h, ne-eqb (length (before 10 s)) 0 (λ e. omega arith))
 
-pub until-no-feed : (n : ℕ) (s : List ℕ) (v : Sofar) → length s ≤ length (before 10 s) → readUntil n (split 10 s) v ≡ v
+pub until-no-feed : (upto n : ℕ) (s : List ℕ) (v : Sofar) → length s ≤ length (before 10 s) → readUntil upto n (split 10 s) v ≡ v
 unfolding readUntil
-until-no-feed n s v h = rw (split-last 10 s h)
+until-no-feed upto n s v h = rw (split-last 10 s h)
 
 -- ## Where a line leads
 
 -- whether a line's fields are looked at, by what has been read
-abbrev pub wantsHere : Sofar → List ℕ → Bool
-wantsHere v l = wantsValues (v .named) (v .upto) (v .table) (v .k) (length l)
+abbrev pub wantsHere : ℕ → Sofar → List ℕ → Bool
+wantsHere upto v l = wantsValues (v .named) upto (v .table) (v .k) (length l)
 
 -- a line that is torn by its fields alone
 pub malformed-line :
-    (v : Sofar) (l : List ℕ) (n : ℕ) →
-    wantsHere v l ≡ true →
+    (upto : ℕ) (v : Sofar) (l : List ℕ) (n : ℕ) →
+    wantsHere upto v l ≡ true →
     lineIn (v .table) (v .form) (fieldsOf l) n ≡ Refused (Malformed n) →
-    leads v l n ≡ stop (Malformed n)
+    leads upto v l n ≡ stop (Malformed n)
 unfolding takes
-malformed-line v l n h e = leads-values v l n h ∙ rw e
+malformed-line upto v l n h e = leads-values upto v l n h ∙ rw e
 
 -- ## What a line that leads on adds
 
@@ -113,9 +113,8 @@ unfolding fold
 as-long [] a b h = h
 as-long (s ∷ steps) a b h = as-long steps (catalogNext a s) (catalogNext b s) (omega (arith, next-length a s, next-length b s))
 
-pub record Grows (v w : Sofar) (wants : Bool) (fields : ℕ) : Type 0 where
-  pub upto : w .upto ≡ v .upto
-  pub table : 1 ≤ v .upto → v .table ≤ v .upto → w .table ≤ v .upto
+pub record Grows (upto : ℕ) (v w : Sofar) (wants : Bool) (fields : ℕ) : Type 0 where
+  pub table : 1 ≤ upto → v .table ≤ upto → w .table ≤ upto
   pub items : length (itemsNow v) ≤ length (itemsNow w)
   pub steps : Adds (length (v .steps)) (length (w .steps)) wants fields
   pub acts : Adds (length (v .acts)) (length (w .acts)) wants fields
@@ -131,31 +130,30 @@ if-both : (t u : Bool) (x w : Sofar) (r q : Refusal) → cond t (cond u (on x) (
 if-both true u x w r q e = if-on u x w r e
 if-both false u x w r q e = absurd (no-on q w e)
 
-grows-to : (v x w : Sofar) (b : Bool) (f : ℕ) → x ≡ w → Grows v x b f → Grows v w b f
-grows-to v x w b f e g = rw e at g
+grows-to : (upto : ℕ) (v x w : Sofar) (b : Bool) (f : ℕ) → x ≡ w → Grows upto v x b f → Grows upto v w b f
+grows-to upto v x w b f e g = rw e at g
 
 -- a value line
 grown-by :
-    (v w : Sofar) (table form : ℕ) (fs : List Field) (n : ℕ) →
+    (upto : ℕ) (v w : Sofar) (table form : ℕ) (fs : List Field) (n : ℕ) →
     takes v (lineIn table form fs n) n ≡ on w →
-    Grows v w true (length fs)
+    Grows upto v w true (length fs)
 unfolding takes
-grown-by v w table form fs n e = go (lineIn table form fs n) (line-says table form fs n) e
+grown-by upto v w table form fs n e = go (lineIn table form fs n) (line-says table form fs n) e
   where
-    go : (line : Line) → Says table (length fs) n line → takes v line n ≡ on w → Grows v w true (length fs)
+    go : (line : Line) → Says table (length fs) n line → takes v line n ≡ on w → Grows upto v w true (length fs)
     go (Sizes k h r) l e =
-        grows-to v (withSizes v k h r) w true (length fs) (if-on (leb h k) (withSizes v k h r) w (PlanTooLarge n) e)
-        (record { upto = refl; table = λ u t. t; items = omega arith; steps = inl refl; acts = inl refl })
+        grows-to upto v (withSizes v k h r) w true (length fs) (if-on (leb h k) (withSizes v k h r) w (PlanTooLarge n) e)
+        (record { table = λ u t. t; items = omega arith; steps = inl refl; acts = inl refl })
     go (ItemLine i k l m) q e =
-        grows-to v (withItem v k l m) w true (length fs)
+        grows-to upto v (withItem v k l m) w true (length fs)
         (if-on (eqb i (length (v .catalog))) (withItem v k l m) w (OutOfSequence n) e)
-        (record { upto = refl; table = λ u t. t; items = as-long (v .steps) (v .catalog) (v .catalog ++ (listed k l m ∷ [])) (omega (arith, length-append (v .catalog) (listed k l m ∷ []))); steps = inl refl; acts = inl refl })
+        (record { table = λ u t. t; items = as-long (v .steps) (v .catalog) (v .catalog ++ (listed k l m ∷ [])) (omega (arith, length-append (v .catalog) (listed k l m ∷ []))); steps = inl refl; acts = inl refl })
     go (StepLine s) l e =
         let number = itemRefusal (v .k) (itemsNow v) s in
-        grows-to v (withStep v s) w true (length fs)
+        grows-to upto v (withStep v s) w true (length fs)
         (if-on (eqb number 0) (withStep v s) w (itemRefused number n (stepItem s)) e)
         (record {
-          upto = refl;
           table = λ u t. t;
           items = rw (after-more (v .catalog) (v .steps) s) (next-follows (itemsNow v) s .longer);
           steps = inr (length-append (v .steps) (s ∷ []), refl, l .1);
@@ -163,10 +161,9 @@ grown-by v w table form fs n e = go (lineIn table form fs n) (line-says table fo
         })
     go (ActLine place act) l e =
         let number = ifKnown (catalogAfter (v .catalog) (take place (v .steps))) (actItem act) 0 in
-        grows-to v (withAct v place act) w true (length fs)
+        grows-to upto v (withAct v place act) w true (length fs)
         (if-both (inTurn v place) (eqb number 0) (withAct v place act) w (itemRefused number n (actItem act)) (ActOutOfOrder n) e)
         (record {
-          upto = refl;
           table = λ u t. t;
           items = omega arith;
           steps = inl refl;
@@ -183,27 +180,27 @@ may-end b upto table k low e = go b (eqb table 0) (isSized k) (ltb table upto) r
     go true false s t ez et e = ltb-true table upto (et ∙ e)
     go false z s t ez et e = absurd (false≢true e)
 
-pub grown : (v w : Sofar) (l : List ℕ) (n : ℕ) → leads v l n ≡ on w → Grows v w (wantsHere v l) (length (fieldsOf l))
+pub grown : (upto : ℕ) (v w : Sofar) (l : List ℕ) (n : ℕ) → leads upto v l n ≡ on w → Grows upto v w (wantsHere upto v l) (length (fieldsOf l))
 unfolding wantsValues leads
-grown v w l n e =
-    go (v .named) (cond (isBlank l) (mayEnd (v .upto) (v .table) (v .k)) false) (mustEnd (v .table) (v .k)) (formOf (v .table) l)
-    (may-end (isBlank l) (v .upto) (v .table) (v .k)) e
+grown upto v w l n e =
+    go (v .named) (cond (isBlank l) (mayEnd upto (v .table) (v .k)) false) (mustEnd (v .table) (v .k)) (formOf (v .table) l)
+    (may-end (isBlank l) upto (v .table) (v .k)) e
   where
     go :
         (a p m : Bool) (names : Names) →
-        (1 ≤ v .upto → p ≡ true → v .table < v .upto) →
+        (1 ≤ upto → p ≡ true → v .table < upto) →
         cond a (cond p (on (nextTable v)) (cond m (stop (Malformed n)) (takes v (lineIn (v .table) (v .form) (fieldsOf l) n) n)))
         (namedBy v names n)
         ≡ on w →
-        Grows v w (cond a (cond p false (not m)) false) (length (fieldsOf l))
+        Grows upto v w (cond a (cond p false (not m)) false) (length (fieldsOf l))
     go true true m names below e =
-        grows-to v (nextTable v) w false (length (fieldsOf l)) (cc)
-        (record { upto = refl; table = λ u t. below u refl; items = omega arith; steps = inl refl; acts = inl refl })
+        grows-to upto v (nextTable v) w false (length (fieldsOf l)) (cc)
+        (record { table = λ u t. below u refl; items = omega arith; steps = inl refl; acts = inl refl })
     go true false true names below e = absurd (no-on (Malformed n) w e)
-    go true false false names below e = grown-by v w (v .table) (v .form) (fieldsOf l) n e
+    go true false false names below e = grown-by upto v w (v .table) (v .form) (fieldsOf l) n e
     go false p m (Form f) below e =
-        grows-to v (nowNamed v f) w false (length (fieldsOf l)) (cc)
-        (record { upto = refl; table = λ u t. t; items = omega arith; steps = inl refl; acts = inl refl })
+        grows-to upto v (nowNamed v f) w false (length (fieldsOf l)) (cc)
+        (record { table = λ u t. t; items = omega arith; steps = inl refl; acts = inl refl })
     go false p m Unknown below e = absurd (no-on (Heading n) w e)
 
 -- ## The first field of what is left of a line

@@ -44,24 +44,24 @@ pub record Lined (upto : ℕ) (s catalog₀ calls₀ acts₀ catalog calls acts 
   pub counted : n ≤ at + 1
   pub forSteps : 6 * q .steps ≤ at
   pub forActs : 6 * q .acts ≤ at
-  pub low : 1 ≤ q .upto
-  pub high : q .upto ≤ 3
-  pub table : q .table ≤ q .upto
+  pub low : 1 ≤ upto
+  pub high : upto ≤ 3
+  pub table : q .table ≤ upto
   pub roomy : Roomy catalog calls acts
   pub long : AsLong catalog₀ calls₀ acts₀ catalog calls acts
   pub past : Untouched q catalog₀ calls₀ acts₀ catalog calls acts
   pub read : Sofar
   pub holds : Holds q catalog calls acts read
-  pub left : readFrom n (split 10 (drop at s)) read ≡ readingTo upto s
-  pub until : readUntil n (split 10 (drop at s)) read ≡ readIn upto s
+  pub left : readFrom upto n (split 10 (drop at s)) read ≡ readingTo upto s
+  pub until : readUntil upto n (split 10 (drop at s)) read ≡ readIn upto s
 
 -- the line from `at` to `end`
 abbrev pub lineWithin : List ℕ → ℕ → ℕ → List ℕ
 lineWithin s at end = take (end - at) (drop at s)
 
 -- whether its fields are looked at
-abbrev pub due : Seen → ℕ → ℕ → Bool
-due q at end = wantsValues (q .named) (q .upto) (q .table) (q .k) (end - at)
+abbrev pub due : ℕ → Seen → ℕ → ℕ → Bool
+due upto q at end = wantsValues (q .named) upto (q .table) (q .k) (end - at)
 
 -- the fields from byte i on, as they are held
 abbrev pub heldFrom : List ℕ → ℕ → ℕ → Bool → List Field
@@ -69,7 +69,7 @@ heldFrom s i end more = map heldField (fieldsFrom s i end more)
 
 -- At byte i of that line, where a field begins if there are more: the fields before it are in the array, no more than the heading has
 -- names, none of them empty, and took at least two bytes each. If no line of values is due, none is looked at.
-pub record Fielded (s : List ℕ) (q : Seen) (at end names : ℕ) (fields : List Field) (count i : ℕ) (more : Bool) : Type 0 where
+pub record Fielded (upto : ℕ) (s : List ℕ) (q : Seen) (at end names : ℕ) (fields : List Field) (count i : ℕ) (more : Bool) : Type 0 where
   pub slots : length fields ≡ 6
   pub heading : names ≡ namesIn (q .table) (q .form)
   pub most : names ≤ 6
@@ -77,9 +77,9 @@ pub record Fielded (s : List ℕ) (q : Seen) (at end names : ℕ) (fields : List
   pub some : noneEmpty (take count fields) ≡ true
   pub from : at + 2 * count ≤ i
   pub to : i ≤ end + 1
-  pub going : more ≡ true → (i ≤ end) × (due q at end ≡ true)
+  pub going : more ≡ true → (i ≤ end) × (due upto q at end ≡ true)
   pub same :
-      due q at end ≡ true → take count fields ++ heldFrom s i end more ≡ map heldField (fieldsOf (lineWithin s at end))
+      due upto q at end ≡ true → take count fields ++ heldFrom s i end more ≡ map heldField (fieldsOf (lineWithin s at end))
 
 -- what an answer to the whole text has to be
 abbrev pub ScanAnswers : ℕ → List ℕ → List ℕ → List ℕ → List ℕ → Scanned → List ℕ → List ℕ → List ℕ → Type 0
@@ -94,22 +94,22 @@ pub begins :
     1 ≤ upto →
     upto ≤ 3 →
     Roomy catalog calls acts →
-    q ≡ nothingRead upto →
+    q ≡ nothingRead →
     Lined upto s catalog calls acts catalog calls acts q 0 1
 begins upto s catalog calls acts q low high r b =
-    let h = subst (λ (z : Seen). Holds z catalog calls acts (atStart upto)) (sym b) (nothing-held upto catalog calls acts) in
+    let h = subst (λ (z : Seen). Holds z catalog calls acts atStart) (sym b) (nothing-held catalog calls acts) in
     record {
       within = omega arith;
       counted = omega arith;
       forSteps = omega (arith, h .stepCount);
       forActs = omega (arith, h .actCount);
-      low = omega (arith, h .upto);
-      high = omega (arith, h .upto);
+      low = low;
+      high = high;
       table = omega (arith, h .table);
       roomy = r;
       long = (refl, refl, refl);
       past = record { pastItems = refl; pastSteps = refl; pastActs = refl };
-      read = atStart upto;
+      read = atStart;
       holds = h;
       left = refl;
       until = refl;
@@ -139,7 +139,7 @@ module _ (upto : ℕ) (s catalog₀ calls₀ acts₀ catalog calls acts : List �
     (h : Lined upto s catalog₀ calls₀ acts₀ catalog calls acts q at n)
   where
     -- where the reading ends here, the struct being handed back
-    leaves : (r : Scanned) → r .seen ≡ q → readUntil n (split 10 (drop at s)) (h .read) ≡ h .read → Leaves upto s catalog₀ calls₀ acts₀ r catalog calls acts
+    leaves : (r : Scanned) → r .seen ≡ q → readUntil upto n (split 10 (drop at s)) (h .read) ≡ h .read → Leaves upto s catalog₀ calls₀ acts₀ r catalog calls acts
     leaves r e u =
         record {
           holds =
@@ -153,16 +153,16 @@ module _ (upto : ℕ) (s catalog₀ calls₀ acts₀ catalog calls acts : List �
         length s ≤ 65536 →
         length s ≤ at →
         r .seen ≡ q →
-        LeadsBy q (λ v. atEnd v n) r →
+        LeadsBy q (λ v. atEnd upto v n) r →
         ScanAnswers upto s catalog₀ calls₀ acts₀ r catalog calls acts
     ends r short e same f =
         let v = h .read in
-        let told : readingTo upto s ≡ atEnd v n = sym (h .left) ∙ nothing-left n at s v e in
+        let told : readingTo upto s ≡ atEnd upto v n = sym (h .left) ∙ nothing-left upto n at s v e in
         let led = f catalog calls acts v (h .holds) in
         let few =
-        few-ended (v .named && eqb (v .table) (v .upto)) v (Heading n) r catalog calls acts (omega (arith, h .holds .stepCount))
+        few-ended (v .named && eqb (v .table) upto) v (Heading n) r catalog calls acts (omega (arith, h .holds .stepCount))
         (omega (arith, h .holds .actCount)) led in
-        (rw told led, (rw told few, leaves r same (until-end n at s v e)))
+        (rw told led, (rw told few, leaves r same (until-end upto n at s v e)))
 
     pub no-line-feed :
         (r : Scanned) →
@@ -173,9 +173,9 @@ module _ (upto : ℕ) (s catalog₀ calls₀ acts₀ catalog calls acts : List �
         ScanAnswers upto s catalog₀ calls₀ acts₀ r catalog calls acts
     no-line-feed r a e f same =
         let size = length-drop at s in
-        let told : readingTo upto s ≡ stop (Malformed n) = sym (h .left) ∙ no-feed n (drop at s) (h .read) (omega arith) (omega arith) in
+        let told : readingTo upto s ≡ stop (Malformed n) = sym (h .left) ∙ no-feed upto n (drop at s) (h .read) (omega arith) (omega arith) in
         stops upto s catalog₀ calls₀ acts₀ catalog calls acts r (Malformed n) told f
-        (leaves r same (until-no-feed n (drop at s) (h .read) (omega arith)))
+        (leaves r same (until-no-feed upto n (drop at s) (h .read) (omega arith)))
 
 -- ## The fields of a line
 
@@ -183,15 +183,15 @@ module _ (upto : ℕ) (s catalog₀ calls₀ acts₀ catalog calls acts : List �
 filled : (fields : List Field) (count names : ℕ) → length fields ≡ 6 → count ≤ names → names ≤ 6 → length (take count fields) ≡ count
 filled fields count names e h m = length-take-le count fields (omega arith)
 
-module _ (s : List ℕ) (q : Seen) (at end names : ℕ) where
+module _ (upto : ℕ) (s : List ℕ) (q : Seen) (at end names : ℕ) where
   pub field-none :
       (fields : List Field) (more : Bool) →
       length fields ≡ 6 →
       names ≡ namesIn (q .table) (q .form) →
       names ≤ 6 →
       at ≤ end →
-      more ≡ due q at end →
-      Fielded s q at end names fields 0 at more
+      more ≡ due upto q at end →
+      Fielded upto s q at end names fields 0 at more
   field-none fields more k hn hm h e =
       record {
         slots = k;
@@ -207,7 +207,7 @@ module _ (s : List ℕ) (q : Seen) (at end names : ℕ) where
 
   module _ (fields : List Field) (count i m : ℕ) (field : Field)
       (within : end ≤ length s)
-      (f : Fielded s q at end names fields count i true)
+      (f : Fielded upto s q at end names fields count i true)
       (em : m ≡ length (before 32 (take (end - i) (drop i s))))
       (ef : field ≡ heldField (fieldOf (take m (drop i s))))
     where
@@ -231,7 +231,7 @@ module _ (s : List ℕ) (q : Seen) (at end names : ℕ) where
           more ≡ ltb (i + m) end →
           count < names →
           isEmpty field ≡ false →
-          Fielded s q at end names (set fields count field) (count + 1) (i + m + 1) more
+          Fielded upto s q at end names (set fields count field) (count + 1) (i + m + 1) more
       field-more more e h o =
           let g = f .going refl in
           let some = some-byte o in
@@ -304,30 +304,30 @@ module _ (upto : ℕ) (s catalog₀ calls₀ acts₀ catalog calls acts : List �
     size-is : length (lineWithin s at end) ≡ end - at
     size-is = length-part s at end (omega arith)
 
-    wants-is : wantsHere (h .read) (lineWithin s at end) ≡ due q at end
-    wants-is = rw (size-is, h .holds .named, h .holds .upto, h .holds .table, h .holds .k)
+    wants-is : wantsHere upto (h .read) (lineWithin s at end) ≡ due upto q at end
+    wants-is = rw (size-is, h .holds .named, h .holds .table, h .holds .k)
 
     behind-is : at + (length (before 10 (drop at s)) + 1) ≡ end + 1
     behind-is = omega arith
 
-    next-is : readingTo upto s ≡ goesOn (leads (h .read) (lineWithin s at end) n) (readFrom (n + 1) (split 10 (drop (end + 1) s)))
+    next-is : readingTo upto s ≡ goesOn (leads upto (h .read) (lineWithin s at end) n) (readFrom upto (n + 1) (split 10 (drop (end + 1) s)))
     next-is =
         let size = length-drop at s in
-        sym (h .left) ∙ line-first n (drop at s) (h .read) (omega arith)
+        sym (h .left) ∙ line-first upto n (drop at s) (h .read) (omega arith)
         ∙ rw (drop-drop (length (before 10 (drop at s)) + 1) at s, behind-is, first-is, ← add-one n)
 
     until-is :
-        readUntil n (split 10 (drop at s)) (h .read)
-        ≡ onward (h .read) (leads (h .read) (lineWithin s at end) n) (readUntil (n + 1) (split 10 (drop (end + 1) s)))
+        readUntil upto n (split 10 (drop at s)) (h .read)
+        ≡ onward (h .read) (leads upto (h .read) (lineWithin s at end) n) (readUntil upto (n + 1) (split 10 (drop (end + 1) s)))
     until-is =
         let size = length-drop at s in
-        until-first n (drop at s) (h .read) (omega arith)
+        until-first upto n (drop at s) (h .read) (omega arith)
         ∙ rw (drop-drop (length (before 10 (drop at s)) + 1) at s, behind-is, first-is, ← add-one n)
 
     -- the line stops the reading
     stops-here :
         (r : Scanned) (x : Refusal) →
-        leads (h .read) (lineWithin s at end) n ≡ stop x →
+        leads upto (h .read) (lineWithin s at end) n ≡ stop x →
         r .verdict ≡ Refused x →
         r .seen ≡ q →
         ScanAnswers upto s catalog₀ calls₀ acts₀ r catalog calls acts
@@ -338,21 +338,21 @@ module _ (upto : ℕ) (s catalog₀ calls₀ acts₀ catalog calls acts : List �
     -- a field that no line has here
     pub malformed-here :
         (r : Scanned) →
-        due q at end ≡ true →
+        due upto q at end ≡ true →
         lineIn (q .table) (q .form) (fieldsOf (lineWithin s at end)) n ≡ Torn (Malformed n) →
         r .verdict ≡ Refused (Malformed n) →
         r .seen ≡ q →
         ScanAnswers upto s catalog₀ calls₀ acts₀ r catalog calls acts
     malformed-here r wants bad =
         stops-here r (Malformed n)
-        (malformed-line (h .read) (lineWithin s at end) n (wants-is ∙ wants) (rw (h .holds .table, h .holds .form) at bad))
+        (malformed-line upto (h .read) (lineWithin s at end) n (wants-is ∙ wants) (rw (h .holds .table, h .holds .form) at bad))
 
-    module _ (names : ℕ) (fields : List Field) (count i : ℕ) (f : Fielded s q at end names fields count i false) where
-      all-fields : due q at end ≡ true → take count fields ≡ map heldField (fieldsOf (lineWithin s at end))
+    module _ (names : ℕ) (fields : List Field) (count i : ℕ) (f : Fielded upto s q at end names fields count i false) where
+      all-fields : due upto q at end ≡ true → take count fields ≡ map heldField (fieldsOf (lineWithin s at end))
       all-fields t = sym (append-nil (take count fields)) ∙ f .same t
 
       -- a line of three fields or more has six bytes with its line feed
-      six-bytes : wantsHere (h .read) (lineWithin s at end) ≡ true → 3 ≤ length (fieldsOf (lineWithin s at end)) → at + 6 ≤ end + 1
+      six-bytes : wantsHere upto (h .read) (lineWithin s at end) ≡ true → 3 ≤ length (fieldsOf (lineWithin s at end)) → at + 6 ≤ end + 1
       six-bytes t e =
           let all : length (take count fields) ≡ length (fieldsOf (lineWithin s at end)) =
           ap length (all-fields (sym wants-is ∙ t)) ∙ length-map (fieldsOf (lineWithin s at end)) heldField in
@@ -361,11 +361,11 @@ module _ (upto : ℕ) (s catalog₀ calls₀ acts₀ catalog calls acts : List �
       more-bytes :
           (a b : ℕ) →
           6 * a ≤ at →
-          Adds a b (wantsHere (h .read) (lineWithin s at end)) (length (fieldsOf (lineWithin s at end))) →
+          Adds a b (wantsHere upto (h .read) (lineWithin s at end)) (length (fieldsOf (lineWithin s at end))) →
           6 * b ≤ end + 1
       more-bytes a b k = ⊎-elim (λ e. omega arith) (λ w. omega (arith, six-bytes (w .1) (w .2), w .0))
 
-      pub can-lead : length s ≤ 65536 → Leadable q (lineWithin s at end) fields count catalog calls acts
+      pub can-lead : length s ≤ 65536 → Leadable upto q (lineWithin s at end) fields count catalog calls acts
       can-lead short =
           record {
             room = record { forStep = omega (arith, h .forSteps); forAct = omega (arith, h .forActs); roomy = h .roomy };
@@ -377,7 +377,7 @@ module _ (upto : ℕ) (s catalog₀ calls₀ acts₀ catalog calls acts : List �
           }
 
       module _ (r : Scanned) (catalogThen callsThen actsThen : List ℕ)
-          (led : LeadsFrom q catalog calls acts (λ v. leads v (lineWithin s at end) n) r catalogThen callsThen actsThen)
+          (led : LeadsFrom q catalog calls acts (λ v. leads upto v (lineWithin s at end) n) r catalogThen callsThen actsThen)
           (kept : Keeps q catalog calls acts r catalogThen callsThen actsThen)
         where
           pub line-refused : (x : Refusal) → r .verdict ≡ Refused x → ScanAnswers upto s catalog₀ calls₀ acts₀ r catalogThen callsThen actsThen
@@ -386,11 +386,11 @@ module _ (upto : ℕ) (s catalog₀ calls₀ acts₀ catalog calls acts : List �
               subst (λ (z : List ℕ). ScanAnswers upto s catalog₀ calls₀ acts₀ r z callsThen actsThen) (sym (u .sameItems))
               (subst (λ (z : List ℕ). ScanAnswers upto s catalog₀ calls₀ acts₀ r catalog z actsThen) (sym (u .sameSteps))
               (subst (ScanAnswers upto s catalog₀ calls₀ acts₀ r catalog calls) (sym (u .sameActs))
-              (go (leads (h .read) (lineWithin s at end) n) refl (led (h .read) (h .holds)))))
+              (go (leads upto (h .read) (lineWithin s at end) n) refl (led (h .read) (h .holds)))))
             where
               go :
                   (y : Led) →
-                  leads (h .read) (lineWithin s at end) n ≡ y →
+                  leads upto (h .read) (lineWithin s at end) n ≡ y →
                   Leads y r catalogThen callsThen actsThen →
                   ScanAnswers upto s catalog₀ calls₀ acts₀ r catalog calls acts
               go (on w) u k = absurd (not-refused (r .verdict) x (k .0) e)
@@ -400,15 +400,15 @@ module _ (upto : ℕ) (s catalog₀ calls₀ acts₀ catalog calls acts : List �
               AsLong catalog calls acts catalogThen callsThen actsThen →
               r .verdict ≡ Taken →
               Lined upto s catalog₀ calls₀ acts₀ catalogThen callsThen actsThen (r .seen) (end + 1) (n + 1)
-          line-taken long e = go (leads (h .read) (lineWithin s at end) n) refl (led (h .read) (h .holds))
+          line-taken long e = go (leads upto (h .read) (lineWithin s at end) n) refl (led (h .read) (h .holds))
             where
               go :
                   (y : Led) →
-                  leads (h .read) (lineWithin s at end) n ≡ y →
+                  leads upto (h .read) (lineWithin s at end) n ≡ y →
                   Leads y r catalogThen callsThen actsThen →
                   Lined upto s catalog₀ calls₀ acts₀ catalogThen callsThen actsThen (r .seen) (end + 1) (n + 1)
               go (on w) u k =
-                  let g = grown (h .read) w (lineWithin s at end) n u in
+                  let g = grown upto (h .read) w (lineWithin s at end) n u in
                   let old = h .holds in
                   let new = k .1 in
                   let roomy = h .roomy in
@@ -423,11 +423,11 @@ module _ (upto : ℕ) (s catalog₀ calls₀ acts₀ catalog calls acts : List �
                         rw (new .actCount)
                         (more-bytes (length (h .read .acts)) (length (w .acts)) (omega (arith, old .actCount, h .forActs))
                         (g .acts));
-                    low = omega (arith, new .upto, g .upto, old .upto, h .low);
-                    high = omega (arith, new .upto, g .upto, old .upto, h .high);
+                    low = h .low;
+                    high = h .high;
                     table =
-                        let t = g .table (omega (arith, old .upto, h .low)) (omega (arith, old .table, old .upto, h .table)) in
-                        omega (arith, new .table, new .upto, g .upto);
+                        let t = g .table (h .low) (omega (arith, old .table, h .table)) in
+                        omega (arith, new .table);
                     roomy =
                         record {
                           forItems = omega (arith, roomy .forItems, long .0);

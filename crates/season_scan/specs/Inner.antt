@@ -16,13 +16,13 @@ onward v (on w) next = next w
 onward v (stop r) next = v
 
 -- what has been read where the reading ends, from line n on: all, or what stands before the first faulty line
-unfoldable pub readUntil : ℕ → List (List ℕ) → Sofar → Sofar
-readUntil n [] v = v
-readUntil n (l ∷ []) v = v
-readUntil n (l ∷ m ∷ rest) v = onward v (leads v l n) (readUntil (suc n) (m ∷ rest))
+unfoldable pub readUntil : ℕ → ℕ → List (List ℕ) → Sofar → Sofar
+readUntil upto n [] v = v
+readUntil upto n (l ∷ []) v = v
+readUntil upto n (l ∷ m ∷ rest) v = onward v (leads upto v l n) (readUntil upto (suc n) (m ∷ rest))
 
 abbrev pub readIn : ℕ → List ℕ → Sofar
-readIn upto s = readUntil 1 (split 10 s) (atStart upto)
+readIn upto s = readUntil upto 1 (split 10 s) atStart
 
 -- What the scan of s up to a table leaves, be it taken or refused: the struct and the slices hold what has been read, and past that
 -- the slices are as they were.

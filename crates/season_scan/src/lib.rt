@@ -15,12 +15,12 @@ pub fn scan(s: &[u8], upto: u32, catalog: &mut [u8], calls: &mut [u32], acts: &m
     ensures { λ r. ⌜ Few (readingTo upto (now (s .entry))) r ⌝ }
     ensures { λ r. ⌜ Leaves upto (now (s .entry)) (now (catalog .entry)) (now (calls .entry)) (now (acts .entry)) r (now (catalog .exit)) (now (calls .exit)) (now (acts .exit)) ⌝ }
 {
-    let mut seen = season_tables::at_start(upto);
+    let mut seen = season_tables::at_start();
     let mut at = 0;
     let mut line: u32 = 1;
     'lines: loop {
         if s.len() <= at {
-            break season_tables::ended(seen, line);
+            break season_tables::ended(upto, seen, line);
         }
         let end = at + line_fields::find(&s[at..], b'\n');
         if s.len() <= end {
@@ -30,13 +30,7 @@ pub fn scan(s: &[u8], upto: u32, catalog: &mut [u8], calls: &mut [u32], acts: &m
         let mut fields = [Field::Empty; 6];
         let mut count: usize = 0;
         let mut i = at;
-        let mut more = season_tables::wants_values(
-            seen.named,
-            seen.upto,
-            seen.table,
-            seen.k,
-            end - at,
-        );
+        let mut more = season_tables::wants_values(seen.named, upto, seen.table, seen.k, end - at);
         while more {
             let j = i + line_fields::find(&s[i..end], b' ');
             let field = line_fields::field_of(&s[i..j]);
@@ -50,6 +44,7 @@ pub fn scan(s: &[u8], upto: u32, catalog: &mut [u8], calls: &mut [u32], acts: &m
             i = j + 1;
         }
         let next = season_tables::lead(
+            upto,
             seen,
             &s[at..end],
             fields,

@@ -55,12 +55,11 @@ pub count-is : (q : Seen) (catalog calls acts : List ℕ) (v : Sofar) → Holds 
 count-is q catalog calls acts v h = sym (h .itemCount)
 
 -- nothing is read, whatever the slices hold
-pub begins : (upto : ℕ) (catalog calls acts : List ℕ) → Holds (nothingRead upto) catalog calls acts (atStart upto)
+pub begins : (catalog calls acts : List ℕ) → Holds nothingRead catalog calls acts atStart
 unfolding fold callNumbers actNumbers
-begins upto catalog calls acts =
+begins catalog calls acts =
     record {
       table = refl;
-      upto = refl;
       named = refl;
       form = refl;
       k = refl;
@@ -93,7 +92,6 @@ named q f =
       steps = q .steps;
       acts = q .acts;
       last = q .last;
-      upto = q .upto;
       form = f;
       rule = q .rule;
       present = q .present;
@@ -108,7 +106,6 @@ module _ (q : Seen) (names : Names) (at : ℕ) (r : Scanned) where
       (goes r (named q f) catalog calls acts (nowNamed v f) t s
       (record {
         table = h .table;
-        upto = h .upto;
         named = refl;
         form = refl;
         k = h .k;
@@ -144,7 +141,6 @@ turned q =
       steps = q .steps;
       acts = q .acts;
       last = q .last;
-      upto = q .upto;
       form = 0;
       rule = q .rule;
       present = q .present;
@@ -158,7 +154,6 @@ module _ (q : Seen) (bytes at : ℕ) (r : Scanned) where
       (goes r (turned q) catalog calls acts (nextTable v) t s
       (record {
         table = add-one (q .table) ∙ ap suc (h .table);
-        upto = h .upto;
         named = refl;
         form = refl;
         k = h .k;
@@ -194,7 +189,6 @@ sized q k h word =
       steps = q .steps;
       acts = q .acts;
       last = q .last;
-      upto = q .upto;
       form = q .form;
       rule = word;
       present = q .present;
@@ -209,7 +203,6 @@ module _ (q : Seen) (size plan : ℕ) (word : Deduction) (at : ℕ) (r : Scanned
       (goes r (sized q size plan word) catalog calls acts _ t s
       (record {
         table = h .table;
-        upto = h .upto;
         named = h .named;
         form = h .form;
         k = refl;
@@ -249,7 +242,6 @@ itemized q i =
       steps = q .steps;
       acts = q .acts;
       last = q .last;
-      upto = q .upto;
       form = q .form;
       rule = q .rule;
       present = counted (i + 1) (q .present);
@@ -284,7 +276,6 @@ module _ (q : Seen) (catalog : List ℕ) (i b l w at : ℕ) (r : Scanned) where
       (goes r (itemized q i) after calls acts _ t s
       (record {
         table = h .table;
-        upto = h .upto;
         named = h .named;
         form = h .form;
         k = h .k;
@@ -358,7 +349,6 @@ stepped q p =
       steps = q .steps + 1;
       acts = q .acts;
       last = q .last;
-      upto = q .upto;
       form = q .form;
       rule = q .rule;
       present = p;
@@ -444,7 +434,6 @@ module _ (q : Seen) (catalog calls : List ℕ) (s : Step) (at number : ℕ) (e :
           (goes r (stepped q p) catalog-after calls-after acts _ t y
           (record {
             table = h .table;
-            upto = h .upto;
             named = h .named;
             form = h .form;
             k = h .k;
@@ -504,7 +493,6 @@ acted q place p =
       steps = q .steps;
       acts = q .acts + 1;
       last = place;
-      upto = q .upto;
       form = q .form;
       rule = q .rule;
       present = q .present;
@@ -612,7 +600,6 @@ module _ (q : Seen) (calls acts : List ℕ) (place : ℕ) (act : Act) (at : ℕ)
           (goes r (acted q place p) catalog calls after _ t s
           (record {
             table = h .table;
-            upto = h .upto;
             named = h .named;
             form = h .form;
             k = h .k;
@@ -652,11 +639,11 @@ module _ (q : Seen) (calls acts : List ℕ) (place : ℕ) (act : Act) (at : ℕ)
 
 -- the input's end
 pub end-leads :
-    (q : Seen) (at : ℕ) (r : Scanned) → r .verdict ≡ endVerdict q at → r .seen ≡ q → LeadsBy q (λ v. atEnd v at) r
-end-leads q at r t s catalog calls acts v h = go (v .named && eqb (v .table) (v .upto)) (t ∙ same)
+    (upto : ℕ) (q : Seen) (at : ℕ) (r : Scanned) → r .verdict ≡ endVerdict upto q at → r .seen ≡ q → LeadsBy q (λ v. atEnd upto v at) r
+end-leads upto q at r t s catalog calls acts v h = go (v .named && eqb (v .table) upto) (t ∙ same)
   where
-    same : endVerdict q at ≡ cond (v .named && eqb (v .table) (v .upto)) Taken (Refused (Heading at))
-    same = rw (h .named, h .table, h .upto)
+    same : endVerdict upto q at ≡ cond (v .named && eqb (v .table) upto) Taken (Refused (Heading at))
+    same = rw (h .named, h .table)
 
     go : (b : Bool) → r .verdict ≡ cond b Taken (Refused (Heading at)) → Leads (cond b (on v) (stop (Heading at))) r catalog calls acts
     go true e = goes r q catalog calls acts v e s h

@@ -53,26 +53,26 @@ must-may upto table k = go (eqb table 0)
     go false e = absurd (false≢true e)
 
 -- where each leads
-module _ (v : Sofar) (l : List ℕ) (n : ℕ) where
-  pub leads-names : v .named ≡ false → leads v l n ≡ namedBy v (formOf (v .table) l) n
+module _ (upto : ℕ) (v : Sofar) (l : List ℕ) (n : ℕ) where
+  pub leads-names : v .named ≡ false → leads upto v l n ≡ namedBy v (formOf (v .table) l) n
   unfolding leads
   leads-names e = unnamed (v .named) _ _ e
 
   pub leads-values :
-      wantsValues (v .named) (v .upto) (v .table) (v .k) (length l) ≡ true →
-      leads v l n ≡ takes v (lineIn (v .table) (v .form) (fieldsOf l) n) n
+      wantsValues (v .named) upto (v .table) (v .k) (length l) ≡ true →
+      leads upto v l n ≡ takes v (lineIn (v .table) (v .form) (fieldsOf l) n) n
   unfolding leads wantsValues
   leads-values e =
-      valued (v .named) (cond (eqb (length l) 0) (mayEnd (v .upto) (v .table) (v .k)) false) (mustEnd (v .table) (v .k)) _ _ _ _ e
+      valued (v .named) (cond (eqb (length l) 0) (mayEnd upto (v .table) (v .k)) false) (mustEnd (v .table) (v .k)) _ _ _ _ e
 
   pub leads-blank :
       v .named ≡ true →
-      wantsValues (v .named) (v .upto) (v .table) (v .k) (length l) ≡ false →
-      leads v l n ≡ cond (eqb (length l) 0) (on (nextTable v)) (stop (Malformed n))
+      wantsValues (v .named) upto (v .table) (v .k) (length l) ≡ false →
+      leads upto v l n ≡ cond (eqb (length l) 0) (on (nextTable v)) (stop (Malformed n))
   unfolding leads wantsValues
   leads-blank e f =
-      blank (v .named) (eqb (length l) 0) (mayEnd (v .upto) (v .table) (v .k)) (mustEnd (v .table) (v .k)) _ _ _ _
-      (must-may (v .upto) (v .table) (v .k)) e f
+      blank (v .named) (eqb (length l) 0) (mayEnd upto (v .table) (v .k)) (mustEnd (v .table) (v .k)) _ _ _ _
+      (must-may upto (v .table) (v .k)) e f
 
 -- a line says what its table does
 pub line-of-table : (table form : ℕ) (fs : List Field) (n : ℕ) (line : Line) → line ≡ lineIn table form fs n → OfTable table line
@@ -86,53 +86,53 @@ line-of-table table form fs n line e = go line (subst (Says table (length fs) n)
     go (RefusedLine r) s = tt
 
 -- and so for the struct
-module _ (q : Seen) (catalog calls acts l : List ℕ) (n : ℕ) (r : Scanned) where
+module _ (upto : ℕ) (q : Seen) (catalog calls acts l : List ℕ) (n : ℕ) (r : Scanned) where
   pub lead-names :
       (names : Names) →
       q .named ≡ false →
       names ≡ formOf (q .table) l →
       LeadsBy q (λ v. namedBy v names n) r →
-      LeadsFrom q catalog calls acts (λ v. leads v l n) r catalog calls acts
+      LeadsFrom q catalog calls acts (λ v. leads upto v l n) r catalog calls acts
   lead-names names e f led v h =
       let same : names ≡ formOf (v .table) l = f ∙ ap (λ (t : ℕ). formOf t l) (h .table) in
       subst (λ (x : Led). Leads x r catalog calls acts)
-      (ap (λ (x : Names). namedBy v x n) same ∙ sym (leads-names v l n (sym (h .named) ∙ e)))
+      (ap (λ (x : Names). namedBy v x n) same ∙ sym (leads-names upto v l n (sym (h .named) ∙ e)))
       (led catalog calls acts v h)
 
   same-wants :
       (v : Sofar) →
       Holds q catalog calls acts v →
       q .named ≡ true →
-      wantsValues (v .named) (v .upto) (v .table) (v .k) (length l) ≡ wantsValues true (q .upto) (q .table) (q .k) (length l)
-  same-wants v h e = λ i. wantsValues ((sym (h .named) ∙ e) i) (sym (h .upto) i) (sym (h .table) i) (sym (h .k) i) (length l)
+      wantsValues (v .named) upto (v .table) (v .k) (length l) ≡ wantsValues true upto (q .table) (q .k) (length l)
+  same-wants v h e = λ i. wantsValues ((sym (h .named) ∙ e) i) upto (sym (h .table) i) (sym (h .k) i) (length l)
 
   pub lead-values :
       (fs : List Field) (line : Line) (catalog-after calls-after acts-after : List ℕ) (wants : Bool) →
       q .named ≡ true →
-      wants ≡ wantsValues true (q .upto) (q .table) (q .k) (length l) →
+      wants ≡ wantsValues true upto (q .table) (q .k) (length l) →
       wants ≡ true →
-      Looked q l fs →
+      Looked upto q l fs →
       line ≡ lineIn (q .table) (q .form) fs n →
       LeadsFrom q catalog calls acts (λ v. takes v line n) r catalog-after calls-after acts-after →
-      LeadsFrom q catalog calls acts (λ v. leads v l n) r catalog-after calls-after acts-after
+      LeadsFrom q catalog calls acts (λ v. leads upto v l n) r catalog-after calls-after acts-after
   lead-values fs line catalog-after calls-after acts-after wants e asked so looked g led v h =
-      let f : wantsValues true (q .upto) (q .table) (q .k) (length l) ≡ true = sym asked ∙ so in
-      let due : wantsValues (q .named) (q .upto) (q .table) (q .k) (length l) ≡ true =
-      ap (λ (b : Bool). wantsValues b (q .upto) (q .table) (q .k) (length l)) e ∙ f in
+      let f : wantsValues true upto (q .table) (q .k) (length l) ≡ true = sym asked ∙ so in
+      let due : wantsValues (q .named) upto (q .table) (q .k) (length l) ≡ true =
+      ap (λ (b : Bool). wantsValues b upto (q .table) (q .k) (length l)) e ∙ f in
       let same : line ≡ lineIn (v .table) (v .form) (fieldsOf l) n =
       g ∙ (λ i. lineIn (h .table i) (h .form i) (looked due i) n) ∙ held-line (v .table) (v .form) (fieldsOf l) n in
       subst (λ (x : Led). Leads x r catalog-after calls-after acts-after)
-      (ap (λ (x : Line). takes v x n) same ∙ sym (leads-values v l n (same-wants v h e ∙ f)))
+      (ap (λ (x : Line). takes v x n) same ∙ sym (leads-values upto v l n (same-wants v h e ∙ f)))
       (led v h)
 
   pub lead-blank :
       (wants : Bool) →
       q .named ≡ true →
-      wants ≡ wantsValues true (q .upto) (q .table) (q .k) (length l) →
+      wants ≡ wantsValues true upto (q .table) (q .k) (length l) →
       wants ≡ false →
       LeadsBy q (λ v. cond (eqb (length l) 0) (on (nextTable v)) (stop (Malformed n))) r →
-      LeadsFrom q catalog calls acts (λ v. leads v l n) r catalog calls acts
+      LeadsFrom q catalog calls acts (λ v. leads upto v l n) r catalog calls acts
   lead-blank wants e asked so led v h =
       subst (λ (x : Led). Leads x r catalog calls acts)
-      (sym (leads-blank v l n (sym (h .named) ∙ e) (same-wants v h e ∙ sym asked ∙ so)))
+      (sym (leads-blank upto v l n (sym (h .named) ∙ e) (same-wants v h e ∙ sym asked ∙ so)))
       (led catalog calls acts v h)

@@ -87,12 +87,12 @@ takes-by table fields n v (ActLine place act) l o =
 takes-by table fields n v (Refused r) l o =
     ⊎-elim (λ m. ap refusalLine m) (⊎-elim (λ m. ap refusalLine m) (λ m. ap refusalLine m)) o
 
-leads-by : (n : ℕ) (v : Sofar) (l : List ℕ) → linesRead v < n → ByLine n (leads v l n)
+leads-by : (upto n : ℕ) (v : Sofar) (l : List ℕ) → linesRead v < n → ByLine n (leads upto v l n)
 unfolding leads
-leads-by n v l few =
+leads-by upto n v l few =
     either (ByLine n) (v .named) _ _
-    (λ e. either (ByLine n) (cond (isBlank l) (mayEnd (v .upto) (v .table) (v .k)) false) _ _
-    (λ b. omega (arith, above-next (isBlank l) (v .upto) (v .table) (v .k) b, ap oneIf e))
+    (λ e. either (ByLine n) (cond (isBlank l) (mayEnd upto (v .table) (v .k)) false) _ _
+    (λ b. omega (arith, above-next (isBlank l) upto (v .table) (v .k) b, ap oneIf e))
     (λ b. either (ByLine n) (mustEnd (v .table) (v .k)) _ _ (λ m. refl)
     (λ m. takes-by (v .table) (length (fieldsOf l)) n v _ few (line-says (v .table) (v .form) (fieldsOf l) n))))
     (λ e. names (formOf (v .table) l))
@@ -109,8 +109,8 @@ abbrev Within : ℕ → Led → Type 0
 Within b (on w) = linesRead w ≤ b
 Within b (stop r) = refusalLine r ≤ b + 1
 
-end-within : (b n : ℕ) (v : Sofar) → linesRead v < n → n ≤ b + 1 → Within b (atEnd v n)
-end-within b n v few l = either (Within b) (v .named && eqb (v .table) (v .upto)) _ _ (λ e. omega arith) (λ e. l)
+end-within : (upto b n : ℕ) (v : Sofar) → linesRead v < n → n ≤ b + 1 → Within b (atEnd upto v n)
+end-within upto b n v few l = either (Within b) (v .named && eqb (v .table) upto) _ _ (λ e. omega arith) (λ e. l)
 
 then-within :
     (b n : ℕ) (x : Led) (next : Sofar → Led) →
@@ -121,16 +121,16 @@ then-within :
 then-within b n (on w) next p l f = f w p
 then-within b n (stop r) next p l f = omega (arith, p)
 
-read-within : (b n : ℕ) (ls : List (List ℕ)) (v : Sofar) → linesRead v < n → n + (length ls - 1) ≤ b + 1 → Within b (readFrom n ls v)
+read-within : (upto b n : ℕ) (ls : List (List ℕ)) (v : Sofar) → linesRead v < n → n + (length ls - 1) ≤ b + 1 → Within b (readFrom upto n ls v)
 unfolding readFrom
-read-within b n [] v few l = end-within b n v few (omega arith)
-read-within b n (x ∷ []) v few l = either (Within b) (isBlank x) _ _ (λ e. end-within b n v few (omega arith)) (λ e. omega arith)
-read-within b n (x ∷ y ∷ rest) v few l =
-    then-within b n (leads v x n) (readFrom (suc n) (y ∷ rest)) (leads-by n v x few) (omega arith)
-    (λ w p. read-within b (suc n) (y ∷ rest) w (omega (arith, p)) (omega arith))
+read-within upto b n [] v few l = end-within upto b n v few (omega arith)
+read-within upto b n (x ∷ []) v few l = either (Within b) (isBlank x) _ _ (λ e. end-within upto b n v few (omega arith)) (λ e. omega arith)
+read-within upto b n (x ∷ y ∷ rest) v few l =
+    then-within b n (leads upto v x n) (readFrom upto (suc n) (y ∷ rest)) (leads-by upto n v x few) (omega arith)
+    (λ w p. read-within upto b (suc n) (y ∷ rest) w (omega (arith, p)) (omega arith))
 
 text-within : (upto : ℕ) (s : List ℕ) → Within (length s) (readingTo upto s)
-text-within upto s = read-within (length s) 1 (split 10 s) (atStart upto) (omega arith) (omega (arith, split-few 10 s))
+text-within upto s = read-within upto (length s) 1 (split 10 s) atStart (omega arith) (omega (arith, split-few 10 s))
 
 -- a refused text's line is at most one more than its bytes
 pub stop-line : (s : List ℕ) (r : Refusal) → readingOf s ≡ stop r → refusalLine r ≤ length s + 1

@@ -58,10 +58,10 @@ record SizesFit (k h : ℕ) : Type 0 where
   rivalLow : 1 ≤ k → 1 ≤ h
   rivalHigh : h ≤ k
 
--- what holds after any lines
-record Partial (v : Sofar) : Type 0 where
-  low : 1 ≤ v .upto
-  tables : v .table ≤ v .upto
+-- what holds after any lines of a text whose last table is u
+record Partial (u : ℕ) (v : Sofar) : Type 0 where
+  low : 1 ≤ u
+  tables : v .table ≤ u
   sized : 1 ≤ v .table → 1 ≤ v .k
   noSteps : v .table ≤ 1 → length (v .steps) ≡ 0
   noActs : v .table ≤ 2 → length (v .acts) ≡ 0
@@ -72,11 +72,10 @@ record Partial (v : Sofar) : Type 0 where
   acts : (j : ℕ) → j < length (v .acts) → ActFits v (placedAt (v .acts) j)
   inOrder : (i j : ℕ) → i ≤ j → j < length (v .acts) → placedAt (v .acts) i .place ≤ placedAt (v .acts) j .place
 
--- and after i lines, each of which adds a step, or an act, or neither; u is the last table
+-- and after i lines, each of which adds a step, or an act, or neither
 record After (u i : ℕ) (v : Sofar) : Type 0 where
-  upto : v .upto ≡ u
   few : length (v .steps) + length (v .acts) ≤ i
-  so : Partial v
+  so : Partial u v
 
 -- a list of length 0 has no place j
 none : {A : Type 0} (n j : ℕ) → n ≡ 0 → j < n → A
@@ -104,10 +103,9 @@ none-left-more (x ∷ cat) b l w e =
     let parts = and-parts (not (x .left)) (noneLeft cat) e in
     rw (parts .0, none-left-more cat b l w (parts .1))
 
-start-after : (u : ℕ) → 1 ≤ u → After u 0 (atStart u)
+start-after : (u : ℕ) → 1 ≤ u → After u 0 atStart
 start-after u low =
     record {
-      upto = refl;
       few = omega arith;
       so =
           record {
@@ -147,7 +145,6 @@ named-after : (u i : ℕ) (v : Sofar) (f : ℕ) → After u i v → After u (suc
 named-after u i v f p =
     let q = p .so in
     record {
-      upto = p .upto;
       few = omega (arith, p .few);
       so =
           record {
@@ -174,12 +171,11 @@ may-end upto table k low e = go (eqb table 0) refl e
     go false z e = (ltb-true table upto e, λ q. absurd (eqb-false table 0 z q))
 
 -- the blank line
-next-after : (u i : ℕ) (v : Sofar) → After u i v → mayEnd (v .upto) (v .table) (v .k) ≡ true → After u (suc i) (nextTable v)
+next-after : (u i : ℕ) (v : Sofar) → After u i v → mayEnd u (v .table) (v .k) ≡ true → After u (suc i) (nextTable v)
 next-after u i v p e =
     let q = p .so in
-    let m = may-end (v .upto) (v .table) (v .k) (q .low) e in
+    let m = may-end u (v .table) (v .k) (q .low) e in
     record {
-      upto = p .upto;
       few = omega (arith, p .few);
       so =
           record {
@@ -198,7 +194,7 @@ next-after u i v p e =
     }
   where
     sized : Dec (v .table ≡ 0) → 1 ≤ v .k
-    sized (yes z) = may-end (v .upto) (v .table) (v .k) (p .so .low) e .1 z
+    sized (yes z) = may-end u (v .table) (v .k) (p .so .low) e .1 z
     sized (no z) = p .so .sized (omega arith)
 
 -- a value line of each table: what stands in the later tables is not read yet
@@ -213,7 +209,6 @@ sizes-after u i fields n v k h r p s l =
     let noSteps : length (v .steps) ≡ 0 = q .noSteps (omega arith) in
     let noActs : length (v .acts) ≡ 0 = q .noActs (omega arith) in
     record {
-      upto = p .upto;
       few = omega (arith, p .few);
       so =
           record {
@@ -242,7 +237,6 @@ item-after u i fields n v number b l w p s e =
     let noSteps : length (v .steps) ≡ 0 = q .noSteps (omega arith) in
     let noActs : length (v .acts) ≡ 0 = q .noActs (omega arith) in
     record {
-      upto = p .upto;
       few = omega (arith, p .few);
       so =
           record {
@@ -274,7 +268,6 @@ step-after u i fields n v s p r e =
     let q = p .so in
     let noActs : length (v .acts) ≡ 0 = q .noActs (omega arith) in
     record {
-      upto = p .upto;
       few = omega (arith, p .few, length-append (v .steps) (s ∷ []));
       so =
           record {
@@ -317,7 +310,6 @@ act-after :
 act-after u i v place act p t e k =
     let q = p .so in
     record {
-      upto = p .upto;
       few = omega (arith, p .few, length-append (v .acts) (a ∷ []));
       so =
           record {
@@ -387,12 +379,12 @@ blank : (a b : Bool) → cond a b false ≡ true → b ≡ true
 blank true b e = e
 blank false b e = absurd (false≢true e)
 
-leads-after : (u i n : ℕ) (v : Sofar) (l : List ℕ) → After u i v → Leading (After u (suc i)) (leads v l n)
+leads-after : (u i n : ℕ) (v : Sofar) (l : List ℕ) → After u i v → Leading (After u (suc i)) (leads u v l n)
 unfolding leads
 leads-after u i n v l p =
     either Q (v .named) _ _
-    (λ e. either Q (cond (isBlank l) (mayEnd (v .upto) (v .table) (v .k)) false) _ _
-    (λ b. next-after u i v p (blank (isBlank l) (mayEnd (v .upto) (v .table) (v .k)) b))
+    (λ e. either Q (cond (isBlank l) (mayEnd u (v .table) (v .k)) false) _ _
+    (λ b. next-after u i v p (blank (isBlank l) (mayEnd u (v .table) (v .k)) b))
     (λ b. either Q (mustEnd (v .table) (v .k)) _ _ (λ m. tt)
     (λ m. takes-after u i (length (fieldsOf l)) n v _ p (line-says (v .table) (v .form) (fieldsOf l) n))))
     (λ e. names (formOf (v .table) l))
@@ -409,22 +401,22 @@ leads-after u i n v l p =
 -- where a reading ends, after b lines at most: in the last table, u
 record Ended (u b : ℕ) (v : Sofar) : Type 0 where
   few : length (v .steps) + length (v .acts) ≤ b
-  so : Partial v
+  so : Partial u v
   named : v .named ≡ true
   table : v .table ≡ u
 
-end-after : (u i b n : ℕ) (v : Sofar) → i ≤ b → After u i v → Leading (Ended u b) (atEnd v n)
+end-after : (u i b n : ℕ) (v : Sofar) → i ≤ b → After u i v → Leading (Ended u b) (atEnd u v n)
 end-after u i b n v l p =
-    either (Leading (Ended u b)) (v .named && eqb (v .table) (v .upto)) _ _
-    (λ e. done (and-parts (v .named) (eqb (v .table) (v .upto)) e)) (λ e. tt)
+    either (Leading (Ended u b)) (v .named && eqb (v .table) u) _ _
+    (λ e. done (and-parts (v .named) (eqb (v .table) u) e)) (λ e. tt)
   where
-    done : (v .named ≡ true) × (eqb (v .table) (v .upto) ≡ true) → Ended u b v
+    done : (v .named ≡ true) × (eqb (v .table) u ≡ true) → Ended u b v
     done e =
         record {
           few = omega (arith, p .few);
           so = p .so;
           named = e .0;
-          table = eqb-true (v .table) (v .upto) (e .1) ∙ p .upto;
+          table = eqb-true (v .table) u (e .1);
         }
 
 pub goes-on :
@@ -439,13 +431,13 @@ read-after :
     (u i b n : ℕ) (ls : List (List ℕ)) (v : Sofar) →
     i + (length ls - 1) ≤ b →
     After u i v →
-    Leading (Ended u b) (readFrom n ls v)
+    Leading (Ended u b) (readFrom u n ls v)
 unfolding readFrom
 read-after u i b n [] v l p = end-after u i b n v (omega arith) p
 read-after u i b n (x ∷ []) v l p =
     either (Leading (Ended u b)) (isBlank x) _ _ (λ e. end-after u i b n v (omega arith) p) (λ e. tt)
 read-after u i b n (x ∷ y ∷ rest) v l p =
-    goes-on (After u (suc i)) (Ended u b) (leads v x n) (readFrom (suc n) (y ∷ rest)) (leads-after u i n v x p)
+    goes-on (After u (suc i)) (Ended u b) (leads u v x n) (readFrom u (suc n) (y ∷ rest)) (leads-after u i n v x p)
     (λ w q. read-after u (suc i) b (suc n) (y ∷ rest) w (omega arith) q)
 
 -- a text has at most one piece more than bytes
@@ -463,7 +455,7 @@ split-few b (x ∷ s) =
 accepted : (u : ℕ) (s : List ℕ) (v : Sofar) → 1 ≤ u → readingTo u s ≡ on v → Ended u (length s) v
 accepted u s v low e =
     subst (Leading (Ended u (length s))) e
-    (read-after u 0 (length s) 1 (split 10 s) (atStart u) (omega (arith, split-few 10 s)) (start-after u low))
+    (read-after u 0 (length s) 1 (split 10 s) atStart (omega (arith, split-few 10 s)) (start-after u low))
 
 -- an accepted text ends behind the names of its last table
 pub accepted-ends : (s : List ℕ) (v : Sofar) → readingOf s ≡ on v → (v .named ≡ true) × (v .table ≡ 3)

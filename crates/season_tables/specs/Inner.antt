@@ -35,7 +35,6 @@ actNumbers (a ∷ acts) = a .place ∷ actKind (a .act) ∷ actItem (a .act) ∷
 -- no step before the end of the catalog.
 pub record Holds (q : Seen) (catalog calls acts : List ℕ) (v : Sofar) : Type 0 where
   pub table : q .table ≡ v .table
-  pub upto : q .upto ≡ v .upto
   pub named : q .named ≡ v .named
   pub form : q .form ≡ v .form
   pub k : q .k ≡ v .k
@@ -55,9 +54,9 @@ pub record Holds (q : Seen) (catalog calls acts : List ℕ) (v : Sofar) : Type 0
   pub passed : q .last ≤ q .steps
   pub unstepped : q .table ≤ 1 → q .steps ≡ 0
 
--- the struct before the first line of a text whose last table is the one numbered `upto`
-abbrev pub nothingRead : ℕ → Seen
-nothingRead upto =
+-- the struct before the first line
+abbrev pub nothingRead : Seen
+nothingRead =
     record {
       table = 0;
       named = false;
@@ -67,16 +66,15 @@ nothingRead upto =
       steps = 0;
       acts = 0;
       last = 0;
-      upto = upto;
       form = 0;
       rule = WriteFirst;
       present = nonePresent;
       earlier = nonePresent;
     }
 
--- the verdict at the input's end, on line n
-abbrev pub endVerdict : Seen → ℕ → Verdict
-endVerdict q n = cond (q .named && eqb (q .table) (q .upto)) Taken (Refused (Heading n))
+-- the verdict at the end of an input whose last table is the one numbered `upto`, on line n
+abbrev pub endVerdict : ℕ → Seen → ℕ → Verdict
+endVerdict upto q n = cond (q .named && eqb (q .table) upto) Taken (Refused (Heading n))
 
 -- the answer to a line, or to all of them: taken, with what has been read then; or the refusal
 abbrev pub Leads : Led → Scanned → List ℕ → List ℕ → List ℕ → Type 0
@@ -89,8 +87,8 @@ wantsValues isNamed upto table k bytes =
     cond isNamed (cond (cond (eqb bytes 0) (mayEnd upto table k) false) false (not (mustEnd table k))) false
 
 -- if a line is one with values, these are its fields, as the program holds them
-abbrev pub Looked : Seen → List ℕ → List Field → Type 0
-Looked q l fs = wantsValues (q .named) (q .upto) (q .table) (q .k) (length l) ≡ true → fs ≡ map heldField (fieldsOf l)
+abbrev pub Looked : ℕ → Seen → List ℕ → List Field → Type 0
+Looked upto q l fs = wantsValues (q .named) upto (q .table) (q .k) (length l) ≡ true → fs ≡ map heldField (fieldsOf l)
 
 -- The answer leads where `led` says from what has been read, items, steps and acts being noted in these slices before and after.
 abbrev pub LeadsFrom : Seen → List ℕ → List ℕ → List ℕ → (Sofar → Led) → Scanned → List ℕ → List ℕ → List ℕ → Type 0
@@ -180,11 +178,11 @@ pub record ActTakeable (q : Seen) (place : ℕ) (act : Act) (calls acts : List �
   pub line : Takeable q (ActLine place act) catalog calls acts
 
 -- what a line asks: the struct and the slices hold what has been read, and its fields were looked at
-pub record Leadable (q : Seen) (l : List ℕ) (fields : List Field) (count : ℕ) (catalog calls acts : List ℕ) : Type 0 where
+pub record Leadable (upto : ℕ) (q : Seen) (l : List ℕ) (fields : List Field) (count : ℕ) (catalog calls acts : List ℕ) : Type 0 where
   pub room : Room q catalog calls acts
   pub judgeable : Judgeable fields count
   pub table : q .table ≤ 3
-  pub looked : Looked q l (take count fields)
+  pub looked : Looked upto q l (take count fields)
   pub read : Sofar
   pub holds : Holds q catalog calls acts read
 

@@ -15,12 +15,11 @@ pub record Placed : Type 0 where
   pub place : ℕ
   pub act : Act
 
--- What has been read: in which table, the tables counted from 0, and which of them is the last; whether behind the table's line of
--- names, and which of its headings that was, 0 before it; and what the value lines said. The catalog is that of its table: what arrives
--- and leaves is among the steps. Before the line of sizes k is 0, and the rule write-first.
+-- What has been read: in which table, the tables counted from 0; whether behind the table's line of names, and which of its headings that
+-- was, 0 before it; and what the value lines said. The catalog is that of its table: what arrives and leaves is among the steps. Before
+-- the line of sizes k is 0, and the rule write-first.
 pub record Sofar : Type 0 where
   pub table : ℕ
-  pub upto : ℕ
   pub named : Bool
   pub form : ℕ
   pub k : ℕ
@@ -30,9 +29,9 @@ pub record Sofar : Type 0 where
   pub acts : List Placed
   pub rule : Deduction
 
--- before the first line of a text whose last table is the one numbered `upto`
-abbrev pub atStart : ℕ → Sofar
-atStart upto = record { table = 0; upto = upto; named = false; form = 0; k = 0; h = 0; catalog = []; steps = []; acts = []; rule = WriteFirst }
+-- before the first line
+abbrev pub atStart : Sofar
+atStart = record { table = 0; named = false; form = 0; k = 0; h = 0; catalog = []; steps = []; acts = []; rule = WriteFirst }
 
 -- a line leads on, with what has been read then, or stops the reading
 pub data Led : Type 0 where
@@ -42,28 +41,28 @@ pub data Led : Type 0 where
 -- the line of names is read: heading f of its table
 abbrev pub nowNamed : Sofar → ℕ → Sofar
 nowNamed v f =
-    record { table = v .table; upto = v .upto; named = true; form = f; k = v .k; h = v .h; catalog = v .catalog; steps = v .steps; acts = v .acts; rule = v .rule }
+    record { table = v .table; named = true; form = f; k = v .k; h = v .h; catalog = v .catalog; steps = v .steps; acts = v .acts; rule = v .rule }
 
 -- the blank line is read: the next table's names are due
 abbrev pub nextTable : Sofar → Sofar
 nextTable v =
-    record { table = suc (v .table); upto = v .upto; named = false; form = 0; k = v .k; h = v .h; catalog = v .catalog; steps = v .steps; acts = v .acts; rule = v .rule }
+    record { table = suc (v .table); named = false; form = 0; k = v .k; h = v .h; catalog = v .catalog; steps = v .steps; acts = v .acts; rule = v .rule }
 
 abbrev pub withSizes : Sofar → ℕ → ℕ → Deduction → Sofar
 withSizes v k h r =
-    record { table = v .table; upto = v .upto; named = v .named; form = v .form; k = k; h = h; catalog = v .catalog; steps = v .steps; acts = v .acts; rule = r }
+    record { table = v .table; named = v .named; form = v .form; k = k; h = h; catalog = v .catalog; steps = v .steps; acts = v .acts; rule = r }
 
 abbrev pub withItem : Sofar → ℕ → ℕ → ℕ → Sofar
 withItem v b l w =
-    record { table = v .table; upto = v .upto; named = v .named; form = v .form; k = v .k; h = v .h; catalog = v .catalog ++ (listed b l w ∷ []); steps = v .steps; acts = v .acts; rule = v .rule }
+    record { table = v .table; named = v .named; form = v .form; k = v .k; h = v .h; catalog = v .catalog ++ (listed b l w ∷ []); steps = v .steps; acts = v .acts; rule = v .rule }
 
 abbrev pub withStep : Sofar → Step → Sofar
 withStep v s =
-    record { table = v .table; upto = v .upto; named = v .named; form = v .form; k = v .k; h = v .h; catalog = v .catalog; steps = v .steps ++ (s ∷ []); acts = v .acts; rule = v .rule }
+    record { table = v .table; named = v .named; form = v .form; k = v .k; h = v .h; catalog = v .catalog; steps = v .steps ++ (s ∷ []); acts = v .acts; rule = v .rule }
 
 abbrev pub withAct : Sofar → ℕ → Act → Sofar
 withAct v place act =
-    record { table = v .table; upto = v .upto; named = v .named; form = v .form; k = v .k; h = v .h; catalog = v .catalog; steps = v .steps; acts = v .acts ++ (record { place = place; act = act } ∷ []); rule = v .rule }
+    record { table = v .table; named = v .named; form = v .form; k = v .k; h = v .h; catalog = v .catalog; steps = v .steps; acts = v .acts ++ (record { place = place; act = act } ∷ []); rule = v .rule }
 
 -- "10 out of turn: `at` falls, or is not below the number of steps"; before the first act it falls from 0
 abbrev pub inTurn : Sofar → ℕ → Bool
@@ -109,32 +108,32 @@ abbrev pub namedBy : Sofar → Names → ℕ → Led
 namedBy v (Form f) n = on (nowNamed v f)
 namedBy v Unknown n = stop (Heading n)
 
--- a line l, ended by its line feed, on line n
-unfoldable pub leads : Sofar → List ℕ → ℕ → Led
-leads v l n =
+-- a line l, ended by its line feed, on line n of a text whose last table is the one numbered `upto`
+unfoldable pub leads : ℕ → Sofar → List ℕ → ℕ → Led
+leads upto v l n =
     cond (v .named)
-    (cond (cond (eqb (length l) 0) (mayEnd (v .upto) (v .table) (v .k)) false) (on (nextTable v))
+    (cond (cond (eqb (length l) 0) (mayEnd upto (v .table) (v .k)) false) (on (nextTable v))
     (cond (mustEnd (v .table) (v .k)) (stop (Malformed n))
     (takes v (lineIn (v .table) (v .form) (fieldsOf l) n) n)))
     (namedBy v (formOf (v .table) l) n)
 
 -- The input's end, on line n: all is read behind the names of the last table, else "the input ends where a line is due".
-abbrev pub atEnd : Sofar → ℕ → Led
-atEnd v n = cond (v .named && eqb (v .table) (v .upto)) (on v) (stop (Heading n))
+abbrev pub atEnd : ℕ → Sofar → ℕ → Led
+atEnd upto v n = cond (v .named && eqb (v .table) upto) (on v) (stop (Heading n))
 
 abbrev pub goesOn : Led → (Sofar → Led) → Led
 goesOn (on v) next = next v
 goesOn (stop r) next = stop r
 
 -- The lines from line n on. The last piece is what stands behind the last line feed: bytes there are a line without one.
-unfoldable pub readFrom : ℕ → List (List ℕ) → Sofar → Led
-readFrom n [] v = atEnd v n
-readFrom n (l ∷ []) v = cond (eqb (length l) 0) (atEnd v n) (stop (Malformed n))
-readFrom n (l ∷ m ∷ rest) v = goesOn (leads v l n) (readFrom (suc n) (m ∷ rest))
+unfoldable pub readFrom : ℕ → ℕ → List (List ℕ) → Sofar → Led
+readFrom upto n [] v = atEnd upto v n
+readFrom upto n (l ∷ []) v = cond (eqb (length l) 0) (atEnd upto v n) (stop (Malformed n))
+readFrom upto n (l ∷ m ∷ rest) v = goesOn (leads upto v l n) (readFrom upto (suc n) (m ∷ rest))
 
 -- what a text says whose last table is the one numbered `upto`, or the refusal of its first faulty line
 abbrev pub readingTo : ℕ → List ℕ → Led
-readingTo upto s = readFrom 1 (split 10 s) (atStart upto)
+readingTo upto s = readFrom upto 1 (split 10 s) atStart
 
 -- and a text of all four tables
 abbrev pub readingOf : List ℕ → Led

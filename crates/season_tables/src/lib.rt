@@ -19,8 +19,8 @@ use types::Refusal;
 use types::Step;
 
 // What has been read: in which table, and whether behind its line of names; the sizes, k 0 before they are read; how many items of the
-// catalogue, steps and acts, which stand in lent slices; the place of the last act; which table is the last, and which of its headings
-// this table has, 0 before its line of names; the rule of deduction, write-first before the sizes are read; and the items as all steps
+// catalogue, steps and acts, which stand in lent slices; the place of the last act; which of its headings this table has, 0 before its
+// line of names; the rule of deduction, write-first before the sizes are read; and the items as all steps
 // have left them, and as the steps before the place of the last act have.
 pub struct Seen {
     pub table: u32,
@@ -31,7 +31,6 @@ pub struct Seen {
     pub steps: usize,
     pub acts: usize,
     pub last: u32,
-    pub upto: u32,
     pub form: u32,
     pub rule: Deduction,
     pub present: Present,
@@ -84,9 +83,9 @@ pub fn wants_values(named: bool, upto: u32, table: u32, k: u32, bytes: usize) ->
     !must_end(table, k)
 }
 
-// Nothing is read of a text whose last table is the one numbered `upto`.
-pub fn at_start(upto: u32) -> Seen
-    ensures { λ r. ⌜ r ≡ nothingRead upto ⌝ }
+// Nothing is read.
+pub fn at_start() -> Seen
+    ensures { λ r. ⌜ r ≡ nothingRead ⌝ }
 {
     Seen {
         table: 0,
@@ -97,7 +96,6 @@ pub fn at_start(upto: u32) -> Seen
         steps: 0,
         acts: 0,
         last: 0,
-        upto: upto,
         form: 0,
         rule: Deduction::WriteFirst,
         present: season_items::none_present(),
@@ -174,7 +172,6 @@ fn take_sizes(seen: Seen, k: u32, h: u32, rule: Deduction, at: u32) -> Scanned
         steps: seen.steps,
         acts: seen.acts,
         last: seen.last,
-        upto: seen.upto,
         form: seen.form,
         rule: rule,
         present: present,
@@ -280,8 +277,10 @@ fn take_line(
     }
 }
 
-// A line that is ended by its line feed; its fields stand in `fields` if it is one with values.
+// A line, ended by its line feed, of a text whose last table is the one numbered `upto`; its fields stand in `fields` if it is one with
+// values.
 pub fn lead(
+    upto: u32,
     seen: Seen,
     text: &[u8],
     fields: [Field; 6],
@@ -291,28 +290,28 @@ pub fn lead(
     calls: &mut [u32],
     acts: &mut [u32],
 ) -> Scanned
-    requires { ⌜ Leadable seen (now text) fields count (now catalog) (now calls) (now acts) ⌝ }
-    ensures { λ r. ⌜ LeadsFrom seen (now (catalog .entry)) (now (calls .entry)) (now (acts .entry)) (λ v. leads v (now (text .entry)) at) r (now (catalog .exit)) (now (calls .exit)) (now (acts .exit)) ⌝ }
+    requires { ⌜ Leadable upto seen (now text) fields count (now catalog) (now calls) (now acts) ⌝ }
+    ensures { λ r. ⌜ LeadsFrom seen (now (catalog .entry)) (now (calls .entry)) (now (acts .entry)) (λ v. leads upto v (now (text .entry)) at) r (now (catalog .exit)) (now (calls .exit)) (now (acts .exit)) ⌝ }
     ensures { λ r. ⌜ Keeps seen (now (catalog .entry)) (now (calls .entry)) (now (acts .entry)) r (now (catalog .exit)) (now (calls .exit)) (now (acts .exit)) ⌝ }
 {
     let table = seen.table;
     if !seen.named {
         return take_names(seen, season_lines::form_of(table, text), at);
     }
-    if wants_values(true, seen.upto, table, seen.k, text.len()) {
+    if wants_values(true, upto, table, seen.k, text.len()) {
         let line = season_lines::line_in(table, seen.form, fields, count, at);
         return take_line(seen, line, at, catalog, calls, acts);
     }
     take_blank(seen, text.len(), at)
 }
 
-// The input's end: all is read behind the names of the last table.
-pub fn ended(seen: Seen, at: u32) -> Scanned
-    ensures { λ r. ⌜ (r .verdict ≡ endVerdict seen at) × (r .seen ≡ seen) ⌝ }
-    ensures { λ r. ⌜ LeadsBy seen (λ v. atEnd v at) r ⌝ }
+// The end of an input whose last table is the one numbered `upto`: all is read behind its names.
+pub fn ended(upto: u32, seen: Seen, at: u32) -> Scanned
+    ensures { λ r. ⌜ (r .verdict ≡ endVerdict upto seen at) × (r .seen ≡ seen) ⌝ }
+    ensures { λ r. ⌜ LeadsBy seen (λ v. atEnd upto v at) r ⌝ }
 {
     if seen.named {
-        if seen.table == seen.upto {
+        if seen.table == upto {
             return taken(seen);
         }
     }

@@ -237,9 +237,8 @@ module _ (n : ℕ) (l : List ℕ) (rest : List (List ℕ)) where
 
 -- ## Each line that leads on keeps it
 
--- the log's reader will say x; the text has four tables
+-- the log's reader will say x
 record Kept (x : Logged) (ls : List (List ℕ)) (v : Sofar) : Type 0 where
-  last : v .upto ≡ 3
   line : ℕ
   form : ℕ
   its : v .table ≡ 2 → v .named ≡ true → form ≡ v .form
@@ -254,7 +253,6 @@ module _ (x : Logged) (l : List ℕ) (rest : List (List ℕ)) (h : lacks 10 l �
   names-kept : (f : ℕ) → v .named ≡ false → formOf (v .table) l ≡ Form f → Kept x rest (nowNamed v f)
   names-kept f b e =
       record {
-        last = q .last;
         line = 2;
         form = headingBehind (v .table) (q .form) f;
         its = λ t z. ap (λ (table : ℕ). headingBehind table (q .form) f) t;
@@ -264,7 +262,6 @@ module _ (x : Logged) (l : List ℕ) (rest : List (List ℕ)) (h : lacks 10 l �
   blank-kept : v .named ≡ true → length l ≡ 0 → Kept x rest (nextTable v)
   blank-kept b e =
       record {
-        last = q .last;
         line = q .line;
         form = q .form;
         its = λ t z. absurd (false≢true z);
@@ -287,7 +284,6 @@ module _ (x : Logged) (l : List ℕ) (rest : List (List ℕ)) (h : lacks 10 l �
         ap (λ (form : ℕ). lineIn (v .table) form (fieldsOf l) n) (q .its t b) ∙ e
         in
         record {
-          last = q .last;
           line = suc (q .line);
           form = q .form;
           its = q .its;
@@ -306,16 +302,16 @@ module _ (x : Logged) (l : List ℕ) (rest : List (List ℕ)) (h : lacks 10 l �
     unfolding takes
     takes-kept n (Sizes k j r) e s =
         either (Leading (Kept x rest)) (leb j k) _ _
-        (λ _. record { last = q .last; line = q .line; form = q .form; its = q .its; says = other (λ t. omega (arith, s .0)) }) (λ _. tt)
+        (λ _. record { line = q .line; form = q .form; its = q .its; says = other (λ t. omega (arith, s .0)) }) (λ _. tt)
     takes-kept n (ItemLine i c d w) e s =
         either (Leading (Kept x rest)) (eqb i (length (v .catalog))) _ _
-        (λ _. record { last = q .last; line = q .line; form = q .form; its = q .its; says = other (λ t. omega (arith, s .0)) }) (λ _. tt)
+        (λ _. record { line = q .line; form = q .form; its = q .its; says = other (λ t. omega (arith, s .0)) }) (λ _. tt)
     takes-kept n (StepLine z) e s =
         either (Leading (Kept x rest)) (eqb (itemRefusal (v .k) (catalogAfter (v .catalog) (v .steps)) z) 0) _ _ (λ _. step-kept n z (s .0) e) (λ _. tt)
     takes-kept n (ActLine place act) e s =
         either (Leading (Kept x rest)) (inTurn v place) _ _
         (λ _. either (Leading (Kept x rest)) (eqb (ifKnown (catalogAfter (v .catalog) (take place (v .steps))) (actItem act) 0) 0) _ _
-        (λ _. record { last = q .last; line = q .line; form = q .form; its = q .its; says = other (λ t. omega (arith, s .0)) }) (λ _. tt))
+        (λ _. record { line = q .line; form = q .form; its = q .its; says = other (λ t. omega (arith, s .0)) }) (λ _. tt))
         (λ _. tt)
     takes-kept n (Refused r) e s = tt
 
@@ -332,12 +328,12 @@ module _ (x : Logged) (l : List ℕ) (rest : List (List ℕ)) (h : lacks 10 l �
       go false e = takes-kept b (eqb-false (length l) 0 e) n line refl (line-says (v .table) (v .form) (fieldsOf l) n)
 
   -- any line
-  leads-kept : (n : ℕ) → Leading (Kept x rest) (leads v l n)
+  leads-kept : (n : ℕ) → Leading (Kept x rest) (leads 3 v l n)
   unfolding leads
   leads-kept n =
       either Q (v .named) _ _
-      (λ b. either Q (cond (isBlank l) (mayEnd (v .upto) (v .table) (v .k)) false) _ _
-      (λ e. blank-kept b (eqb-true (length l) 0 (first (isBlank l) (mayEnd (v .upto) (v .table) (v .k)) e)))
+      (λ b. either Q (cond (isBlank l) (mayEnd 3 (v .table) (v .k)) false) _ _
+      (λ e. blank-kept b (eqb-true (length l) 0 (first (isBlank l) (mayEnd 3 (v .table) (v .k)) e)))
       (λ e. either Q (mustEnd (v .table) (v .k)) _ _ (λ m. tt) (λ m. values-kept n b)))
       (λ b. names (formOf (v .table) l) refl b)
     where
@@ -359,14 +355,14 @@ record Agrees (x : Logged) (v : Sofar) : Type 0 where
   form : ℕ
   says : x ≡ steps form (v .steps)
 
-end-agrees : (x : Logged) (n : ℕ) (ls : List (List ℕ)) (v : Sofar) → Kept x ls v → Leading (Agrees x) (atEnd v n)
+end-agrees : (x : Logged) (n : ℕ) (ls : List (List ℕ)) (v : Sofar) → Kept x ls v → Leading (Agrees x) (atEnd 3 v n)
 end-agrees x n ls v q =
-    either (Leading (Agrees x)) (v .named && eqb (v .table) (v .upto)) _ _
-    (λ e. done (and-parts (v .named) (eqb (v .table) (v .upto)) e .1)) (λ e. tt)
+    either (Leading (Agrees x)) (v .named && eqb (v .table) 3) _ _
+    (λ e. done (and-parts (v .named) (eqb (v .table) 3) e .1)) (λ e. tt)
   where
-    done : eqb (v .table) (v .upto) ≡ true → Agrees x v
+    done : eqb (v .table) 3 ≡ true → Agrees x v
     done e =
-        let t : v .table ≡ 3 = eqb-true (v .table) (v .upto) e ∙ q .last in
+        let t : v .table ≡ 3 = eqb-true (v .table) 3 e in
         record {
           form = q .form;
           says =
@@ -375,12 +371,12 @@ end-agrees x n ls v q =
               ∙ ap (steps (q .form)) (append-nil (v .steps));
         }
 
-read-agrees : (x : Logged) (n : ℕ) (ls : List (List ℕ)) (v : Sofar) → AllLack ls → Kept x ls v → Leading (Agrees x) (readFrom n ls v)
+read-agrees : (x : Logged) (n : ℕ) (ls : List (List ℕ)) (v : Sofar) → AllLack ls → Kept x ls v → Leading (Agrees x) (readFrom 3 n ls v)
 unfolding readFrom AllLack
 read-agrees x n [] v h q = end-agrees x n [] v q
 read-agrees x n (l ∷ []) v h q = either (Leading (Agrees x)) (isBlank l) _ _ (λ e. end-agrees x n (l ∷ []) v q) (λ e. tt)
 read-agrees x n (l ∷ m ∷ rest) v h q =
-    goes-on (Kept x (m ∷ rest)) (Agrees x) (leads v l n) (readFrom (suc n) (m ∷ rest)) (leads-kept x l (m ∷ rest) (h .0) v q n)
+    goes-on (Kept x (m ∷ rest)) (Agrees x) (leads 3 v l n) (readFrom 3 (suc n) (m ∷ rest)) (leads-kept x l (m ∷ rest) (h .0) v q n)
     (λ w p. read-agrees x (suc n) (m ∷ rest) w (h .1) p)
 
 -- a text that is not too long
@@ -434,8 +430,8 @@ two-readers s v few e =
     let start : onward [] third ≡ x = onward-none third ∙ short-log (thirdTable s) (omega (arith, third-few s)) in
     let agrees : Agrees x v =
     subst (Leading (Agrees x)) e
-    (read-agrees x 1 (split 10 s) (atStart 3) (lines-lack s)
-    (record { last = refl; line = 0; form = 0; its = λ t z. absurd (false≢true z); says = start }))
+    (read-agrees x 1 (split 10 s) atStart (lines-lack s)
+    (record { line = 0; form = 0; its = λ t z. absurd (false≢true z); says = start }))
     in
     agrees .says ∙ ap (λ (form : ℕ). steps form (v .steps)) (subst (Under (headingIn (thirdTable s))) (agrees .says) (log-under (thirdTable s)))
 

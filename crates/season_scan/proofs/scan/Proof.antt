@@ -19,7 +19,7 @@ use Rattle.season_scan.proofs.scan.Statement.{statement}
 use Rattle.season_scan.proofs.scan.Tie as tie
 
 abbrev Inv-loop : tie.InvT-loop
-Inv-loop s upto catalog calls acts seen at line end names fields₀ count₀ i₀ more₀ fields count i more = Fielded s seen at end names fields count i more
+Inv-loop s upto catalog calls acts seen at line end names fields₀ count₀ i₀ more₀ fields count i more = Fielded upto s seen at end names fields count i more
 
 abbrev μ-loop : tie.MeasureT-loop
 μ-loop s upto catalog calls acts seen at line end names fields₀ count₀ i₀ more₀ fields count i more = end + 1 - i
@@ -73,7 +73,7 @@ fielded :
     c .loop .more ≡ t →
     (let a = c .before .before .before .before in
     let l = c .loop in
-    Fielded (text a) (a .before .before .before .lines .seen) (from a) (to a) (c .before .before .names-in .result) (l .fields) (l .count) (l .i) t)
+    Fielded (a .before .before .before .before .before .before .before .before .before .args .upto) (text a) (a .before .before .before .lines .seen) (from a) (to a) (c .before .before .names-in .result) (l .fields) (l .count) (l .i) t)
 fielded c t e = rw e at (c .loop .inv)
 
 -- where the field ends, and what it is
@@ -110,9 +110,9 @@ lines-of r = r .before .before .before .before .before .before .before .before .
 as-long :
     (r : tie.After-lead Inv-loop μ-loop Inv-lines μ-lines) →
     (let l = lines-of r .lines in
-    let p = r .lead .last .1 .1 .1 .1 .1 in
+    let p = r .lead .last .1 .1 .1 .1 .1 .1 in
     AsLong (l .catalog) (l .calls) (l .acts) (p .0) (p .1 .0) (p .1 .1 .0))
-as-long r = let k = r .lead .kept .1 .1 .1 .1 .1 in (k .0, k .1 .0, k .1 .1 .0)
+as-long r = let k = r .lead .kept .1 .1 .1 .1 .1 .1 in (k .0, k .1 .0, k .1 .1 .0)
 
 at-start-requires : tie.Need-at-start-requires Inv-loop μ-loop Inv-lines μ-lines
 at-start-requires c κs = search needs
@@ -155,7 +155,7 @@ wants-values-requires c κs = search needs
 loop-holds : tie.Need-loop-holds Inv-loop μ-loop Inv-lines μ-lines
 loop-holds c =
     let names = c .before .names-in in
-    field-none _ _ _ _ _ _ _ refl (names .ensures .0) (names .ensures .1) (omega arith) (c .wants-values .ensures)
+    field-none _ _ _ _ _ _ _ _ refl (names .ensures .0) (names .ensures .1) (omega arith) (c .wants-values .ensures)
 
 sub-find-2 : tie.Need-sub-find-2 Inv-loop μ-loop Inv-lines μ-lines
 sub-find-2 c = fielded (c .before) true (c .loop-test .taken) .going refl .0
@@ -223,7 +223,7 @@ loop-again : tie.Need-loop-again Inv-loop μ-loop Inv-lines μ-lines
 loop-again c =
     let f = c .before .before .before in
     let b = f .before .before in
-    field-more _ _ _ _ _ _ _ _ _ _ (found-le (b .before .before .before .before .before .before .before))
+    field-more _ _ _ _ _ _ _ _ _ _ _ (found-le (b .before .before .before .before .before .before .before))
     (fielded (b .before .before .before) true (b .before .before .loop-test .taken)) (b .find2 .ensures) (field-is f) _
     (cc) (leb-false _ _ (c .if4 .left)) (sym (c .before .before .is-empty .ensures) ∙ c .before .if3 .left)
 
@@ -327,7 +327,7 @@ returns-3 c =
     (λ w. inr (leb-true (l .before .before .names-in .result) (l .loop .count) (w .1 .taken))) (c .before .if3 .came) in
     malformed-here _ _ _ _ _ _ _ _ _ _ _ (a .before .before .before .lines .inv) _ (found a) (l .before .before .before .if2 .left)
     (c .stopped2 .result)
-    (h .going refl .1) (field-malformed _ _ _ _ _ _ _ _ _ _ (found-le a) h (b .find2 .ensures) (field-is f) _ bad)
+    (h .going refl .1) (field-malformed _ _ _ _ _ _ _ _ _ _ _ (found-le a) h (b .find2 .ensures) (field-is f) _ bad)
     (c .stopped2 .ensures .0) (c .stopped2 .ensures .1)
 
 same-length-10 : tie.Need-same-length-10 Inv-loop μ-loop Inv-lines μ-lines

@@ -24,7 +24,7 @@ take-names-requires c κs = search needs
 returns : tie.Need-returns
 returns c =
     let a = c .before .before .before .before .before .before .before .before .args in (
-      lead-names (a .seen) (a .catalog .now) (a .calls .now) (a .acts .now) (a .text .now) (a .at) (c .take-names .result) (c .before .form-of .result) (not-true _ (c .before .before .if1 .taken)) (c .before .form-of .ensures) (c .take-names .ensures .0),
+      lead-names (a .upto) (a .seen) (a .catalog .now) (a .calls .now) (a .acts .now) (a .text .now) (a .at) (c .take-names .result) (c .before .form-of .result) (not-true _ (c .before .before .if1 .taken)) (c .before .form-of .ensures) (c .take-names .ensures .0),
       keeps-all (a .seen) (a .catalog .now) (a .calls .now) (a .acts .now) (c .take-names .result) (c .take-names .ensures .1),
     )
 
@@ -55,7 +55,7 @@ returns-2 c =
     let a = c .before .before .before .before .before .before .before .before .before .before .before .before .before .before .before .before .before .before .before .args in
     let p = c .before .before .before .before .before .before .take-line in
     let line = c .before .before .before .before .before .before .before .before .before .before .line-in in (
-      lead-values (a .seen) (a .catalog .now) (a .calls .now) (a .acts .now) (a .text .now) (a .at) (p .result) (take (a .count) (a .fields)) (line .result) (p .last .1 .1 .1 .0) (p .last .1 .1 .1 .1 .0) (p .last .1 .1 .1 .1 .1 .0) (c .before .before .before .before .before .before .before .before .before .before .before .before .wants-values .result) (not-false _ (c .before .before .before .before .before .before .before .before .before .before .before .before .before .if1 .left)) (c .before .before .before .before .before .before .before .before .before .before .before .before .wants-values .ensures) (c .before .before .before .before .before .before .before .before .before .before .before .if2 .taken) (c .before .before .before .before .before .before .before .before .before .before .before .before .before .before .before .before .before .before .before .pre .looked) (line .ensures) (p .ensures .0),
+      lead-values (a .upto) (a .seen) (a .catalog .now) (a .calls .now) (a .acts .now) (a .text .now) (a .at) (p .result) (take (a .count) (a .fields)) (line .result) (p .last .1 .1 .1 .0) (p .last .1 .1 .1 .1 .0) (p .last .1 .1 .1 .1 .1 .0) (c .before .before .before .before .before .before .before .before .before .before .before .before .wants-values .result) (not-false _ (c .before .before .before .before .before .before .before .before .before .before .before .before .before .if1 .left)) (c .before .before .before .before .before .before .before .before .before .before .before .before .wants-values .ensures) (c .before .before .before .before .before .before .before .before .before .before .before .if2 .taken) (c .before .before .before .before .before .before .before .before .before .before .before .before .before .before .before .before .before .before .before .pre .looked) (line .ensures) (p .ensures .0),
       p .ensures .1,
     )
 
@@ -65,7 +65,7 @@ take-blank-requires c κs = search needs
 returns-3 : tie.Need-returns-3
 returns-3 c =
     let a = c .before .before .before .before .before .before .before .before .before .args in (
-      lead-blank (a .seen) (a .catalog .now) (a .calls .now) (a .acts .now) (a .text .now) (a .at) (c .take-blank .result) (c .before .before .wants-values .result) (not-false _ (c .before .before .before .if1 .left)) (c .before .before .wants-values .ensures) (c .before .if2 .left) (c .take-blank .ensures .0),
+      lead-blank (a .upto) (a .seen) (a .catalog .now) (a .calls .now) (a .acts .now) (a .text .now) (a .at) (c .take-blank .result) (c .before .before .wants-values .result) (not-false _ (c .before .before .before .if1 .left)) (c .before .before .wants-values .ensures) (c .before .if2 .left) (c .take-blank .ensures .0),
       keeps-all (a .seen) (a .catalog .now) (a .calls .now) (a .acts .now) (c .take-blank .result) (c .take-blank .ensures .1),
     )
 
