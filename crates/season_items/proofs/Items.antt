@@ -18,32 +18,33 @@ use Rattle.marks.specs.Inner.{marks, firstSet}
 use Rattle.marks.proofs.Laws.{NextMark, next-is}
 use Rattle.catalog_bytes.specs.Catalogs.{itemIn}
 use Rattle.season_items.specs.declared.Present.{Present}
-use Rattle.season_items.specs.Inner.{HasItems, Tells, TellsKnown, TellsRefusal, Lookable}
+use Rattle.season_items.specs.Inner.{HasItems, Tells, knownNumber, TellsKnown, TellsRefusal, Lookable}
 
 -- ## 6, 20 or 0, by the marks
 
 module _ (p : Present) (i : ℕ) where
-  pub known-none : p .n ≤ i → TellsKnown p i 6
-  known-none h cat few t = rw (le-ltb i (length cat) (omega (arith, t .count)))
+  pub known-none : p .n ≤ i → 6 ≡ knownNumber p i
+  known-none h = rw (le-ltb i (p .n) h)
 
   -- m is the first mark at or after i
-  module _ (m : ℕ) (h : i < p .n) (e : m ≡ i + firstSet (drop i (marks (p .left)))) where
-    next : i ≤ 256 → NextMark (p .left) i m
-    next l = next-is (p .left) i m l e
+  module _ (m : ℕ) (few : p .n ≤ 256) (h : i < p .n) (e : m ≡ i + firstSet (drop i (marks (p .left)))) where
+    next : NextMark (p .left) i m
+    next = next-is (p .left) i m (omega arith) e
 
-    pub known-left : m ≡ i → TellsKnown p i 20
-    known-left same cat few t =
-        let l : i < 256 = omega (arith, t .count) in
-        let left : itemAt cat i .left ≡ true =
-        sym (t .marks i l) ∙ ap (marked (p .left)) (sym same) ∙ next (omega arith) .here (omega arith) in
-        rw (lt-ltb i (length cat) (omega (arith, t .count)), left)
+    pub known-left : m ≡ i → 20 ≡ knownNumber p i
+    known-left same = rw (lt-ltb i (p .n) h, ap (marked (p .left)) (sym same) ∙ next .here (omega arith))
 
-    pub known-there : m ≢ i → TellsKnown p i 0
-    known-there other cat few t =
-        let l : i < 256 = omega (arith, t .count) in
-        let q : NextMark (p .left) i m = next (omega arith) in
-        let left : itemAt cat i .left ≡ false = sym (t .marks i l) ∙ q .before i (omega arith) (omega (arith, q .after)) in
-        rw (lt-ltb i (length cat) (omega (arith, t .count)), left)
+    pub known-there : m ≢ i → 0 ≡ knownNumber p i
+    known-there other = rw (lt-ltb i (p .n) h, next .before i (omega arith) (omega (arith, next .after)))
+
+  -- and so for whatever catalog that is known of
+  pub known-tells : (number : ℕ) → number ≡ knownNumber p i → TellsKnown p i number
+  known-tells number e cat few t =
+      e ∙ ap (λ (n : ℕ). cond (ltb i n) (cond (marked (p .left) i) 20 0) 6) (t .count) ∙ go (ltb i (length cat)) refl
+    where
+      go : (b : Bool) → ltb i (length cat) ≡ b → _≡_ {A = ℕ} (cond b (cond (marked (p .left) i) 20 0) 6) (cond b (cond (itemAt cat i .left) 20 0) 6)
+      go true z = ap (λ (u : Bool). cond u 20 0) (t .marks i (omega (arith, ltb-true i (length cat) z)))
+      go false z = refl
 
 -- ## 6, 20, 7 or 0, by the bytes too
 
@@ -93,15 +94,15 @@ look-few p catalog h = omega (arith, h .few, h .tells .count)
 pub known-inside :
     (p : Present) (catalog : List ℕ) (i number : ℕ) →
     Lookable p catalog →
-    TellsKnown p i number →
+    number ≡ knownNumber p i →
     number ≡ 0 →
     i < 256
 known-inside p catalog i number h e f =
-    omega (arith, h .few, known-below (h .items) i (sym (e (h .items) (h .few) (h .tells)) ∙ f))
+    omega (arith, h .few, known-below (h .items) i (sym (known-tells p i number e (h .items) (h .few) (h .tells)) ∙ f))
 
-module _ (k : ℕ) (p : Present) (catalog : List ℕ) (i number : ℕ) (few : p .n ≤ 256) (e : TellsKnown p i number) where
+module _ (k : ℕ) (p : Present) (catalog : List ℕ) (i number : ℕ) (few : p .n ≤ 256) (e : number ≡ knownNumber p i) where
   told-known : (cat : Catalog) → Tells cat p → number ≡ ifKnown cat i 0
-  told-known cat t = e cat (omega (arith, t .count)) t
+  told-known cat t = known-tells p i number e cat (omega (arith, t .count)) t
 
   pub item-unknown : number ≢ 0 → TellsRefusal k p catalog (Read i) number
   item-unknown f cat t h = told-known cat t ∙ known-first cat i _ (λ z. f (told-known cat t ∙ z))
@@ -131,6 +132,6 @@ module _ (k : ℕ) (p : Present) (catalog : List ℕ) (s : Step) (i b l w : ℕ)
 pub retire-known :
     (k : ℕ) (p : Present) (catalog : List ℕ) (i number : ℕ) →
     p .n ≤ 256 →
-    TellsKnown p i number →
+    number ≡ knownNumber p i →
     TellsRefusal k p catalog (Retire i) number
 retire-known k p catalog i number few e cat t h = told-known k p catalog i number few e cat t

@@ -11,8 +11,8 @@ use native.Mathlib.Nat.{zero-div}
 use native.Mathlib.Numerals.{add-one}
 use lib.ListN.{length, getD, set, take, drop, replicate, getD-replicate, take-append-drop}
 use lib.Seq.{sets, set-out, length-sets, take-suc}
-use lib.Dec.{eqb, leb}
-use borrow.Author.Tests.{eqb-true, leb-true}
+use lib.Dec.{eqb, leb, ltb}
+use borrow.Author.Tests.{eqb-true, leb-true, eq-eqb, ne-eqb, lt-ltb, le-ltb, ltb-true, ltb-false}
 use Rattle.types.specs.declared.Step.{Step}
 use Rattle.types.specs.declared.Step.the-variants.{Read, Write, Flush, Arrive, Retire}
 use Rattle.types.specs.declared.Numbers.{Numbers}
@@ -24,13 +24,13 @@ use Rattle.landlord.specs.Calls.{inRange, itemRefusal}
 use Rattle.landlord.proofs.Catalogs.{Follows, one-longer, arrived-other, arrived-here, below-more, retired-here, retired-other, retired-length, next-follows, after-follows, after-append, after-more}
 use Rattle.marks.specs.Marks.{bit, marked}
 use Rattle.marks.specs.Inner.{marks}
-use Rattle.marks.proofs.Laws.{marked-set-same, marked-set-other}
+use Rattle.marks.proofs.Laws.{marked-at, marked-set-same, marked-set-other}
 use Rattle.catalog_bytes.specs.Catalogs.{itemIn}
 use Rattle.catalog_bytes.specs.Inner.{itemBytes, catalogOfFirst}
 use Rattle.catalog_bytes.proofs.Laws.{first-length, first-at, one-more}
 use Rattle.season_items.specs.declared.Present.{Present}
 use Rattle.landlord.specs.CallNumbers.{numbersBehind}
-use Rattle.season_items.specs.Inner.{HasItems, Tells, nonePresent, Advances, Walks, CatchesUp, withArrival}
+use Rattle.season_items.specs.Inner.{HasItems, Tells, nonePresent, isLeaving, Advanced, Advances, Walks, CatchesUp, withArrival}
 use Rattle.season_items.proofs.Notes.{put-sets, put-before, noted-past, noted-step}
 
 -- ## How many there are, and which have left
@@ -64,17 +64,17 @@ tells-more cat p n b l w e t =
 
 module _ (p : Present) (n : Numbers) where
   -- an arrival
-  pub advanced-arrive : n .kind ≡ 65 → Advances p n (record { n = p .n + 1; left = p .left })
-  advanced-arrive e cat few t = rw (step-arrive n e) (tells-more cat p (p .n + 1) (n .blocks) (n .load) (n .write) refl t)
+  arrive-tells : n .kind ≡ 65 → Advances p n (record { n = p .n + 1; left = p .left })
+  arrive-tells e cat few t = rw (step-arrive n e) (tells-more cat p (p .n + 1) (n .blocks) (n .load) (n .write) refl t)
 
   -- a retirement of an item that is there
-  pub advanced-retire :
+  retire-tells :
       (left : List ℕ) →
       n .kind ≡ 81 →
       n .item < p .n →
       marks left ≡ set (marks (p .left)) (n .item) true →
       Advances p n (record { n = p .n; left = left })
-  advanced-retire left e l m cat few t =
+  retire-tells left e l m cat few t =
       rw (step-retire n e)
       (record { count = omega (arith, t .count, retired-length cat (n .item)); marks = λ j b. each j b (ℕ-discrete j (n .item)) })
     where
@@ -91,8 +91,8 @@ module _ (p : Present) (n : Numbers) where
           ∙ sym (ap (λ (x : Item). x .left) (retired-other cat (n .item) j q))
 
   -- any other step, and a retirement of an item that is not there
-  pub advanced-same : n .kind ≢ 65 → (n .kind ≡ 81 → p .n ≤ n .item) → Advances p n p
-  advanced-same a q cat few t = subst (λ (c : Catalog). Tells c p) (sym same) t
+  same-tells : n .kind ≢ 65 → (n .kind ≡ 81 → p .n ≤ n .item) → Advances p n p
+  same-tells a q cat few t = subst (λ (c : Catalog). Tells c p) (sym same) t
     where
       go : Dec (n .kind ≡ 82) → Dec (n .kind ≡ 87) → Dec (n .kind ≡ 81) → catalogNext cat (stepOf n) ≡ cat
       go (yes e) x y = ap (catalogNext cat) (step-read n e)
@@ -103,6 +103,65 @@ module _ (p : Present) (n : Numbers) where
 
       same : catalogNext cat (stepOf n) ≡ cat
       same = go (ℕ-discrete (n .kind) 82) (ℕ-discrete (n .kind) 87) (ℕ-discrete (n .kind) 81)
+
+-- the same count and marks tell the same
+same-known : (cat : Catalog) (p r : Present) → r .n ≡ p .n → marks (r .left) ≡ marks (p .left) → Tells cat p → Tells cat r
+same-known cat p r e m t =
+    record {
+      count = e ∙ t .count;
+      marks = λ i l. sym (marked-at (r .left) i l) ∙ ap (λ (bs : List Bool). getD bs i false) m ∙ marked-at (p .left) i l ∙ t .marks i l;
+    }
+
+module _ (p : Present) (n : Numbers) where
+  -- each way through `advanced`
+  pub advanced-arrive : n .kind ≡ 65 → Advanced p n (record { n = p .n + 1; left = p .left })
+  advanced-arrive e = record { count = rw (eq-eqb (n .kind) 65 e); left = rw (ne-eqb (n .kind) 81 (λ z. omega arith)) }
+
+  pub advanced-retire :
+      (left : List ℕ) →
+      n .kind ≡ 81 →
+      n .item < p .n →
+      marks left ≡ set (marks (p .left)) (n .item) true →
+      Advanced p n (record { n = p .n; left = left })
+  advanced-retire left e l m = record { count = rw (ne-eqb (n .kind) 65 (λ z. omega arith)); left = rw (eq-eqb (n .kind) 81 e, lt-ltb (n .item) (p .n) l) m }
+
+  pub advanced-same : n .kind ≢ 65 → (n .kind ≡ 81 → p .n ≤ n .item) → Advanced p n p
+  advanced-same a q = record { count = rw (ne-eqb (n .kind) 65 a); left = go (ℕ-discrete (n .kind) 81) }
+    where
+      go : Dec (n .kind ≡ 81) → marks (p .left) ≡ cond (isLeaving p n) (set (marks (p .left)) (n .item) true) (marks (p .left))
+      go (yes e) = rw (eq-eqb (n .kind) 81 e, le-ltb (n .item) (p .n) (q e))
+      go (no e) = rw (ne-eqb (n .kind) 81 e)
+
+  -- and what is known then, of whatever catalog this is known of
+  pub advanced-tells : (r : Present) → Advanced p n r → Advances p n r
+  advanced-tells r h cat few t = go (ℕ-discrete (n .kind) 65) (ℕ-discrete (n .kind) 81) (ltb (n .item) (p .n)) refl
+    where
+      unmoved : (n .kind ≡ 81 → p .n ≤ n .item) → marks (r .left) ≡ marks (p .left)
+      unmoved q = h .left ∙ go (ℕ-discrete (n .kind) 81)
+        where
+          go : Dec (n .kind ≡ 81) → cond (isLeaving p n) (set (marks (p .left)) (n .item) true) (marks (p .left)) ≡ marks (p .left)
+          go (yes e) = rw (eq-eqb (n .kind) 81 e, le-ltb (n .item) (p .n) (q e))
+          go (no e) = rw (ne-eqb (n .kind) 81 e)
+
+      same : n .kind ≢ 65 → r .n ≡ p .n
+      same a = h .count ∙ rw (ne-eqb (n .kind) 65 a)
+
+      next : Catalog
+      next = catalogNext cat (stepOf n)
+
+      go : Dec (n .kind ≡ 65) → Dec (n .kind ≡ 81) → (b : Bool) → ltb (n .item) (p .n) ≡ b → Tells next r
+      go (yes e) y b z =
+          same-known next (record { n = p .n + 1; left = p .left }) r (h .count ∙ rw (eq-eqb (n .kind) 65 e)) (unmoved (λ f. absurd (omega arith)))
+          (arrive-tells p n e cat few t)
+      go (no a) (yes e) true z =
+          same-known next (record { n = p .n; left = r .left }) r (same a) refl
+          (retire-tells p n (r .left) e (ltb-true (n .item) (p .n) z) (h .left ∙ rw (eq-eqb (n .kind) 81 e, z)) cat few t)
+      go (no a) (yes e) false z =
+          let l : n .kind ≡ 81 → p .n ≤ n .item = λ f. ltb-false (n .item) (p .n) z in
+          same-known next p r (same a) (unmoved l) (same-tells p n a l cat few t)
+      go (no a) (no e) b z =
+          let l : n .kind ≡ 81 → p .n ≤ n .item = λ f. absurd (e f) in
+          same-known next p r (same a) (unmoved l) (same-tells p n a l cat few t)
 
 -- ## The catalog before a step
 

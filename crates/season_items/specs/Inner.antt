@@ -1,11 +1,11 @@
 -- What is known of the items after some steps, the items as bytes, acts as numbers, and what the functions of this crate ask
 -- and give. Assumes nothing.
-use mathlib.Core.{Path._≡_, List.{List, [], _∷_, _++_}}
+use mathlib.Core.{Path._≡_, Bool.{Bool, true, cond, _&&_}, List.{List, [], _∷_, _++_}}
 use Prim.Native.Nat.{ℕ, _+_, _*_, _≤_, _<_}
-use lib.{ListN.{length, take, drop, replicate}, Seq.sets}
+use lib.{ListN.{length, take, drop, getD, replicate, set}, Seq.sets, Dec.{ltb, eqb}}
 use Rattle.types.specs.{declared.{Step.{Step, the-variants.{Read, Write, Flush, Arrive, Retire}}, Numbers.Numbers, Act.Act}, Types.{stepOf, actKind, actItem}}
 use Rattle.landlord.specs.{Catalog.{Catalog, itemAt, listed, catalogNext, catalogAfter}, Calls.{ifKnown, itemRefusal}, CallNumbers.callNumbers}
-use Rattle.marks.specs.Marks.{marked}
+use Rattle.marks.specs.{Marks.marked, Inner.marks}
 use Rattle.catalog_bytes.specs.{Catalogs.itemIn, Inner.itemBytes}
 use Rattle.season_items.specs.declared.Present.{Present}
 
@@ -39,7 +39,11 @@ withArrival (Retire i) bytes = bytes
 abbrev pub nonePresent : Present
 nonePresent = record { n = 0; left = replicate 4 0 }
 
--- 6, 20 or 0 for an item, by what is known of the items, whatever catalog that is
+-- 6, 20 or 0 for an item, by the count and the marks
+abbrev pub knownNumber : Present → ℕ → ℕ
+knownNumber p i = cond (ltb i (p .n)) (cond (marked (p .left) i) 20 0) 6
+
+-- which is the number for whatever catalog that is known of
 abbrev pub TellsKnown : Present → ℕ → ℕ → Type 0
 TellsKnown p i r = (cat : Catalog) → length cat ≤ 256 → Tells cat p → r ≡ ifKnown cat i 0
 
@@ -47,7 +51,16 @@ TellsKnown p i r = (cat : Catalog) → length cat ≤ 256 → Tells cat p → r 
 abbrev pub TellsRefusal : ℕ → Present → List ℕ → Step → ℕ → Type 0
 TellsRefusal k p catalog s r = (cat : Catalog) → Tells cat p → HasItems cat catalog → r ≡ itemRefusal k cat s
 
--- what is known of the items after a step
+-- whether a step is the retirement of an item that is there
+abbrev pub isLeaving : Present → Numbers → Bool
+isLeaving p n = eqb (n .kind) 81 && ltb (n .item) (p .n)
+
+-- one more step, by the count and the marks: an arrival is counted, and an item that leaves is marked
+pub record Advanced (p : Present) (n : Numbers) (r : Present) : Type 0 where
+  pub count : r .n ≡ cond (eqb (n .kind) 65) (p .n + 1) (p .n)
+  pub left : marks (r .left) ≡ cond (isLeaving p n) (set (marks (p .left)) (n .item) true) (marks (p .left))
+
+-- which is what is known after the step of whatever catalog that is known of
 abbrev pub Advances : Present → Numbers → Present → Type 0
 Advances p n r = (cat : Catalog) → length cat ≤ 256 → Tells cat p → Tells (catalogNext cat (stepOf n)) r
 

@@ -9,7 +9,7 @@ ghost use Rattle.types.specs.declared.Step.the-variants.{Read};
 ghost use Rattle.types.specs.Types.{stepOf};
 ghost use Rattle.landlord.specs.Calls.{inRange};
 ghost use Rattle.landlord.specs.CallNumbers.{callNumbers, numbersBehind};
-ghost use Rattle.season_items.specs.Inner.{Lookable, Walkable, actNoted, putAt, nonePresent, TellsKnown, Advances, CatchesUp, TellsRefusal, withArrival};
+ghost use Rattle.season_items.specs.Inner.{Lookable, Walkable, actNoted, putAt, nonePresent, knownNumber, Advanced, CatchesUp, TellsRefusal, withArrival};
 use types::Act;
 use types::Numbers;
 use types::Step;
@@ -29,7 +29,8 @@ pub fn none_present() -> Present
 
 // 6 for an item that is not there, 20 for one that has left, or 0.
 pub fn known(p: Present, item: u32) -> u32
-    ensures { λ r. ⌜ TellsKnown p item r ⌝ }
+    requires { ⌜ p .n ≤ 256 ⌝ }
+    ensures { λ r. ⌜ r ≡ knownNumber p item ⌝ }
 {
     let i = item as usize;
     if p.n <= i {
@@ -79,7 +80,7 @@ pub fn step_refused(k: u32, p: Present, catalog: &[u8], step: Step) -> u32
 // The items after one more step. An item that is not there cannot leave.
 pub fn advanced(p: Present, step: Numbers) -> Present
     requires { ⌜ p .n ≤ 256 ⌝ }
-    ensures { λ r. ⌜ Advances p step r ⌝ }
+    ensures { λ r. ⌜ Advanced p step r ⌝ }
 {
     let mut q = p;
     if step.kind == 65 {

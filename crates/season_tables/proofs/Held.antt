@@ -40,9 +40,9 @@ use Rattle.season_tables.specs.Tables.{Placed, Sofar, on, stop, atStart,
 use Rattle.season_tables.specs.Inner.{lastPlace, Holds, nothingRead, endVerdict, Leads, LeadsFrom, LeadsBy, NotesItem, NotesStep, NotesAct, KeepsPast, actNumbers, Takeable, StepTakeable, ActTakeable}
 use Rattle.season_tables.specs.InnerSound.{catalogBefore}
 use Rattle.landlord.specs.CallNumbers.{callNumbers}
-use Rattle.season_items.specs.Inner.{Tells, HasItems, actNoted, putAt, withArrival, TellsKnown, TellsRefusal, Advances, Walks, CatchesUp, Lookable, Walkable}
+use Rattle.season_items.specs.Inner.{Tells, HasItems, actNoted, putAt, withArrival, TellsKnown, TellsRefusal, Advanced, Walks, CatchesUp, Lookable, Walkable}
 use Rattle.season_items.proofs.Notes.{noted-more, noted-past, calls-more}
-use Rattle.season_items.proofs.Presence.{tells-none, tells-more, before-follows, stored-items, stored-past, Stored, stored-by}
+use Rattle.season_items.proofs.Presence.{tells-none, tells-more, advanced-tells, before-follows, stored-items, stored-past, Stored, stored-by}
 use Rattle.season_tables.proofs.Told.{step-range, step-told, act-range, act-told}
 use Rattle.season_tables.proofs.Keeps.{taken-past}
 
@@ -399,7 +399,7 @@ module _ (q : Seen) (catalog calls : List ℕ) (s : Step) (at number : ℕ) (e :
 
   -- the step is not refused, and this is known of the items behind it
   module _ (f : number ≡ 0) (ranged : inRange (numbersOf s) ≡ true) (room : 1280 ≤ length catalog)
-      (n : Numbers) (p : Present) (g : n ≡ numbersOf s) (a : Advances (q .present) n p)
+      (n : Numbers) (p : Present) (g : n ≡ numbersOf s) (a : Advanced (q .present) n p)
     where
       module _ (acts : List ℕ) (v : Sofar) (h : Holds q catalog calls acts v) where
         short : length (itemsNow v) ≤ 256
@@ -409,7 +409,7 @@ module _ (q : Seen) (catalog calls : List ℕ) (s : Step) (at number : ℕ) (e :
         now-stored = stored-by (v .k) (itemsNow v) catalog room short s ranged (sym (same-number acts v h) ∙ f)
 
         now-tells : Tells (catalogNext (itemsNow v) s) p
-        now-tells = rw (ap stepOf g ∙ same-step s) at (a (itemsNow v) short (h .present))
+        now-tells = rw (ap stepOf g ∙ same-step s) at (advanced-tells (q .present) n p a (itemsNow v) short (h .present))
 
         pub step-items-past : drop (5 * p .n) (withArrival s catalog) ≡ drop (5 * p .n) catalog
         step-items-past = rw (now-tells .count) (now-stored .past)
@@ -545,6 +545,12 @@ act-walkable q place act calls acts t e f =
 module _ (q : Seen) (calls acts : List ℕ) (place : ℕ) (act : Act) (some : place < q .steps) (p : Present) (caught : CatchesUp (q .earlier) calls (q .last) place p) where
   act-tells : (catalog : List ℕ) (v : Sofar) → Holds q catalog calls acts v → Tells (catalogBefore v place) p
   act-tells catalog v h = caught (v .catalog) (v .steps) (act-walks q place catalog calls acts v h some)
+
+  pub act-few : ActTakeable q place act calls acts → p .n ≤ 256
+  act-few t =
+      let h = t .line .holds in
+      let v = t .line .read in
+      omega (arith, act-tells (t .catalog) v h .count, h .few, h .present .count, before-follows (v .catalog) (v .steps) place .longer)
 
   module _ (number : ℕ) (k : TellsKnown p (actItem act) number) where
     act-number : (catalog : List ℕ) (v : Sofar) → Holds q catalog calls acts v → number ≡ ifKnown (catalogBefore v place) (actItem act) 0

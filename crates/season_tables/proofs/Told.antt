@@ -15,12 +15,13 @@ use Rattle.landlord.specs.Catalog.{Catalog, itemAt}
 use Rattle.landlord.specs.Calls.{ifKnown, itemRefusal}
 use Rattle.landlord.proofs.Folds.{either}
 use Rattle.season_items.specs.declared.Present.{Present}
-use Rattle.season_items.specs.Inner.{TellsKnown}
+use Rattle.season_items.specs.Inner.{knownNumber, TellsKnown}
+use Rattle.season_items.proofs.Items.{known-tells}
 use Rattle.season_tables.specs.Tables.{itemRefused}
 
 -- the item of an act
-pub known-of : (p : Present) (i number : ℕ) (act : Act) → i ≡ actItem act → TellsKnown p i number → TellsKnown p (actItem act) number
-known-of p i number act e k = subst (λ (z : ℕ). TellsKnown p z number) e k
+pub known-of : (p : Present) (i number : ℕ) (act : Act) → i ≡ actItem act → number ≡ knownNumber p i → TellsKnown p (actItem act) number
+known-of p i number act e k = subst (λ (z : ℕ). TellsKnown p z number) e (known-tells p i number k)
 
 -- a number of these that is not 0 is told by its refusal
 abbrev Toldly : ℕ → Type 0

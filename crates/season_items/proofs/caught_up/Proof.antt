@@ -5,7 +5,7 @@ use Prim.Native.Nat.{_-_, _≤_}
 use native.Mathlib.Omega.{arith}
 use borrow.Author.Needs.{needs}
 use Rattle.season_items.specs.Inner.{CatchesUp}
-use Rattle.season_items.proofs.Presence.{walk-starts, walk-few, walk-on, walk-ends}
+use Rattle.season_items.proofs.Presence.{advanced-tells, walk-starts, walk-few, walk-on, walk-ends}
 use Rattle.season_items.proofs.caught_up.Statement.{statement}
 use Rattle.season_items.proofs.caught_up.Tie as tie
 use Rattle.season_items.proofs.caught_up.Reads as reads
@@ -43,7 +43,7 @@ loop-less c = omega arith
 loop-again : tie.Need-loop-again Inv-loop μ-loop
 loop-again c =
     let a = c .before .before .before .before .before .args in
-    (walk-on (a .p) (c .before .before .before .loop .q) (c .advanced .result) (a .calls .now) (a .from) (c .before .before .before .loop .s) (c .before .numbers-at .result) (c .before .before .before .loop .inv .0) (c .before .numbers-at .ensures) (c .advanced .ensures), omega arith)
+    (walk-on (a .p) (c .before .before .before .loop .q) (c .advanced .result) (a .calls .now) (a .from) (c .before .before .before .loop .s) (c .before .numbers-at .result) (c .before .before .before .loop .inv .0) (c .before .numbers-at .ensures) (advanced-tells (c .before .before .before .loop .q) (c .before .numbers-at .result) (c .advanced .result) (c .advanced .ensures)), omega arith)
 
 returns : tie.Need-returns Inv-loop μ-loop
 returns c =

@@ -11,7 +11,7 @@ use Rattle.catalog_bytes.proofs.blocks.Reads as blocks-reads
 use Rattle.season_items.proofs.known.Reads as known-reads
 
 known-requires : tie.Need-known-requires
-known-requires c κs = search needs
+known-requires c κs = let a = c .before .args in look-few (a .p) (a .catalog .now) (c .before .pre)
 
 returns : tie.Need-returns
 returns c =

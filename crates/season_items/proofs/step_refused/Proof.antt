@@ -34,7 +34,7 @@ enum-known-step-4 : tie.Need-enum-known-step-4
 enum-known-step-4 c = search needs
 
 known-requires : tie.Need-known-requires
-known-requires c κs = search needs
+known-requires c κs = let b = c .before .before .before .before in look-few (b .args .p) (b .args .catalog .now) (b .pre)
 
 returns : tie.Need-returns
 returns c = rw (c .before .before .step .given .1) (c .item-refused .ensures)

@@ -8,7 +8,7 @@ use lib.ListN.{length}
 use borrow.Author.Tests.{leb-true, leb-false}
 use Rattle.types.specs.Types.{telling}
 use Rattle.season_tables.proofs.Told.{known-of}
-use Rattle.season_tables.proofs.Held.{act-walkable, act-in-range, act-early, act-late, act-refuses, act-noted, act-past}
+use Rattle.season_tables.proofs.Held.{act-few, act-walkable, act-in-range, act-early, act-late, act-refuses, act-noted, act-past}
 use Rattle.season_tables.proofs.take_act.Statement.{statement}
 use Rattle.season_tables.proofs.take_act.Tie as tie
 use Rattle.season_tables.proofs.take_act.Reads as reads
@@ -45,7 +45,10 @@ caught-up-requires c κs =
     act-walkable (a .seen) (a .place) (a .act) (a .calls .now) (a .acts .now) (c .before .before .before .before .before .before .before .before .pre) (c .before .before .before .if1 .left) (leb-false _ _ (c .before .if2 .left))
 
 known-requires : tie.Need-known-requires
-known-requires c κs = search needs
+known-requires c κs =
+    let b = c .before .before .before .before .before .before .before .before .before in
+    let a = b .args in
+    act-few (a .seen) (a .calls .now) (a .acts .now) (a .place) (a .act) (leb-false _ _ (c .before .before .if2 .left)) (c .caught-up .result) (c .caught-up .ensures) (b .pre)
 
 refusal-of-requires : tie.Need-refusal-of-requires
 refusal-of-requires c κs =
