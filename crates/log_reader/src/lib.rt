@@ -11,7 +11,7 @@ ghost use Rattle.decimal.specs.Decimal.{textOf};
 ghost use Rattle.line_fields.specs.Fields.{split, fieldsOf};
 ghost use Rattle.season_lines.specs.Lines.{lineIn};
 ghost use Rattle.season_log.specs.Log.{numbersOnto, readLines, readTable, readLog};
-ghost use Rattle.log_reader.specs.Answers.{readAnswer, readList};
+ghost use Rattle.log_reader.specs.Answers.{LogRead};
 ghost use Rattle.log_reader.specs.Inner.{DigitsAt, NumberAt, EndAt, FoundIn, threeNumbers, lineRefusal, firstLine, FirstIs, Roomy, ReadsOn, ReadInto};
 use line_fields::Field;
 use season_lines::Line;
@@ -371,8 +371,7 @@ fn read_table(text: &[u8], list: &mut [u8]) -> ReadAnswer
 // Reads the third table alone, and stores its steps at the start of the list. They are read into room of our own first, so that a list
 // that is refused, for the text or because it is too short (15, last), is as it was.
 pub fn read_log(text: &[u8], list: &mut [u8]) -> ReadAnswer
-    ensures { λ r. ⌜ r ≡ readAnswer (readLog (now (text .entry))) (now (list .entry)) ⌝ }
-    ensures { λ _. ⌜ now (list .exit) ≡ readList (readLog (now (text .entry))) (now (list .entry)) ⌝ }
+    ensures { λ r. ⌜ LogRead (readLog (now (text .entry))) (now (list .entry)) r (now (list .exit)) ⌝ }
 {
     if season_log::LIMIT < text.len() {
         return ReadAnswer::Refused(Refusal::InputTooLong { line: 0 });

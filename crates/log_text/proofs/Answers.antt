@@ -17,7 +17,7 @@ use Rattle.season_log.specs.declared.LogAnswer.{LogAnswer, the-variants.{Count,
 use Rattle.season_log.specs.Log.{Logged, steps, fault, listOf, listed, stepText, stepLines, logText, readLog, readTable, writeAnswer, writtenPage}
 use Rattle.season_log.proofs.OneText.{one-text, length-list}
 use Rattle.log_reader.specs.declared.ReadAnswer.{ReadAnswer, the-variants.{Steps, Refused as NotRead}}
-use Rattle.log_reader.specs.Answers.{readAnswer, readList}
+use Rattle.log_reader.specs.Answers.{readAnswer, readList, readHeading, readCount}
 use Rattle.log_reader.proofs.Reading.{step-long}
 use Rattle.report.specs.declared.Written.{Written, the-variants.{Text, Refused}}
 use Rattle.report.specs.Report.{Put}
@@ -30,14 +30,6 @@ use Rattle.log_text.specs.Answer.{readOutcome, logOutcome}
 abbrev isRead : ReadAnswer → ℕ
 isRead (Steps form n) = 1
 isRead (NotRead r) = 0
-
-abbrev headingTold : ReadAnswer → ℕ
-headingTold (Steps form n) = form
-headingTold (NotRead r) = 0
-
-abbrev countTold : ReadAnswer → ℕ
-countTold (Steps form n) = n
-countTold (NotRead r) = 0
 
 abbrev reasonTold : Refusal → ReadAnswer → Refusal
 reasonTold d (Steps form n) = d
@@ -126,8 +118,8 @@ list-read s list after form n e f = go (readLog s) refl e f
         by true k e3 =
             let long = leb-true (length (listOf ss)) (length list) k in
             let law = one-text .readsWritten s g ss h in
-            let formIs : form ≡ g = ap headingTold e3 in
-            let countIs : n ≡ length ss = ap countTold e3 in
+            let formIs : form ≡ g = ap readHeading e3 in
+            let countIs : n ≡ length ss = ap readCount e3 in
             let stored : after ≡ listOf ss ++ drop (length (listOf ss)) list = f2 ∙ page-all (listOf ss) list long in
             let front : take (24 * n) after ≡ listOf ss =
             ap (take (24 * n)) stored ∙ take-at (listOf ss) (drop (length (listOf ss)) list) (24 * n) (omega (arith, length-list ss, countIs)) in

@@ -1,39 +1,23 @@
--- What the answer of `season_log` says of the page, as it is then: a text that was written is within it. Assumes nothing.
-use mathlib.Core.Path.{_≡_, refl, ap}
-use mathlib.Core.Bool.{Bool, true, false, cond, _&&_}
+-- An answer of `season_log` is determined by what it tells and by its count. Assumes nothing.
+use mathlib.Core.Path.{_≡_, sym, ap}
 use mathlib.Core.List.{List}
-use Prim.Native.Nat.{ℕ, _≤_}
-use native.Mathlib.Omega.{arith}
-use lib.ListN.{length}
-use lib.Dec.{leb}
-use borrow.Author.Tests.{leb-true}
-use Rattle.decimal.specs.Decimal.{fits, pageOf}
-use Rattle.decimal.proofs.Laws.{page-length}
-use Rattle.types.specs.declared.Refusal.the-variants.{ShortBuffer}
+use Prim.Native.Nat.{ℕ}
+use Rattle.types.specs.Types.{Told}
+use Rattle.types.proofs.Refusals.{refusal-one, refused-some}
 use Rattle.season_log.specs.declared.LogAnswer.{LogAnswer}
 use Rattle.season_log.specs.declared.LogAnswer.the-variants.{Count, Refused as Not}
-use Rattle.season_log.specs.Log.{Logged, steps, fault, logText, writeAnswer, writtenPage}
+use Rattle.season_log.specs.Log.{Logged, logTold, logCount, writeAnswer, writtenPage, LogWritten}
 
--- how many there are; of a refusal none
-abbrev counted : LogAnswer → ℕ
-counted (Count n) = n
-counted (Not r) = 0
+-- two answers that tell the same, of one count, are the same
+answer-one : (a b : LogAnswer) → logTold a ≡ logTold b → logCount a ≡ logCount b → a ≡ b
+answer-one (Count n) (Count m) t c = ap Count c
+answer-one (Count n) (Not r) t c = absurd (refused-some r (ap (λ (t : Told). t .number) (sym t)))
+answer-one (Not r) (Count n) t c = absurd (refused-some r (ap (λ (t : Told). t .number) t))
+answer-one (Not r) (Not q) t c = ap Not (refusal-one r q t)
 
-pub written-within :
-    (log : Logged) (page after : List ℕ) (n : ℕ) → Count n ≡ writeAnswer log page → after ≡ writtenPage log page → n ≤ length after
-written-within (steps form ss) page after n e is =
-    go (leb (length text) 65536) (fits text page) refl (ap counted e) (ap length is)
-  where
-    text : List ℕ
-    text = logText form ss
+-- so the promise of the writer gives its answer, and the answer the promise
+pub log-one : {x : Logged} {page : List ℕ} {r : LogAnswer} {after : List ℕ} → LogWritten x page r after → r ≡ writeAnswer x page
+log-one {x = x} {page = page} {r = r} h = answer-one r (writeAnswer x page) (h .tells) (h .count)
 
-    go :
-        (t u : Bool) →
-        fits text page ≡ u →
-        n ≡ counted (cond (t && u) (Count (length text)) (Not (ShortBuffer 0))) →
-        length after ≡ length (cond t (pageOf text page) page) →
-        n ≤ length after
-    go true true h k l = omega (arith, l, leb-true (length text) (length page) h, page-length text page)
-    go true false h k l = omega arith
-    go false u h k l = omega arith
-written-within (fault r) page after n e is = let none : n ≡ 0 = ap counted e in omega arith
+pub log-written : {x : Logged} {page : List ℕ} {r : LogAnswer} {after : List ℕ} → (r ≡ writeAnswer x page) × (after ≡ writtenPage x page) → LogWritten x page r after
+log-written h = record { tells = ap logTold (h .0); count = ap logCount (h .0); page = h .1 }

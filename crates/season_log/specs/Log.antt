@@ -5,7 +5,7 @@ use lib.{ListN.{length, take, drop}, Dec.{leb, eqb}}
 use Rattle.decimal.specs.Decimal.{textOf, digitsOf, fits, pageOf}
 use Rattle.fields.specs.LittleEndian.{un, le}
 use Rattle.types.specs.declared.{Step.{Step, the-variants.{Read, Write, Flush, Arrive, Retire}}, Numbers.Numbers, Refusal.{Refusal, the-variants.{Malformed, Heading, OutOfRange, ShortBuffer, InputTooLong}}}
-use Rattle.types.specs.Types.{numbersFrom, numbersOf, stepOf}
+use Rattle.types.specs.Types.{numbersFrom, numbersOf, stepOf, Told, nothingTold, told}
 use Rattle.landlord.specs.Calls.{inRange}
 use Rattle.season_lines.specs.declared.{Names.{Names, the-variants.{Form, Unknown}}, Line.{Line, the-variants.{Sizes, Item as ItemLine, Step as StepLine, Act as ActLine, Refused}}}
 use Rattle.line_fields.specs.Fields.{split, fieldsOf}
@@ -137,6 +137,21 @@ writtenPage (steps form ss) page =
     let text = logText form ss in
     cond (leb (length text) 65536) (pageOf text page) page
 writtenPage (fault r) page = page
+
+-- the number and the line that an answer tells, and how many bytes were written
+abbrev pub logTold : LogAnswer → Told
+logTold (Count n) = nothingTold
+logTold (Not r) = told r
+
+abbrev pub logCount : LogAnswer → ℕ
+logCount (Count n) = n
+logCount (Not r) = 0
+
+-- the log of a list, written on a page
+pub record LogWritten (log : Logged) (before : List ℕ) (r : LogAnswer) (after : List ℕ) : Type 0 where
+  pub tells : logTold r ≡ logTold (writeAnswer log before)
+  pub count : logCount r ≡ logCount (writeAnswer log before)
+  pub page : after ≡ writtenPage log before
 
 -- ## One heading and list, one text (proofs/OneText.antt)
 

@@ -6,7 +6,7 @@ ghost use Prim.Native.Nat.{_+_, _/_, _≤_, _<_};
 ghost use lib.ListN.{length};
 ghost use Rattle.decimal.specs.InnerPages.{textOver};
 ghost use Rattle.types.specs.declared.Step.the-variants.{Write, Flush};
-ghost use Rattle.season_log.specs.Log.{noValues, stepText, listNumber, listNumbers, toldLine, listedUnder, listed, writeAnswer, writtenPage};
+ghost use Rattle.season_log.specs.Log.{noValues, stepText, listNumber, listNumbers, toldLine, listedUnder, listed, LogWritten};
 ghost use Rattle.season_log.specs.Inner.{namesText, namedText, arrivalText, valueText, rangedAt, stepAt, lineBytes, Arrives, textBytes, FaultOn, LineFits, LinesFit, LinesOn};
 use types::Numbers;
 use types::Refusal;
@@ -309,8 +309,7 @@ fn put_lines(heading: u32, list: &[u8], page: &mut [u8])
 // step out of range or not whole, then 15 if the text has too many bytes, for the page or for any reader; else the text. A refused page is
 // as it was.
 pub fn write_log(heading: u32, list: &[u8], page: &mut [u8]) -> LogAnswer
-    ensures { λ r. ⌜ r ≡ writeAnswer (listed heading (now (list .entry))) (now (page .entry)) ⌝ }
-    ensures { λ _. ⌜ now (page .exit) ≡ writtenPage (listed heading (now (list .entry))) (now (page .entry)) ⌝ }
+    ensures { λ r. ⌜ LogWritten (listed heading (now (list .entry))) (now (page .entry)) r (now (page .exit)) ⌝ }
 {
     if 1 < heading {
         return LogAnswer::Refused(Refusal::OutOfRange { line: 1 });

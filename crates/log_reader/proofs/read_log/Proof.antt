@@ -4,12 +4,13 @@ use Prim.Native.Nat.{_*_, _≤_}
 use native.Mathlib.Omega.{arith}
 use borrow.Author.Needs.{needs}
 use lib.Seq.{length-take-le}
+use Rattle.log_reader.proofs.Answers.{log-read}
 use Rattle.log_reader.proofs.Reading.{answer-long, answer-refused, answer-few, answer-short, answer-stored}
 use Rattle.log_reader.proofs.read_log.Statement.{statement}
 use Rattle.log_reader.proofs.read_log.Tie as tie
 
 returns : tie.Need-returns
-returns c = let a = c .before .before .before .args in answer-long (a .text .now) (a .list .now) (c .if1 .taken)
+returns c = let a = c .before .before .before .args in log-read (answer-long (a .text .now) (a .list .now) (c .if1 .taken))
 
 slice-aggregate-read-table : tie.Need-slice-aggregate-read-table
 slice-aggregate-read-table c = search needs
@@ -37,7 +38,7 @@ returns-2 : tie.Need-returns-2
 returns-2 c =
     let a = c .before .before .before .before .before .before .before .before .before .before .args in
     let r = c .before .before .before .before .before .read-table in
-    answer-short (a .text .now) (a .list .now) _ _ (r .result) (c .before .before .before .before .before .before .before .if1 .left) (r .ensures) _ _ (c .before .before .heading .given .1) (c .if2 .taken)
+    log-read (answer-short (a .text .now) (a .list .now) _ _ (r .result) (c .before .before .before .before .before .before .before .if1 .left) (r .ensures) _ _ (c .before .before .heading .given .1) (c .if2 .taken))
 
 array-share-prefix-room : tie.Need-array-share-prefix-room
 array-share-prefix-room c = omega (arith, few (c .before))
@@ -54,7 +55,7 @@ returns-3 : tie.Need-returns-3
 returns-3 c =
     let a = c .before .before .before .before .before .before .before .before .before .args in
     let r = c .before .before .before .before .read-table in
-    answer-refused (a .text .now) (a .list .now) _ _ (r .result) (c .before .before .before .before .before .before .if1 .left) (r .ensures) _ (c .before .r .given .1)
+    log-read (answer-refused (a .text .now) (a .list .now) _ _ (r .result) (c .before .before .before .before .before .before .if1 .left) (r .ensures) _ (c .before .r .given .1))
 
 same-length : tie.Need-same-length
 same-length c = search needs
@@ -63,7 +64,7 @@ returns-4 : tie.Need-returns-4
 returns-4 c =
     let a = c .before .before .before .before .before .before .before .before .before .before .before .before .before .before .before .args in
     let r = c .before .before .before .before .before .before .before .before .before .before .read-table in
-    answer-stored (a .text .now) (a .list .now) _ _ (r .result) (c .before .before .before .before .before .before .before .before .before .before .before .before .if1 .left) (r .ensures) _ _ (c .before .before .before .before .before .before .before .heading .given .1) _ (c .before .before .before .before .before .if2 .left) (c .before .before .put-text .ensures .1)
+    log-read (answer-stored (a .text .now) (a .list .now) _ _ (r .result) (c .before .before .before .before .before .before .before .before .before .before .before .before .if1 .left) (r .ensures) _ _ (c .before .before .before .before .before .before .before .heading .given .1) _ (c .before .before .before .before .before .if2 .left) (c .before .before .put-text .ensures .1))
 
 pub read-log-spec : {M : Type 1} → statement M
 read-log-spec =

@@ -7,7 +7,8 @@ use lib.ListN.{length}
 use lib.Seq.{length-take-le}
 use denote.Ref
 use Rattle.season_log.specs.Log.{readLog}
-use Rattle.log_reader.proofs.Answers.{read-within}
+use Rattle.season_log.proofs.Answers.{log-one}
+use Rattle.log_reader.proofs.Answers.{read-one, read-within}
 use Rattle.log_text.proofs.Answers.{written, not-read, log-again}
 use Rattle.log_text.proofs.answer.Statement.{statement}
 use Rattle.log_text.proofs.answer.Tie as tie
@@ -30,7 +31,7 @@ steps-within c =
     let a = c .before .before .before .before .before .before .before .before .args in
     let r = c .before .before .before .before .read-log in
     let n = c .before .heading .given in
-    read-within (readLog (denote.Ref.now (a .text))) _ (r .last .1 .0) (n .0 .0) (n .0 .1 .0) (sym (n .1) ∙ r .ensures .0) (r .ensures .1)
+    read-within (readLog (denote.Ref.now (a .text))) _ (r .last .1 .0) (n .0 .0) (n .0 .1 .0) (sym (n .1) ∙ read-one (r .ensures)) (r .ensures .list)
 
 mul-bytes : tie.Need-mul-bytes
 mul-bytes c = omega (arith, steps-within c, c .before .before .before .list2 .given)
@@ -56,7 +57,7 @@ returns c =
     let a = c .before .before .before .before .before .before .before .before .args in
     let r = c .before .before .before .before .read-log in
     let x = c .before .r .given in
-    not-read (denote.Ref.now (a .text)) _ (denote.Ref.now (a .page)) (x .0 .0) refl (sym (x .1) ∙ r .ensures .0)
+    not-read (denote.Ref.now (a .text)) _ (denote.Ref.now (a .page)) (x .0 .0) refl (sym (x .1) ∙ read-one (r .ensures))
 
 same-length : tie.Need-same-length
 same-length c = search needs
@@ -68,7 +69,7 @@ returns-2 c =
     let r = h .before .before .before .read-log in
     let n = h .heading .given in
     let w = c .before .before .before .before .before .write-log in
-    log-again (denote.Ref.now (a .text)) _ (r .last .1 .0) (denote.Ref.now (a .page)) _ (n .0 .0) (n .0 .1 .0) (w .result) _ (sym (n .1) ∙ r .ensures .0) (r .ensures .1) (w .ensures .0) (w .ensures .1) (ap written (c .before .r2 .given .1))
+    log-again (denote.Ref.now (a .text)) _ (r .last .1 .0) (denote.Ref.now (a .page)) _ (n .0 .0) (n .0 .1 .0) (w .result) _ (sym (n .1) ∙ read-one (r .ensures)) (r .ensures .list) (log-one (w .ensures)) (w .ensures .page) (ap written (c .before .r2 .given .1))
 
 same-length-2 : tie.Need-same-length-2
 same-length-2 c = search needs
@@ -80,7 +81,7 @@ returns-3 c =
     let r = h .before .before .before .read-log in
     let n = h .heading .given in
     let w = c .before .before .before .before .before .write-log in
-    log-again (denote.Ref.now (a .text)) _ (r .last .1 .0) (denote.Ref.now (a .page)) _ (n .0 .0) (n .0 .1 .0) (w .result) _ (sym (n .1) ∙ r .ensures .0) (r .ensures .1) (w .ensures .0) (w .ensures .1) (ap written (c .before .n .given .1))
+    log-again (denote.Ref.now (a .text)) _ (r .last .1 .0) (denote.Ref.now (a .page)) _ (n .0 .0) (n .0 .1 .0) (w .result) _ (sym (n .1) ∙ read-one (r .ensures)) (r .ensures .list) (log-one (w .ensures)) (w .ensures .page) (ap written (c .before .n .given .1))
 
 pub answer-spec : {M : Type 1} → statement M
 answer-spec =

@@ -11,14 +11,15 @@ use lib.ListN.{length, length-append}
 use Rattle.decimal.specs.InnerPages.{textOver}
 use Rattle.decimal.proofs.Pages.{TextGoing, go-first, go-as, go-room, go-next, go-end}
 use Rattle.season_log.specs.declared.LogAnswer.{LogAnswer}
-use Rattle.season_log.specs.Log.{Logged, stepLines, logText, listedUnder, listed}
+use Rattle.season_log.specs.Log.{Logged, stepLines, logText, listedUnder, listed, LogWritten}
 use Rattle.season_log.specs.Inner.{namesText}
+use Rattle.season_log.proofs.Answers.{log-written}
 use Rattle.season_log.proofs.Writing.{Answers, stepsOf, list-under, log-is, Sized, told-fault, sized-whole, told-short, lines-on, told-text, under-heading, told-heading}
 use Rattle.season_log.proofs.write_log.Statement.{statement}
 use Rattle.season_log.proofs.write_log.Tie as tie
 
 returns : tie.Need-returns
-returns c = let a = c .before .before .before .args in told-heading (a .heading) (a .list .now) (a .page .now) (c .if1 .taken)
+returns c = let a = c .before .before .before .args in log-written (told-heading (a .heading) (a .list .now) (a .page .now) (c .if1 .taken))
 
 text-bytes-requires : tie.Need-text-bytes-requires
 text-bytes-requires c κs = search needs
@@ -42,10 +43,10 @@ text-is s = log-is (s .args .heading) (stepsOf (s .args .heading) (given s))
 -- past the first test it is what is asked
 asked :
     (c : tie.Else1) (r : LogAnswer) (after : List ℕ) →
-    (let a = c .before .before .before .args in Answers (given (c .before .before .before)) (a .page .now) r after → Answers (listed (a .heading) (a .list .now)) (a .page .now) r after)
+    (let a = c .before .before .before .args in Answers (given (c .before .before .before)) (a .page .now) r after → LogWritten (listed (a .heading) (a .list .now)) (a .page .now) r after)
 asked c r after h =
     let a = c .before .before .before .args in
-    subst (λ (x : Logged). Answers x (a .page .now) r after) (under-heading (a .heading) (a .list .now) (c .if1 .left)) h
+    log-written (subst (λ (x : Logged). Answers x (a .page .now) r after) (under-heading (a .heading) (a .list .now) (c .if1 .left)) h)
 
 returns-2 : tie.Need-returns-2
 returns-2 c =
