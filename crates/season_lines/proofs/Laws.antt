@@ -24,7 +24,7 @@ use Rattle.line_fields.specs.declared.Field.the-variants.{Number, Dash, Rule}
 use Rattle.line_fields.specs.Fields.{split, fieldAt, isNumber, isLetter, isRule, valueIn, ruleIn, noneEmpty, isEither}
 use Rattle.season_lines.specs.declared.Names.the-variants.{Form, Unknown}
 use Rattle.season_lines.specs.declared.Line.the-variants.{Sizes, Item as ItemLine, Step, Act as Placed, Refused}
-use Rattle.season_lines.specs.Lines.{headings, namesIn, formAmong, formOf, sizesLine, ruleField, itemLine, kindUnder, valueField, isDue, isStepKind, stepShape, stepLine, isActKind, actOf, actLine, valuesIn, lineIn}
+use Rattle.season_lines.specs.Lines.{headings, namesIn, formAmong, formOf, sizesLine, ruleField, itemLine, kindUnder, valueField, stepShape, stepLine, isActKind, actOf, actLine, valuesIn, lineIn}
 use Rattle.landlord.proofs.Ranges.{item-facts}
 
 -- ## Tests
@@ -48,11 +48,6 @@ one-of-3 false q r e = refl
 one-of-4 : (p q r s : Bool) → (p ≡ false) ⊎ (q ≡ false) ⊎ (r ≡ false) ⊎ (s ≡ false) → (p && q && r && s) ≡ false
 one-of-4 true q r s e = ⊎-elim (λ f. absurd (false≢true (sym f))) (λ f. one-of-3 q r s f) e
 one-of-4 false q r s e = refl
-
-one-of-5 :
-    (p q r s t : Bool) → (p ≡ false) ⊎ (q ≡ false) ⊎ (r ≡ false) ⊎ (s ≡ false) ⊎ (t ≡ false) → (p && q && r && s && t) ≡ false
-one-of-5 true q r s t e = ⊎-elim (λ f. absurd (false≢true (sym f))) (λ f. one-of-4 q r s t f) e
-one-of-5 false q r s t e = refl
 
 pub both-yes : (p q : Bool) → p ≡ true → q ≡ true → (p && q) ≡ true
 both-yes p q e h = rw (e, h)
@@ -84,27 +79,6 @@ act-first kind e = rw (eq-eqb kind 68 e)
 pub act-second : (kind : ℕ) → (kind ≡ 68 → ⊥) → eqb kind 70 ≡ isActKind kind
 act-second kind n = rw (ne-eqb kind 68 n)
 
-pub kind-known :
-    (kind : ℕ) →
-    (kind ≡ 82) ⊎ (eqb kind 87 ≡ true) ⊎ (eqb kind 76 ≡ true) ⊎ (eqb kind 65 ≡ true) ⊎ (eqb kind 81 ≡ true) →
-    true ≡ isStepKind kind
-kind-known kind e =
-    ⊎-elim (λ f. rw f)
-    (⊎-elim (λ f. is 87 f refl) (⊎-elim (λ f. is 76 f refl) (⊎-elim (λ f. is 65 f refl) (λ f. is 81 f refl)))) e
-  where
-    is : (k : ℕ) → eqb kind k ≡ true → true ≡ isStepKind k → true ≡ isStepKind kind
-    is k f g = g ∙ ap isStepKind (sym (eqb-true kind k f))
-
-pub kind-none :
-    (kind : ℕ) →
-    (kind ≡ 82 → ⊥) →
-    eqb kind 87 ≡ false →
-    eqb kind 76 ≡ false →
-    eqb kind 65 ≡ false →
-    eqb kind 81 ≡ false →
-    false ≡ isStepKind kind
-kind-none kind r w l a q = rw (ne-eqb kind 82 r, w, l, a, q)
-
 -- a kind under a heading
 pub kind-gone : (form kind : ℕ) → (form ≡ 1 → ⊥) → (kind ≡ 65) ⊎ (eqb kind 81 ≡ true) → 0 ≡ kindUnder form kind
 kind-gone form kind n e = rw (ne-eqb form 1 n) (⊎-elim (λ f. rw f) (λ f. let q = eqb-true kind 81 f in rw q) e)
@@ -114,27 +88,6 @@ kind-old form kind n a q = rw (ne-eqb form 1 n, ne-eqb kind 65 a, q)
 
 pub kind-new : (form kind : ℕ) → form ≡ 1 → kind ≡ kindUnder form kind
 kind-new form kind e = rw e
-
-module _ (kind : ℕ) (known : Bool) (e : known ≡ isStepKind kind) (item minutes blocks load write : Field) where
-  pub shape-no :
-      (isDue known (not (eqb kind 76)) item ≡ false)
-      ⊎ (isDue known (eqb kind 87) minutes ≡ false)
-      ⊎ (isDue known (eqb kind 65) blocks ≡ false)
-      ⊎ (isDue known (eqb kind 65) load ≡ false)
-      ⊎ (isDue known (eqb kind 65) write ≡ false) →
-      false ≡ stepShape kind item minutes blocks load write
-  unfolding stepShape
-  shape-no f = rw (← e) (sym (one-of-5 _ _ _ _ _ f))
-
-  pub shape-yes :
-      isDue known (not (eqb kind 76)) item ≡ true →
-      isDue known (eqb kind 87) minutes ≡ true →
-      isDue known (eqb kind 65) blocks ≡ true →
-      isDue known (eqb kind 65) load ≡ true →
-      isDue known (eqb kind 65) write ≡ true →
-      true ≡ stepShape kind item minutes blocks load write
-  unfolding stepShape
-  shape-yes a b c d f = rw (← e) (sym (both-yes _ _ (both-yes _ _ (both-yes _ _ (both-yes _ _ a b) c) d) f))
 
 -- ## Lines
 

@@ -122,10 +122,7 @@ pub fn kind_under(form: u32, kind: u32) -> u32
 fn is_step(kind: u32) -> bool
     ensures { λ r. ⌜ r ≡ isStepKind kind ⌝ }
 {
-    if kind == 82 || kind == 87 || kind == 76 || kind == 65 || kind == 81 {
-        return true;
-    }
-    false
+    (kind == 82) | (kind == 87) | (kind == 76) | (kind == 65) | (kind == 81)
 }
 
 // Whether a field is as it is due: behind a known kind a number where the step has one and else `-`, behind another a number or `-`.
@@ -153,15 +150,11 @@ fn step_shaped(
     ensures { λ r. ⌜ r ≡ stepShape kind item minutes blocks load write ⌝ }
 {
     let known = is_step(kind);
-    if !is_due(known, kind != 76, item)
-        || !is_due(known, kind == 87, minutes)
-        || !is_due(known, kind == 65, blocks)
-        || !is_due(known, kind == 65, load)
-        || !is_due(known, kind == 65, write)
-    {
-        return false;
-    }
-    true
+    is_due(known, kind != 76, item)
+        & is_due(known, kind == 87, minutes)
+        & is_due(known, kind == 65, blocks)
+        & is_due(known, kind == 65, load)
+        & is_due(known, kind == 65, write)
 }
 
 // A line of `step sail minutes blocks load write`, or of the old heading, which has nothing behind the minutes.
