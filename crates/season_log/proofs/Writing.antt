@@ -19,6 +19,7 @@ use Rattle.fields.specs.LittleEndian.{un}
 use Rattle.types.specs.declared.Step.{Step}
 use Rattle.types.specs.declared.Step.the-variants.{Read, Write, Flush, Arrive, Retire}
 use Rattle.types.specs.declared.Numbers.{Numbers}
+use Rattle.types.specs.declared.Refusal.{Refusal}
 use Rattle.types.specs.declared.Refusal.the-variants.{OutOfRange, ShortBuffer}
 use Rattle.types.specs.Types.{numbersFrom, stepOf}
 use Rattle.types.proofs.Steps.{step-read, step-write, step-arrive, step-retire, step-flush}
@@ -30,7 +31,7 @@ use Rattle.season_lines.proofs.Laws.{kind-new}
 use Rattle.season_log.specs.declared.LogAnswer.{LogAnswer}
 use Rattle.season_log.specs.declared.LogAnswer.the-variants.{Count, Refused as Not}
 use Rattle.season_log.specs.Log.{Logged, steps, fault, ahead, isHeading, noValues, stepText, stepLines, logText, listNumber, listNumbers, toldLine, listedFrom, listedUnder, listed, writeAnswer, writtenPage}
-use Rattle.season_log.specs.Inner.{namesText, namedText, arrivalText, numbersAt, rangedAt, stepAt, lineBytes, Arrives, textBytes, FaultOn, LineFits, LinesFit, LinesOn}
+use Rattle.season_log.specs.Inner.{namesText, namedText, arrivalText, numbersAt, rangedAt, stepAt, lineBytes, Arrives, textBytes, FaultIs, LineFits, LinesFit, LinesOn}
 use Rattle.season_log.proofs.Lines.{by-kind, kind-kept}
 
 -- ## Numbers in range
@@ -437,46 +438,46 @@ module _ (form : ℕ) where
   pub counted-odd : (list : List ℕ) → length list % 24 ≢ 0 → 0 ≡ textBytes (listedUnder form list)
   counted-odd list n = no-bytes (listedUnder form list) (odd-fault (length list / 24) 2 list (omega arith) (omega arith))
 
-  -- ## The line of a fault
+  -- ## The first fault
 
-  fault-ahead : (s : Step) (x : Logged) (line : ℕ) → FaultOn x line → FaultOn (ahead s x) line
-  fault-ahead s (steps f ss) line told = told
-  fault-ahead s (fault r) line told = told
+  fault-ahead : (s : Step) (x : Logged) (r : Refusal) → FaultIs x r → FaultIs (ahead s x) r
+  fault-ahead s (steps f ss) r told = told
+  fault-ahead s (fault q) r told = told
 
-  -- The loop's invariant: the line of the first fault of what is left is that of the whole.
+  -- The loop's invariant: the first fault of what is left is that of the whole.
   pub record Seeking (list : List ℕ) (at : ℕ) : Type 0 where
     pub within : at ≤ length list
-    pub leads : (line : ℕ) → FaultOn (restAt at list) line → FaultOn (listedUnder form list) line
+    pub leads : (r : Refusal) → FaultIs (restAt at list) r → FaultIs (listedUnder form list) r
 
   pub seeking : (list : List ℕ) → Seeking list 0
   seeking list =
-      record { within = omega arith; leads = λ line f. subst (λ (x : Logged). FaultOn x line) (rest-start list) f }
+      record { within = omega arith; leads = λ r f. subst (λ (x : Logged). FaultIs x r) (rest-start list) f }
 
   module _ {list : List ℕ} {at : ℕ} (g : Seeking list at) where
     pub seeking-next : at + 24 ≤ length list → rangedAt form at list ≡ true → Seeking list (at + 24)
     seeking-next more r =
         record {
           within = more;
-          leads = λ line f.
-              g .leads line
-              (subst (λ (x : Logged). FaultOn x line) (sym (rest-next list at more r))
-              (fault-ahead (stepAt form at list) (restAt (at + 24) list) line f));
+          leads = λ q f.
+              g .leads q
+              (subst (λ (x : Logged). FaultIs x q) (sym (rest-next list at more r))
+              (fault-ahead (stepAt form at list) (restAt (at + 24) list) q f));
         }
 
     module _ (line : ℕ) (told : line ≡ toldLine (at / 24 + 2)) where
-      fault-here : restAt at list ≡ faultAt at → FaultOn (listedUnder form list) line
-      fault-here e = g .leads line (subst (λ (x : Logged). FaultOn x line) (sym e) (ap OutOfRange (sym told)))
+      fault-here : restAt at list ≡ faultAt at → FaultIs (listedUnder form list) (OutOfRange line)
+      fault-here e = g .leads (OutOfRange line) (subst (λ (x : Logged). FaultIs x (OutOfRange line)) (sym e) (ap OutOfRange (sym told)))
 
       -- the step at the place is out of range
-      pub sought-fault : at + 24 ≤ length list → rangedAt form at list ≡ false → FaultOn (listedUnder form list) line
+      pub sought-fault : at + 24 ≤ length list → rangedAt form at list ≡ false → FaultIs (listedUnder form list) (OutOfRange line)
       sought-fault more r = fault-here (rest-fault list at more r)
 
       -- no whole step is left
-      pub sought-end : length list < at + 24 → FaultOn (listedUnder form list) line
+      pub sought-end : length list < at + 24 → FaultIs (listedUnder form list) (OutOfRange line)
       sought-end h = go (leb (length list) at) refl
         where
-          go : (t : Bool) → leb (length list) at ≡ t → FaultOn (listedUnder form list) line
-          go true e = g .leads line (subst (λ (x : Logged). FaultOn x line) (sym (rest-end list at (leb-true (length list) at e))) tt)
+          go : (t : Bool) → leb (length list) at ≡ t → FaultIs (listedUnder form list) (OutOfRange line)
+          go true e = g .leads (OutOfRange line) (subst (λ (x : Logged). FaultIs x (OutOfRange line)) (sym (rest-end list at (leb-true (length list) at e))) tt)
           go false e = fault-here (rest-torn list at (leb-false (length list) at e) h)
 
   -- ## The lines of a list on a page
@@ -587,9 +588,9 @@ names-some : (form : ℕ) → 1 ≤ length (namesText form)
 names-some form = omega (arith, length-append (headingOf 2 form) (textOf "\n"))
 
 pub told-fault :
-    (x : Logged) (n line : ℕ) (page : List ℕ) → n ≡ textBytes x → n ≡ 0 → FaultOn x line → Answers x page (Not (OutOfRange line)) page
-told-fault (steps f ss) n line page e z told = absurd (omega (arith, log-count f ss, names-some f))
-told-fault (fault q) n line page e z told = (ap Not (sym told), refl)
+    (x : Logged) (n : ℕ) (r : Refusal) (page : List ℕ) → n ≡ textBytes x → n ≡ 0 → FaultIs x r → Answers x page (Not r) page
+told-fault (steps f ss) n r page e z told = absurd (omega (arith, log-count f ss, names-some f))
+told-fault (fault q) n r page e z told = (ap Not (sym told), refl)
 
 -- a list whose text has some bytes has no fault
 abbrev pub Sized : Logged → ℕ → Type 0

@@ -3,7 +3,7 @@ use mathlib.Core.{Path._≡_, Bool.{Bool, true, cond}, List.{List, _∷_, _++_}}
 use Prim.Native.Nat.{ℕ, _+_, _≤_}
 use lib.ListN.{length}
 use Rattle.decimal.specs.{Decimal.{textOf, digitsOf}, InnerPages.textOver}
-use Rattle.types.specs.declared.{Step.Step, Numbers.Numbers, Refusal.the-variants.OutOfRange}
+use Rattle.types.specs.declared.{Step.Step, Numbers.Numbers, Refusal.Refusal}
 use Rattle.types.specs.Types.{stepOf}
 use Rattle.landlord.specs.{Catalog.{listed as itemListed, itemInRange}, Calls.{isItemNumber, inRange}}
 use Rattle.season_lines.specs.Lines.{headingOf, numbersUnder}
@@ -54,10 +54,10 @@ abbrev pub textBytes : Logged → ℕ
 textBytes (steps form ss) = length (logText form ss)
 textBytes (fault r) = 0
 
--- the line that a fault is told with
-abbrev pub FaultOn : Logged → ℕ → Type 0
-FaultOn (steps form ss) line = Unit {0}
-FaultOn (fault r) line = r ≡ OutOfRange line
+-- the refusal of a list that has a fault
+abbrev pub FaultIs : Logged → Refusal → Type 0
+FaultIs (steps form ss) r = Unit {0}
+FaultIs (fault q) r = q ≡ r
 
 -- a step in range at a place of a list whose line has room on the page
 pub record LineFits (form : ℕ) (list : List ℕ) (at : ℕ) (page : List ℕ) : Type 0 where

@@ -7,7 +7,7 @@ ghost use lib.ListN.{length};
 ghost use Rattle.decimal.specs.InnerPages.{textOver};
 ghost use Rattle.types.specs.declared.Step.the-variants.{Write, Flush};
 ghost use Rattle.season_log.specs.Log.{noValues, stepText, listNumber, listNumbers, toldLine, listedUnder, listed, LogWritten};
-ghost use Rattle.season_log.specs.Inner.{namesText, namedText, arrivalText, valueText, rangedAt, stepAt, lineBytes, Arrives, textBytes, FaultOn, LineFits, LinesFit, LinesOn};
+ghost use Rattle.season_log.specs.Inner.{namesText, namedText, arrivalText, valueText, rangedAt, stepAt, lineBytes, Arrives, textBytes, FaultIs, LineFits, LinesFit, LinesOn};
 use types::Numbers;
 use types::Refusal;
 
@@ -172,9 +172,9 @@ fn text_bytes(heading: u32, list: &[u8]) -> usize
     bytes
 }
 
-// The line of the first step that is out of range or not whole.
-fn fault_line(heading: u32, list: &[u8]) -> u32
-    ensures { λ r. ⌜ FaultOn (listedUnder heading (now (list .entry))) r ⌝ }
+// The refusal of the first step that is out of range or not whole.
+fn first_fault(heading: u32, list: &[u8]) -> Refusal
+    ensures { λ r. ⌜ FaultIs (listedUnder heading (now (list .entry))) r ⌝ }
 {
     let n = list.len();
     let mut at = 0;
@@ -184,7 +184,7 @@ fn fault_line(heading: u32, list: &[u8]) -> u32
         }
         at += 24;
     }
-    line_of(at)
+    Refusal::OutOfRange { line: line_of(at) }
 }
 
 // Writes the names at the start of the page, which has room for them.
@@ -316,9 +316,7 @@ pub fn write_log(heading: u32, list: &[u8], page: &mut [u8]) -> LogAnswer
     }
     let bytes = text_bytes(heading, list);
     if bytes == 0 {
-        return LogAnswer::Refused(Refusal::OutOfRange {
-            line: fault_line(heading, list),
-        });
+        return LogAnswer::Refused(first_fault(heading, list));
     }
     if LIMIT < bytes || page.len() < bytes {
         return LogAnswer::Refused(Refusal::ShortBuffer { line: 0 });

@@ -24,8 +24,8 @@ returns c = let a = c .before .before .before .args in log-written (told-heading
 text-bytes-requires : tie.Need-text-bytes-requires
 text-bytes-requires c κs = search needs
 
-fault-line-requires : tie.Need-fault-line-requires
-fault-line-requires c κs = search needs
+first-fault-requires : tie.Need-first-fault-requires
+first-fault-requires c κs = search needs
 
 -- what the list is, the lines of its steps, and its text
 abbrev given : (s : tie.Start) → Logged
@@ -50,7 +50,7 @@ asked c r after h =
 
 returns-2 : tie.Need-returns-2
 returns-2 c =
-    asked (c .before .before .before) _ _ (told-fault (given (c .before .before .before .before .before .before)) _ _ (c .before .before .before .before .before .before .args .page .now) (c .before .before .text-bytes .ensures) (c .before .if2 .taken) (c .fault-line .ensures))
+    asked (c .before .before .before) _ _ (told-fault (given (c .before .before .before .before .before .before)) _ _ (c .before .before .before .before .before .before .args .page .now) (c .before .before .text-bytes .ensures) (c .before .if2 .taken) (c .first-fault .ensures))
 
 -- how many bytes its text has
 sized : (c : tie.Else2) → Sized (given (c .before .before .before .before .before)) (c .before .text-bytes .result)
@@ -135,7 +135,7 @@ write-log-spec =
     (tie.spec
     returns
     text-bytes-requires
-    fault-line-requires
+    first-fault-requires
     returns-2
     returns-3
     put-names-requires

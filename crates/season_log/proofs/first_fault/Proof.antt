@@ -1,4 +1,4 @@
--- `season_log::fault_line` meets its contract. The loop's invariant: the first fault of what is left is that of the whole. Assumes nothing.
+-- `season_log::first_fault` meets its contract. The loop's invariant: the first fault of what is left is that of the whole. Assumes nothing.
 use mathlib.Core.Path.{sym, _∙_}
 use mathlib.Core.Logic.{⊎-elim}
 use Prim.Native.Nat.{_+_, _-_, _≤_}
@@ -7,8 +7,8 @@ use borrow.Author.Needs.{needs}
 use borrow.Author.Tests.{not-true, not-false}
 use lib.ListN.{length}
 use Rattle.season_log.proofs.Writing.{Seeking, seeking, seeking-next, sought-fault, sought-end}
-use Rattle.season_log.proofs.fault_line.Statement.{statement}
-use Rattle.season_log.proofs.fault_line.Tie as tie
+use Rattle.season_log.proofs.first_fault.Statement.{statement}
+use Rattle.season_log.proofs.first_fault.Tie as tie
 
 abbrev Inv-loop : tie.InvT-loop
 Inv-loop heading list n at₀ at = Seeking heading list at
@@ -51,8 +51,8 @@ returns c =
     (λ w. sought-fault form (l .inv) (f .result) (f .ensures) (omega (arith, w .0 .taken, l .inv .within)) (sym (w .1 .ensures) ∙ not-true _ (w .2 .taken)))
     (c .before .loop-test .came)
 
-pub fault-line-spec : {M : Type 1} → statement M
-fault-line-spec =
+pub first-fault-spec : {M : Type 1} → statement M
+first-fault-spec =
     tie.close
     (tie.spec
     Inv-loop
