@@ -1,5 +1,5 @@
 # `make example` runs the main job on an example, `make test` runs everything that must hold; README.md has the rest.
-.PHONY: example report check-log lib example-c example-firmware test bench soak
+.PHONY: example report check-log lib example-c example-firmware test wrong bench soak
 
 LIBRARY = target/staticlib/librecorder.a
 SEASON = target/bin/season
@@ -45,6 +45,10 @@ example-firmware: lib
 
 test:
 	bash scripts/test
+
+# The wrong programs beyond the two of each promise that the tests try: of every crate that has some, or make wrong CRATES="cache layout"
+wrong:
+	bash scripts/wrong $(CRATES)
 
 # Not part of the tests: times against plain Rust that does the same checks on the same bytes, and prints the same report.
 bench: $(SEASON) $(CHECK_LOG) lib
