@@ -13,6 +13,7 @@ use crate::seasons::{LONGEST_REPORT, items};
 /// Texts to a case: a season's own, and those that are made of it by damage.
 pub const TO_A_SEASON: u64 = 4;
 
+#[derive(Clone)]
 pub struct Season {
     pub k: u32,
     pub h: u32,
@@ -262,6 +263,37 @@ fn spoil_plan(r: &mut Random, season: &mut Season) {
     }
 }
 
+/// Spoils what arrives and leaves: an arrival more, mostly of a number that is not the next one; or a departure more, behind which a
+/// step or an act still names its item.
+fn spoil_items(r: &mut Random, season: &mut Season) {
+    let some = |r: &mut Random, end: usize| r.below(end.max(1) as u64) as usize;
+    let Some(&listed) = season.items.first() else {
+        return;
+    };
+    let next = season.items.len();
+    let item = some(r, next);
+    let from = some(r, season.steps.len() + 1);
+    let later = from + 1 + some(r, season.steps.len() - from + 1);
+    if r.one_in(3) {
+        let item = r.pick(&[item, season.listed(), next, next + 1]);
+        season.steps.insert(from, Step::Arrive { item, listed });
+        return;
+    }
+    season.steps.insert(from, Step::Retire { item });
+    let (read, again) = (Step::Read { item }, Step::Retire { item });
+    let write = Step::Write { item, minutes: 6 };
+    match r.below(4) {
+        0 => season.steps.insert(later, read),
+        1 => season.steps.insert(later, write),
+        2 => season.steps.insert(later, again),
+        _ => {
+            let place = season.acts.partition_point(|&(other, _)| other <= later);
+            let act = r.pick(&[Act::Evict { item }, Act::Fetch { item }]);
+            season.acts.insert(place, (later, act));
+        }
+    }
+}
+
 /// Lengthens the text of a season to so many bytes, by writes behind its last step that need no act, with more digits for
 /// the minutes of some.
 fn lengthen(season: &mut Season, bytes: usize) {
@@ -321,7 +353,7 @@ fn compare_calls(run: &mut Run, r: &mut Random, season: &Season, output: &str) {
     }
 }
 
-/// One case: a season's text, then the same with a spoilt plan or damaged.
+/// One case: a season's text, then the same with a spoilt plan, with items spoilt, or damaged.
 pub fn case(run: &mut Run, program: &Program) {
     let r = &mut run.random();
     let mut season = some_season(r);
@@ -338,6 +370,12 @@ pub fn case(run: &mut Run, program: &Program) {
         if r.one_in(5) {
             spoil_plan(r, &mut season);
             program.compare(run, season.text().as_bytes());
+            continue;
+        }
+        if r.one_in(8) {
+            let mut spoilt = season.clone();
+            spoil_items(r, &mut spoilt);
+            program.compare(run, spoilt.text().as_bytes());
             continue;
         }
         let mut text = whole.clone().into_bytes();
