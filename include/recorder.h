@@ -10,7 +10,7 @@
  * examples/season.c is the shortest use of them; examples/firmware has a main loop around them, with a card that can fail.
  *
  * In this file, in this order:
- *     what holds of every call    MACHINE, OWNERSHIP, REENTRANT, OVERLAP, ANSWERS, STACK, VERSIONS
+ *     what holds of every call    MACHINE, INTERRUPTS, OWNERSHIP, REENTRANT, OVERLAP, ANSWERS, STACK, VERSIONS
  *     the numbers                 sizes, rules of deduction, limits; answers, kinds of a step, headings of a log
  *     the six calls               recorder_open, recorder_step, recorder_close, recorder_report, recorder_sentence, recorder_log
  *     what the state says         the place of each field
@@ -19,6 +19,20 @@
  *
  * MACHINE. x86-64 only, with the calling convention of Linux: the kit's back end writes code for no other machine. Of the C
  * library at most memcpy and memset are called; a box without one supplies these two. The header is C99 or C++11, or later.
+ *
+ * INTERRUPTS. The code in the archive is what a compiler makes for a program, not for a kernel (tests/c/machine looks at it):
+ *   - Every call uses vector registers, xmm0 and up, for integers and copies: SSE2, with no floating-point arithmetic and
+ *     nothing wider (memcpy and memset use what yours do). SSE has to be switched on. What comes in the middle of a call must
+ *     leave these registers as they were: a task switch saves and restores them, and so does an interrupt handler, unless it is
+ *     compiled without them (-mgeneral-regs-only) and calls nothing that uses them, as the recorder does.
+ *   - Every call but recorder_open uses the red zone: up to 128 bytes below the stack pointer. A handler on the same stack must
+ *     begin below them. Where the processor takes an interrupt without a change of stack (in ring 0, with no IST entry), it
+ *     writes its own frame into them before the handler runs. There, give the interrupts stacks of their own, or call the
+ *     recorder in ring 3, or where no interrupt can come.
+ *   - The stack pointer has to be a multiple of 16 at the call, as the convention says: recorder_step, recorder_close,
+ *     recorder_report and recorder_sentence fault otherwise. A C compiler sees to it; a handler in assembly that calls the
+ *     recorder, or C, has to do so itself.
+ * Then a handler may call the recorder too, on another state than that of a call it may have interrupted.
  *
  * OWNERSHIP. The state is RECORDER_STATE_BYTES bytes that the caller owns: static, on the stack or anywhere else, at any
  * alignment. No call keeps a pointer. The library has no heap and no static data but constants, takes no lock, masks no
