@@ -10,7 +10,7 @@
  * examples/season.c is the shortest use of them; examples/firmware has a main loop around them, with a card that can fail.
  *
  * In this file, in this order:
- *     what holds of every call    MACHINE, INTERRUPTS, OWNERSHIP, REENTRANT, OVERLAP, ANSWERS, STACK, VERSIONS
+ *     what holds of every call    MACHINE, INTERRUPTS, OWNERSHIP, REENTRANT, OVERLAP, ANSWERS, STACK, TIME, VERSIONS
  *     the numbers                 sizes, rules of deduction, limits; answers, kinds of a step, headings of a log
  *     the six calls               recorder_open, recorder_step, recorder_close, recorder_report, recorder_sentence, recorder_log
  *     what the state says         the place of each field
@@ -53,6 +53,34 @@
  * STACK. Measured on x86-64 (make bench prints it): at most 191 bytes for recorder_open, 423 for recorder_step, 199 for
  * recorder_close, 471 for recorder_report, 623 for recorder_sentence and 207 for recorder_log, with no recursion, what the C
  * library's memcpy and memset use included. The library works on the lent bytes in place and makes no copy of them.
+ *
+ * TIME. In instructions, counted under callgrind and rounded (tests/c/cost prints them to the unit and holds this table to
+ * them), by the count of items in the catalog:
+ *
+ *                                                      3        30       256
+ *     recorder_open                                  130       540     4,300
+ *     recorder_step, refused                       3,100     4,400    15,400
+ *     recorder_step, refused, all have left        3,200     5,100    21,300
+ *     recorder_step, hit                           3,200     4,500    15,500
+ *     recorder_step, arrival                       3,100     4,400    15,700
+ *     recorder_step, retirement                    3,300     4,600    15,500
+ *     recorder_step, miss, one eviction            3,500     5,700    24,400
+ *     recorder_step, flush, all dirty              3,600     8,100    45,900
+ *     recorder_step, miss, 16 evictions                              202,400
+ *     recorder_close, all dirty                    3,600     8,100    45,900
+ *     recorder_report, long figures                7,100    24,900   167,800
+ *     recorder_is_valid, long figures              4,100     9,400    52,000
+ *     recorder_sentence, at most                     780
+ *     recorder_log, a step of any kind               150
+ *     recorder_log, a step, at most                  490
+ *
+ * What memset takes for the RECORDER_STATE_BYTES bytes of an opening, and memcpy for a sentence, comes on top.
+ *
+ * Each step, close and report looks over the whole state first, for refusal 17, and over the places past the catalog too. That
+ * look is all of the line 'refused', and nearly all of a hit. An eviction goes over all items twice. The worst step is a miss
+ * with 16 evictions, and there can be no more of them: each frees a block at least, and no item has more than 16. The line has
+ * the most of 32 such steps, with 255 items held; of some 5,000 others that were tried none took more than 203,000.
+ * recorder_is_valid measures the report besides. 'Long figures' are those of a season of 1,000,000 steps.
  *
  * VERSIONS. RECORDER_VERSION counts the change requests that this header is made for; docs/changes has a note on each. The
  * archive carries no such number, but it writes the number of its layout into every state. So look once, after the first

@@ -1,7 +1,7 @@
 /*
- * The exported calls from C: the worked example, every refusal, damaged states, both rules of deduction, the marks of 256 items, items
- * that arrive and leave, reports, sentences, logs; and the header's inline functions, beside this file's own readers of the same bytes.
- * It prints short lines that tests/c/run compares with expected.txt.
+ * The exported calls from C: the worked example, every refusal, damaged states, both rules of deduction, the marks of 256 items,
+ * items that arrive and leave, reports, sentences, logs; and the header's inline functions, beside this file's own readers of the
+ * same bytes. It prints short lines that tests/c/run compares with expected.txt.
  *
  * Every call on a state is made twice on copies of it: at an odd address between guard bytes, and in a heap block of exactly
  * the state's length, so that valgrind sees a byte read or written outside it. Both must give the same answer and bytes. A log is
