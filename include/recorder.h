@@ -22,9 +22,9 @@
  *
  * INTERRUPTS. The code in the archive is what a compiler makes for a program, not for a kernel (tests/c/machine looks at it):
  *   - Every call uses vector registers, xmm0 and up, for integers and copies: SSE2, with no floating-point arithmetic and
- *     nothing wider (memcpy and memset use what yours do). SSE has to be switched on. What comes in the middle of a call must
- *     leave these registers as they were: a task switch saves and restores them, and so does an interrupt handler, unless it is
- *     compiled without them (-mgeneral-regs-only) and calls nothing that uses them, as the recorder does.
+ *     nothing wider (memcpy and memset use what yours do). SSE has to be switched on (CR4.OSFXSR). What comes in the middle of
+ *     a call must leave these registers as they were: a task switch saves and restores them, and so does an interrupt handler,
+ *     unless it is compiled without them (-mgeneral-regs-only) and calls nothing that uses them, as the recorder does.
  *   - Every call but recorder_open uses the red zone: up to 128 bytes below the stack pointer. A handler on the same stack must
  *     begin below them. Where the processor takes an interrupt without a change of stack (in ring 0, with no IST entry), it
  *     writes its own frame into them before the handler runs. There, give the interrupts stacks of their own, or call the
