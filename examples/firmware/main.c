@@ -1,7 +1,8 @@
 /*
  * The recorder's main loop, in small: a season of a few steps with a card that fails, a state that is damaged, a night
- * without power, a sail that is delivered and one that is scrapped. It prints what it does; examples/firmware/run compares that with expected.txt. At the end it writes the season's
- * log for the office, and with a file's name as argument into that file.
+ * without power, a sail that is delivered and one that is scrapped. It prints what it does; examples/firmware/run compares
+ * that with expected.txt. At the end it writes the season's log for the office, and with a file's name as argument into that
+ * file. Ends with 1 if the season was given up, a figure does not agree or the file was not written.
  *
  * THE ORDER OF A STEP. (1) Keep a copy of the state. (2) Make the call. (3) Compare the marks of both states. (4) Write back
  * the records that have to go to the card. (5) Fetch the one that was loaded. (6) Store the new state, with the number of the
@@ -28,21 +29,21 @@
 #include <stdio.h>
 #include <string.h>
 
-/* An item of the catalogue in its five bytes (the paper's sail): blocks, load cost, write cost; low byte first. */
-#define ITEM(blocks, load, write) (blocks), (load) & 255, (load) >> 8, (write) & 255, (write) >> 8
-
 #define K 4     /* the cache's blocks (the paper's locker) */
 #define TRIES 3 /* so often one step is tried before the loop gives up */
 
 /*
- * The rule of deduction is chosen here, once for a season: every opening below takes it, so that a replay comes to the same bytes, and
- * a stored state keeps it. RECORDER_LOAD_FIRST is the other one. The office has to replay the log by the same rule: the first table of
- * head.txt names none, which is write-first; by load-first it would be headed `locker rival rule`, with the line `4 4 load-first`.
+ * The rule of deduction is chosen here, once for a season: every opening below takes it, so that a replay comes to the same
+ * bytes, and a stored state keeps it. RECORDER_LOAD_FIRST is the other one. The office has to replay the log by the same rule:
+ * the first table of head.txt names none, which is write-first; by load-first it would be headed `locker rival rule`, with the
+ * line `4 4 load-first`.
  */
 #define RULE RECORDER_WRITE_FIRST
 
+/* The catalogue's items (the paper's sails): blocks, load cost, write cost. */
 static const uint8_t catalog[] = {
-    ITEM(1, 4, 6), ITEM(2, 6, 2), ITEM(1, 3, 9), ITEM(3, 300, 700), ITEM(5, 1, 1), /* the last is larger than the cache */
+    RECORDER_ITEM(1, 4, 6),     RECORDER_ITEM(2, 6, 2), RECORDER_ITEM(1, 3, 9),
+    RECORDER_ITEM(3, 300, 700), RECORDER_ITEM(5, 1, 1), /* the last is larger than the cache */
 };
 
 /*
@@ -92,13 +93,11 @@ static const struct fault {
 static uint8_t state[RECORDER_STATE_BYTES], before[RECORDER_STATE_BYTES];
 
 /*
- * The steps that were taken, six numbers each, which are the bytes that recorder_log wants. They stand on the card as the log
- * does. How many there are says the state's own count, and a step is put at its place before the state is stored: broken off and
- * taken again it comes to the same place, and a step that was not stored is past the count.
+ * The steps that were taken, as the bytes that recorder_log wants. They stand on the card as the log does. How many there are says
+ * the state's own count, and a step is put at its place before the state is stored: broken off and taken again it comes to the
+ * same place, and a step that was not stored is past the count.
  */
-static uint32_t taken[CLOSE - 1][RECORDER_STEP_NUMBERS];
-
-_Static_assert(sizeof *taken == RECORDER_STEP_BYTES, "a step of the list is six numbers");
+static uint8_t taken[(CLOSE - 1) * RECORDER_STEP_BYTES];
 
 /*
  * Working memory, with a place for each item, so that a fetch never lands on a record that was evicted in the same step and
@@ -217,12 +216,10 @@ static void serve_boat(uint32_t step)
         tally.wrong_records++;
 }
 
-/* How many steps the state has taken. On this machine the low byte comes first, as in the state. */
+/* How many steps the state has taken. */
 static uint32_t steps_taken(void)
 {
-    uint32_t count;
-    memcpy(&count, state + RECORDER_AT_STEPS, sizeof count);
-    return count;
+    return recorder_u32(state + RECORDER_AT_STEPS);
 }
 
 /* Puts a step that was taken behind those before it. The close is no step. */
@@ -230,7 +227,8 @@ static void keep(uint32_t step)
 {
     if (step == CLOSE)
         return;
-    memcpy(taken[steps_taken() - 1], steps[step - 1], sizeof *taken);
+    const uint32_t *n = steps[step - 1];
+    recorder_put_step(taken, steps_taken() - 1, n[KIND], n[NUMBER], n[MINUTES], n[BLOCKS], n[LOAD], n[WRITE]);
 }
 
 /* (4), (5) and (6) of the order above. */
@@ -279,13 +277,20 @@ static enum outcome take(uint32_t step)
  * A state from the catalogue, taken through the log again. The calls depend on nothing else, so this comes to the bytes that
  * were lost, figures and all; the card has done its part of these steps already. Without a log the season's figures would
  * begin at 0 again.
+ *
+ * An opening asks nothing of the state but its length, so 17 can only mean a library of another version; so does another
+ * layout than the header's in a state that was opened just now.
  */
 static bool reopen(uint32_t next)
 {
     uint32_t answer = recorder_open(state, sizeof state, K, RULE, catalog, sizeof catalog);
     if (answer != RECORDER_TAKEN) {
-        printf("  the catalogue is refused");
+        printf("  the opening is refused");
         say_refusal(answer, 0, 0);
+        return false;
+    }
+    if (recorder_format(state, sizeof state) != RECORDER_FORMAT) {
+        printf("  the library has layout %u, not %d\n", recorder_format(state, sizeof state), RECORDER_FORMAT);
         return false;
     }
     for (uint32_t step = 1; step < next; step++)
@@ -296,26 +301,24 @@ static bool reopen(uint32_t next)
 
 /*
  * Back to the stored state, and to the step that follows on it. The card has been without power for a moment or a night, so
- * the state is tested before its marks are used: a report on no page answers 17 for a damaged state and 15 for a good one.
+ * the state is tested before its marks are used.
  *
- * 17 means that a rule of validity is broken. A flip that breaks none (in the minutes of an item, say) is not seen by the
+ * Not valid means that a rule of validity is broken. A flip that breaks none (in the minutes of an item, say) is not seen by the
  * library; where the card does not check its bytes itself, a checksum should be stored with them and the step's number.
  */
 static bool restore(uint32_t *next)
 {
-    size_t length;
     card_restart();
     if (!card_recall(state, next))
         return false;
     if (*next == 0)
         *next = 1; /* a new card */
-    uint32_t answer = recorder_report(state, sizeof state, NULL, 0, &length);
-    if (answer != RECORDER_INVALID_STATE) {
+    if (recorder_is_valid(state, sizeof state)) {
         printf("  back to the stored state, step %u is next\n", *next);
         return true;
     }
     printf("  no good state on the card");
-    say_refusal(answer, 0, 0);
+    say_refusal(RECORDER_INVALID_STATE, 0, 0);
     return reopen(*next);
 }
 
@@ -390,20 +393,17 @@ static bool agree(const char *what, uint32_t reported, uint32_t counted, uint32_
     return well;
 }
 
-/* The report, and the card's counts and records held against it. */
+/* The report, and the card's counts and records held against it. Its totals are read from the state, not from the text. */
 static bool finish(void)
 {
-    static char page[RECORDER_REPORT_BYTES + 1]; /* the text has no zero behind it; this one is for strstr and sscanf */
+    static uint8_t page[RECORDER_REPORT_BYTES];
     size_t length = 0;
-    uint32_t loads, writebacks;
-    if (recorder_report(state, sizeof state, (uint8_t *)page, RECORDER_REPORT_BYTES, &length) != RECORDER_TAKEN)
+    if (recorder_report(state, sizeof state, page, sizeof page, &length) != RECORDER_TAKEN)
         return false;
     fwrite(page, 1, length, stdout);
-    const char *totals = strstr(page, "\n\n");
-    if (totals == NULL || sscanf(totals, " %*[^\n] %*u %u %*u %*u %*u %u", &loads, &writebacks) != 2)
-        return false;
 
     struct card_counts card = card_counts();
+    uint32_t loads = recorder_u32(state + RECORDER_AT_LOADS), writebacks = recorder_u32(state + RECORDER_AT_WRITEBACKS);
     bool equal = agree("loads", loads, tally.loads, tally.lost_reads, tally.power_on_reads, card.reads);
     equal &= agree("writebacks", writebacks, tally.writebacks, tally.lost_writes, 0, card.writes);
     for (uint32_t i = 0; i < ITEMS; i++) {
@@ -415,15 +415,25 @@ static bool finish(void)
     return equal && tally.wrong_records == 0;
 }
 
+/* Puts a text into a new file, which is closed whatever happens: on a box handles are few. */
+static bool put_file(const char *name, const uint8_t *text, size_t length)
+{
+    FILE *file = fopen(name, "wb");
+    if (file == NULL)
+        return false;
+    bool written = fwrite(text, 1, length, file) == length;
+    return fclose(file) == 0 && written; /* what was buffered may fail as late as here */
+}
+
 /*
- * The season's log for the office, which puts it between its other tables. A sail arrived and left, so it has the six names. What a page of RECORDER_LOG_BYTES bytes does not hold
- * has no text at all; a box that may sail so long closes its season before.
+ * The season's log for the office, which puts it between its other tables. A sail arrived and left, so it has the six names. What
+ * a page of RECORDER_LOG_BYTES bytes does not hold has no text at all; a box that may sail so long closes its season before.
  */
 static bool hand_over(const char *name)
 {
     static uint8_t page[RECORDER_LOG_BYTES];
-    size_t length = 0;
-    uint64_t answer = recorder_log(RECORDER_SIX_NAMES, (const uint8_t *)taken, steps_taken() * sizeof *taken, page, sizeof page, &length);
+    size_t length = 0, list = steps_taken() * (size_t)RECORDER_STEP_BYTES;
+    uint64_t answer = recorder_log(RECORDER_SIX_NAMES, taken, list, page, sizeof page, &length);
     if (answer != RECORDER_TAKEN) {
         printf("the log is refused");
         say_refusal(RECORDER_LOG_NUMBER(answer), RECORDER_LOG_LINE(answer), 0);
@@ -431,10 +441,10 @@ static bool hand_over(const char *name)
     }
     puts("the log, for the office");
     fwrite(page, 1, length, stdout);
-    if (name == NULL)
+    if (name == NULL || put_file(name, page, length))
         return true;
-    FILE *file = fopen(name, "wb");
-    return file != NULL && fwrite(page, 1, length, file) == length && fclose(file) == 0;
+    fprintf(stderr, "the log was not written to %s\n", name);
+    return false;
 }
 
 int main(int argc, char **argv)

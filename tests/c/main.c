@@ -1,6 +1,7 @@
 /*
- * The exported calls from C: the worked example, every refusal, damaged states, both rules of deduction, the marks of 256 items, items
- * that arrive and leave, reports, sentences, logs. It prints short lines that tests/c/run compares with expected.txt.
+ * The exported calls from C: the worked example, every refusal, damaged states, both rules of deduction, the marks of 256 items,
+ * items that arrive and leave, reports, sentences, logs; and the header's inline functions, beside this file's own readers of the
+ * same bytes. It prints short lines that tests/c/run compares with expected.txt.
  *
  * Every call on a state is made twice on copies of it: at an odd address between guard bytes, and in a heap block of exactly
  * the state's length, so that valgrind sees a byte read or written outside it. Both must give the same answer and bytes. A log is
@@ -36,11 +37,21 @@ struct state {
 
 static int faults;
 static bool untouched; /* whether the last call left every byte of the state as it was */
+static bool answered[32]; /* the numbers that calls have answered */
 
 static void fault(const char *what)
 {
     printf("FAULT: %s\n", what);
     faults++;
+}
+
+static uint32_t note(uint32_t answer)
+{
+    if (answer >= sizeof answered / sizeof *answered)
+        fault("an answer that is no refusal's");
+    else
+        answered[answer] = true;
+    return answer;
 }
 
 static uint32_t make(uint8_t *bytes, size_t len, const struct call *c, const uint8_t *catalog)
@@ -70,7 +81,7 @@ static uint32_t lend(struct state *s, size_t len, const struct call *c)
     memset(arena, 0xC3, sizeof arena);
     memcpy(arena + GUARD, s->bytes, len);
     uint8_t *catalog = block(c->catalog, c->catalog_len);
-    uint32_t answer = make(arena + GUARD, len, c, catalog);
+    uint32_t answer = note(make(arena + GUARD, len, c, catalog));
     for (size_t i = 0; i < sizeof arena; i++)
         if ((i < GUARD || i >= GUARD + len) && arena[i] != 0xC3) {
             fault("a byte outside the state was written");
@@ -569,23 +580,41 @@ static const struct damage sound[] = {
     { "arrivals for hits, more than items", busy, { { 8828, 1, 2 }, { 16, 1, 0 } } },
 };
 
+/* recorder_is_valid on a heap block of just the state's bytes. */
+static bool is_valid(const struct state *s, size_t len)
+{
+    uint8_t *exact = block(s->bytes, len);
+    bool valid = recorder_is_valid(exact, len);
+    free(exact);
+    return valid;
+}
+
 static void states(void)
 {
     puts("damaged states: a read, a step out of range, a close");
     struct state s;
+    unsigned valid = 0;
     for (size_t i = 0; i < sizeof broken / sizeof *broken; i++) {
         damaged(&broken[i], &s);
+        valid += is_valid(&s, BYTES);
         printf("%s: %u", broken[i].name, step(&s, RECORDER_READ, 0, 0));
         printf(" %u", step(&s, 0, 999, 9999));
         printf(" %u\n", close_it(&s));
     }
+    printf("valid by recorder_is_valid: %u of %zu\n", valid, sizeof broken / sizeof *broken);
     puts("sound states: a read, a close");
+    valid = 0;
     for (size_t i = 0; i < sizeof sound / sizeof *sound; i++) {
         damaged(&sound[i], &s);
+        valid += is_valid(&s, BYTES);
         printf("%s: %u", sound[i].name, step(&s, RECORDER_READ, 0, 0));
         damaged(&sound[i], &s);
         printf(" %u\n", close_it(&s));
     }
+    printf("valid by recorder_is_valid: %u of %zu\n", valid, sizeof sound / sizeof *sound);
+    static const size_t lengths[] = { 0, 1, 8796, BYTES - 1, BYTES, BYTES + 1 };
+    for (size_t i = 0; i < sizeof lengths / sizeof *lengths; i++)
+        printf("length %zu: %s\n", lengths[i], is_valid(&s, lengths[i]) ? "valid" : "not valid");
 }
 
 /* How many of the 256 marks are other than 'those below `count`'. */
@@ -820,7 +849,7 @@ static void report(const char *what, const struct state *s, size_t state_len, si
     uint8_t *page = blank(page_len);
     uint8_t *state = block(s->bytes, state_len);
     size_t length = UNTOLD;
-    uint32_t answer = recorder_report(state, state_len, page, page_len, &length);
+    uint32_t answer = note(recorder_report(state, state_len, page, page_len, &length));
     printf("%s: %u, length %zu\n", what, answer, length);
     size_t count = written(page, page_len, answer, length);
     if (count != 0)
@@ -890,7 +919,7 @@ static struct sentence sentence(uint32_t number, uint32_t line, uint32_t item, s
     struct sentence s = { 0 };
     uint8_t *page = blank(page_len);
     size_t length = UNTOLD;
-    s.answer = recorder_sentence(number, line, item, page, page_len, &length);
+    s.answer = note(recorder_sentence(number, line, item, page, page_len, &length));
     s.length = written(page, page_len, s.answer, length);
     if (s.length > sizeof s.text) {
         fault("a sentence longer than the longest");
@@ -1002,6 +1031,7 @@ static const struct log *log_of(const uint8_t *list, size_t list_len, size_t pag
     uint8_t *steps = block(list, list_len), *page = blank(page_len);
     size_t length = UNTOLD, other_length = UNTOLD;
     l.answer = recorder_log(heading, steps, list_len, page, page_len, &length);
+    note(RECORDER_LOG_NUMBER(l.answer));
     l.length = written(page, page_len, l.answer == 0 ? 0 : 1, length);
     if (l.length > sizeof l.text) {
         fault("a log longer than the longest");
@@ -1238,6 +1268,162 @@ static void logs(void)
     odd_headings();
 }
 
+/* Numbers at odd addresses, in heap blocks of just their bytes, so that valgrind sees a byte read or written outside them. */
+static void numbers_in_bytes(void)
+{
+    static const uint8_t rows[][8] = {
+        { 0x01, 0x02, 0x03, 0x04, 0x05, 0x06, 0x07, 0x08 },
+        { 0xFF, 0xFF, 0xFF, 0xFF, 0xFF, 0xFF, 0xFF, 0xFF },
+        { 0x00, 0x80, 0x00, 0x80, 0x00, 0x00, 0x00, 0x80 },
+    };
+    for (size_t i = 0; i < sizeof rows / sizeof *rows; i++) {
+        uint8_t bytes[9] = { 0x7E };
+        memcpy(bytes + 1, rows[i], 8);
+        uint8_t *two = block(bytes, 3), *four = block(bytes, 5), *eight = block(bytes, 9);
+        printf("%x %x %llx\n", (unsigned)recorder_u16(two + 1), recorder_u32(four + 1), (unsigned long long)recorder_u64(eight + 1));
+        recorder_put_u32(four + 1, recorder_u32(rows[i] + 4));
+        printf("  put: %02x %02x %02x %02x %02x\n", four[0], four[1], four[2], four[3], four[4]);
+        free(two);
+        free(four);
+        free(eight);
+    }
+}
+
+/* Catalogs by RECORDER_ITEM and by recorder_put_item, which writes nothing but the item's own bytes, and those only in range. */
+static void catalogs(void)
+{
+    static const uint8_t by_macro[] = { RECORDER_ITEM(1, 4, 6), RECORDER_ITEM(2, 6, 2), RECORDER_ITEM(1, 3, 9) };
+    static const uint8_t wide_item[] = { RECORDER_ITEM(16, 0x1234, 65535) };
+    static const uint32_t rows[][4] = {
+        { 0, 16, 0x1234, 65535 }, { 255, 1, 0, 0 }, { 255, 16, 65535, 0xFE01 }, { 256, 1, 0, 0 }, { 4294967295u, 1, 0, 0 }, { 0, 0, 1, 1 },
+        { 0, 17, 1, 1 }, { 0, 257, 1, 1 }, { 0, 4294967295u, 1, 1 }, { 0, 1, 65536, 1 }, { 0, 1, 4294967295u, 1 }, { 0, 1, 1, 65536 },
+        { 0, 1, 1, 4294967295u },
+    };
+    _Static_assert(RECORDER_CATALOG_BYTES == RECORDER_MAX_ITEMS * RECORDER_ITEM_BYTES, "the longest catalog has the most items");
+    puts(sizeof by_macro == sizeof three && memcmp(by_macro, three, sizeof three) == 0 ? "the same catalog" : "ANOTHER CATALOG");
+    printf("wide: %02x %02x %02x %02x %02x\n", wide_item[0], wide_item[1], wide_item[2], wide_item[3], wide_item[4]);
+    static uint8_t none[RECORDER_CATALOG_BYTES];
+    memset(none, 0xC3, sizeof none);
+    for (size_t i = 0; i < sizeof rows / sizeof *rows; i++) {
+        const uint32_t *r = rows[i];
+        uint8_t *catalog = block(none, sizeof none);
+        bool put = recorder_put_item(catalog, r[0], r[1], r[2], r[3]);
+        unsigned others = 0;
+        for (size_t j = 0; j < sizeof none; j++)
+            others += catalog[j] != 0xC3 && !(put && j / RECORDER_ITEM_BYTES == r[0]);
+        printf("item %u, blocks %u, load %u, write %u: %s, others written %u", r[0], r[1], r[2], r[3], put ? "put" : "not put", others);
+        for (size_t j = 0; put && j < RECORDER_ITEM_BYTES; j++)
+            printf(" %02x", catalog[r[0] * RECORDER_ITEM_BYTES + j]);
+        putchar('\n');
+        free(catalog);
+    }
+    struct state s, first;
+    memset(&s, 0xA5, sizeof s);
+    first = s;
+    uint8_t put[sizeof three];
+    if (!recorder_put_item(put, 0, 1, 4, 6) || !recorder_put_item(put, 1, 2, 6, 2) || !recorder_put_item(put, 2, 1, 3, 9))
+        fault("an item was not put");
+    printf("open: %u %u", open_with(&s, 3, put, sizeof put), open_with(&first, 3, three, sizeof three));
+    puts(memcmp(s.bytes, first.bytes, BYTES) == 0 ? ", the same" : ", OTHER BYTES");
+}
+
+/* A list of steps by recorder_put_step is the array of their numbers, on this machine. */
+static void lists(void)
+{
+    static const numbers steps[] = {
+        { RECORDER_WRITE, 7, 1440, 0, 0, 0 }, { RECORDER_ARRIVE, 255, 0x01020304, 16, 65535, 0x1234 }, { 4294967295u, 1, 2, 3, 4, 0x80000000u },
+    };
+    uint8_t *list = blank(sizeof steps);
+    for (size_t i = 3; i-- > 0;) {
+        recorder_put_step(list, i, steps[i][0], steps[i][1], steps[i][2], steps[i][3], steps[i][4], steps[i][5]);
+        for (size_t j = 0; j < i * RECORDER_STEP_BYTES; j++)
+            if (list[j] != 0x7E)
+                fault("a step before its own place was written");
+    }
+    puts(memcmp(list, steps, sizeof steps) == 0 ? "the same list" : "ANOTHER LIST");
+    free(list);
+}
+
+/* What the header reads of a state, beside what this file reads. Each item has other figures, so that a wrong place is seen. */
+static void figures(void)
+{
+    struct state s;
+    memset(&s, 0xA5, sizeof s);
+    for (uint32_t i = 0; i < 256; i++) {
+        put(&s, RECORDER_AT_LOAD_CREDIT + 8 * i, 8, 0x8000000000000000u + 0x0102030405060708u * i);
+        put(&s, RECORDER_AT_WRITE_CREDIT + 8 * i, 8, 0x4000000000000000u + 0x0203040506070809u * i);
+        put(&s, RECORDER_AT_MINUTES + 4 * i, 4, 0x80000000u + 0x010203u * i);
+        put(&s, RECORDER_AT_ITEM_LOADS + 4 * i, 4, 0x40000000u + 0x020304u * i);
+        put(&s, RECORDER_AT_ITEM_WRITEBACKS + 4 * i, 4, 0x20000000u + 0x030405u * i);
+    }
+    uint8_t *exact = block(s.bytes, BYTES);
+    unsigned astray = 0;
+    for (uint32_t i = 0; i < 256; i++) {
+        astray += recorder_load_credit(exact, BYTES, i) != 0x8000000000000000u + 0x0102030405060708u * i;
+        astray += recorder_write_credit(exact, BYTES, i) != 0x4000000000000000u + 0x0203040506070809u * i;
+        astray += recorder_item_minutes(exact, BYTES, i) != 0x80000000u + 0x010203u * i;
+        astray += recorder_item_loads(exact, BYTES, i) != 0x40000000u + 0x020304u * i;
+        astray += recorder_item_writebacks(exact, BYTES, i) != 0x20000000u + 0x030405u * i;
+    }
+    printf("figures astray: %u\n", astray);
+    static const struct { const char *name; size_t len; uint32_t item; } rows[] = {
+        { "item 256", BYTES, 256 }, { "item 4294967295", BYTES, 4294967295u }, { "length 8835", BYTES - 1, 0 }, { "length 8837", BYTES + 1, 0 },
+        { "no state", 0, 0 },
+    };
+    for (size_t i = 0; i < sizeof rows / sizeof *rows; i++) {
+        const uint8_t *bytes = rows[i].len == 0 ? NULL : exact;
+        printf("%s: %llu %llu %u %u %u\n", rows[i].name, (unsigned long long)recorder_load_credit(bytes, rows[i].len, rows[i].item),
+               (unsigned long long)recorder_write_credit(bytes, rows[i].len, rows[i].item),
+               recorder_item_minutes(bytes, rows[i].len, rows[i].item), recorder_item_loads(bytes, rows[i].len, rows[i].item),
+               recorder_item_writebacks(bytes, rows[i].len, rows[i].item));
+    }
+    free(exact);
+
+    busy(&s);
+    printf("busy: format %u, hits %u, loads %u, loadcost %llu, items %u, item 3: load credit %llu, write credit %llu, minutes %u, loads %u, "
+           "item 0: writebacks %u\n",
+           recorder_format(s.bytes, BYTES), recorder_u32(s.bytes + RECORDER_AT_HITS), recorder_u32(s.bytes + RECORDER_AT_LOADS),
+           (unsigned long long)recorder_u64(s.bytes + RECORDER_AT_LOAD_COST), (unsigned)recorder_u16(s.bytes + RECORDER_AT_N),
+           (unsigned long long)recorder_load_credit(s.bytes, BYTES, 3), (unsigned long long)recorder_write_credit(s.bytes, BYTES, 3),
+           recorder_item_minutes(s.bytes, BYTES, 3), recorder_item_loads(s.bytes, BYTES, 3), recorder_item_writebacks(s.bytes, BYTES, 0));
+}
+
+/* The number of a layout is read from any four bytes. */
+static void formats(void)
+{
+    struct state s;
+    busy(&s);
+    static const size_t lengths[] = { 0, 3, 4, 8792, 8796, BYTES, BYTES + 1 };
+    printf("format %u:", RECORDER_FORMAT);
+    for (size_t i = 0; i < sizeof lengths / sizeof *lengths; i++) {
+        uint8_t *exact = block(s.bytes, lengths[i]);
+        printf(" %u", recorder_format(exact, lengths[i]));
+        free(exact);
+    }
+    put(&s, RECORDER_AT_FORMAT, 4, 0x01020304);
+    printf(", %x\n", recorder_format(s.bytes, BYTES));
+}
+
+static void helpers(void)
+{
+    puts("the header's inline functions");
+    numbers_in_bytes();
+    catalogs();
+    lists();
+    figures();
+    formats();
+}
+
+/* Every number that a call has answered above: those of enum recorder_answer. */
+static void print_answers(void)
+{
+    printf("answered:");
+    for (uint32_t i = 0; i < sizeof answered / sizeof *answered; i++)
+        if (answered[i])
+            printf(" %u", i);
+    putchar('\n');
+}
+
 int main(void)
 {
     example();
@@ -1252,6 +1438,8 @@ int main(void)
     reports();
     sentences();
     logs();
+    helpers();
+    print_answers();
     printf("faults: %d\n", faults);
     return faults != 0;
 }
