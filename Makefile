@@ -2,6 +2,9 @@
 # behind ## below.
 .PHONY: example report check-log programs lib example-c example-firmware test wrong bench soak clean help given
 
+# One after the other, from left to right, whatever -j says: a file is looked at before anything is proved, and rt has jobs of its own.
+.NOTPARALLEL:
+
 LIBRARY = target/staticlib/librecorder.a
 SEASON = target/bin/season
 CHECK_LOG = target/bin/check_log
@@ -16,11 +19,11 @@ unexport FILE
 export INPUT := $(value FILE)
 
 report: PROGRAM = season
-report: given $(if $(value FILE),$(SEASON)) ## FILE=season.txt: the report of a text of one's own, and nothing else on standard output
+report: given $(SEASON) ## FILE=season.txt: the report of a text of one's own, and nothing else on standard output
 	@bash scripts/report "$$INPUT" season
 
 check-log: PROGRAM = check_log
-check-log: given $(if $(value FILE),$(CHECK_LOG)) ## FILE=log.txt: a log alone, as the box writes it: printed again, or its refusal
+check-log: given $(CHECK_LOG) ## FILE=log.txt: a log alone, as the box writes it: printed again, or its refusal
 	@bash scripts/report "$$INPUT" check_log
 
 # A file that cannot be read is told before anything is proved.
