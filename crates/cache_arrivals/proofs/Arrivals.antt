@@ -2,7 +2,7 @@
 -- Assumes nothing.
 use mathlib.Core.Path.{_≡_, refl, sym, ap, _∙_}
 use mathlib.Core.Logic.{_≢_}
-use mathlib.Core.Bool.{Bool, true, false, cond}
+use mathlib.Core.Bool.{Bool, false, cond}
 use mathlib.Core.List.{[], _∷_, _++_}
 use Prim.Native.Nat.{ℕ, suc, _+_, _≤_, _<_}
 use native.Mathlib.Nat.{add-zero, le-refl}
@@ -24,8 +24,10 @@ use Rattle.cache_state.specs.InnerView.{itemOf, usageOf, slotFrom, stateOf, cou
 use Rattle.cache_state.specs.InnerBecomes.{Becomes}
 use Rattle.cache_state.proofs.Views.{size-is, use-is}
 use Rattle.layout.specs.InnerRows.{WholeArrays}
-use Rattle.cache_serve.proofs.Changes.{plus-none}
-use Rattle.cache_arrivals.specs.InnerStores.{arrivalOf, listedOf}
+use Rattle.cache_room.proofs.Stores.{same-use}
+use Rattle.cache_counts.specs.declared.Total.the-variants.{Arrivals}
+use Rattle.cache_counts.specs.Inner.{stepCounted}
+use Rattle.cache_arrivals.specs.InnerStores.{listedOf}
 
 -- a table with an entry more behind those that it had
 grown :
@@ -36,14 +38,9 @@ grown :
 grown n f g a below here =
     ap (λ (m : ℕ). tab m f) (add-one n) ∙ tab-more n f ∙ (λ z. tab-eq n f g below z ++ (here z ∷ []))
 
--- a line to which nothing is added, whatever the test says
-pub same-line : (t : Bool) (u : Use) → u ≡ plusUse u (cond t noUse noUse)
-same-line true u = plus-none u
-same-line false u = plus-none u
-
 module _ (c : Cache) (b l w : ℕ) (s : WholeArrays c) (ok : Normal c) (few : c .n < 256) where
   abbrev after : Cache
-  after = listedOf (arrivalOf c) b l w
+  after = listedOf (stepCounted c Arrivals) b l w
 
   -- the place of the new item
   here : Blank c (c .n)
@@ -97,10 +94,10 @@ module _ (c : Cache) (b l w : ℕ) (s : WholeArrays c) (ok : Normal c) (few : c 
 
   uses-after : tab (c .n + 1) (usageOf c) ≡ tab (suc (size (stateOf c))) line-after
   uses-after =
-      tab-eq (c .n + 1) (usageOf c) line-after (λ i m. line i (ℕ-discrete i (c .n)) m ∙ same-line (eqb i (c .n)) (useAt (figuresOf c) i))
+      tab-eq (c .n + 1) (usageOf c) line-after (λ i m. line i (ℕ-discrete i (c .n)) m ∙ same-use (eqb i (c .n)) (useAt (figuresOf c) i))
       ∙ ap (λ (m : ℕ). tab m line-after) (add-one (c .n) ∙ ap suc (sym (size-is c)))
 
-  totals-after : countsOf (arrivalOf c) ≡ plusTotals (countsOf c) (adds (catalogOf c) (arrived (c .n)))
+  totals-after : countsOf (stepCounted c Arrivals) ≡ plusTotals (countsOf c) (adds (catalogOf c) (arrived (c .n)))
   totals-after = simp add-zero
 
   stands-after : view after ≡ took (view c) (Arrive (c .n) b l w)
@@ -135,7 +132,7 @@ module _ (c : Cache) (b l w : ℕ) (s : WholeArrays c) (ok : Normal c) (few : c 
   spent i m d (yes e) = ok .past i e (omega arith) .place .slot .writeCredit
   spent i m d (no e) = ok .clean i (omega arith) d
 
-  pub arrive-becomes : Becomes (took (view c) (Arrive (c .n) b l w)) (listedOf (arrivalOf c) b l w)
+  pub arrive-becomes : Becomes (took (view c) (Arrive (c .n) b l w)) (listedOf (stepCounted c Arrivals) b l w)
   arrive-becomes =
       record {
         stands = stands-after;

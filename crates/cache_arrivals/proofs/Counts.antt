@@ -7,22 +7,13 @@ use Prim.Native.Nat.{ℕ, _+_}
 use lib.ListN.{set}
 use Rattle.marks.specs.Inner.{marks}
 use Rattle.cache_state.specs.Cache.{Cache}
-use Rattle.cache_state.specs.InnerWith.{withCount, withBlocks, withItemLoadCost, withItemWriteCost, withLeft, withSteps, withArrivals, withRetirements}
+use Rattle.cache_state.specs.InnerWith.{withCount, withBlocks, withItemLoadCost, withItemWriteCost, withLeft}
 use Rattle.layout.specs.Layout.{cacheOf}
 use Rattle.layout.specs.Inner.{Stands}
 use Rattle.layout.proofs.Places.{readable, stands-as}
-use Rattle.cache_arrivals.specs.InnerStores.{arrivalOf, listedOf, leftOf, LeftAt}
-
-pub arrival-counted :
-    (b b1 left : List ℕ) {steps arrivals : ℕ} →
-    steps ≡ cacheOf b .steps →
-    arrivals ≡ cacheOf b .arrivals →
-    Stands b1 (withSteps (cacheOf b) (steps + 1)) →
-    Stands left (withArrivals (cacheOf b1) (arrivals + 1)) →
-    Stands left (arrivalOf (cacheOf b))
-arrival-counted b b1 left {steps} {arrivals} es ea s1 s2 =
-    stands-as s2
-    (ap (λ (q : Cache). withArrivals q (arrivals + 1)) (s1 .cache) ∙ (λ z. withArrivals (withSteps (cacheOf b) (es z + 1)) (ea z + 1)))
+use Rattle.cache_counts.specs.declared.Total.the-variants.{Retirements}
+use Rattle.cache_counts.specs.Inner.{stepCounted}
+use Rattle.cache_arrivals.specs.InnerStores.{listedOf, leftOf, LeftAt}
 
 -- the item at the place of the count, and then the count
 pub item-listed :
@@ -41,18 +32,15 @@ item-listed b b1 b2 b3 left blocks load write {n} en s1 s2 s3 s4 =
     ∙ (λ z. withCount (withItemWriteCost (withItemLoadCost (withBlocks (cacheOf b) (en z) blocks) (en z) load) (en z) write) (en z + 1)))
 
 pub left-marked :
-    (b b1 b2 left : List ℕ) (i : ℕ) {words gone : List ℕ} {steps retirements : ℕ} →
+    (b b1 left : List ℕ) (i : ℕ) {words gone : List ℕ} →
     words ≡ cacheOf b .left →
-    steps ≡ cacheOf b .steps →
-    retirements ≡ cacheOf b .retirements →
+    Stands b1 (stepCounted (cacheOf b) Retirements) →
     marks gone ≡ set (marks words) i true →
-    Stands b1 (withLeft (cacheOf b) gone) →
-    Stands b2 (withSteps (cacheOf b1) (steps + 1)) →
-    Stands left (withRetirements (cacheOf b2) (retirements + 1)) →
+    Stands left (withLeft (cacheOf b1) gone) →
     LeftAt b i left
-left-marked b b1 b2 left i {words} {gone} {steps} {retirements} ew es er mark s1 s2 s3 =
+left-marked b b1 left i {words} {gone} ew s1 mark s2 =
     record {
-      reads = readable s3;
+      reads = readable s2;
       cache =
           record {
             store = is ∙ ap (leftOf (cacheOf b)) (sym words-are);
@@ -61,10 +49,7 @@ left-marked b b1 b2 left i {words} {gone} {steps} {retirements} ew es er mark s1
     }
   where
     is : cacheOf left ≡ leftOf (cacheOf b) gone
-    is =
-        s3 .cache
-        ∙ ap (λ (q : Cache). withRetirements q (retirements + 1)) (s2 .cache ∙ ap (λ (q : Cache). withSteps q (steps + 1)) (s1 .cache))
-        ∙ (λ z. withRetirements (withSteps (withLeft (cacheOf b) gone) (es z + 1)) (er z + 1))
+    is = s2 .cache ∙ ap (λ (q : Cache). withLeft q gone) (s1 .cache)
 
     words-are : cacheOf left .left ≡ gone
     words-are = ap (λ (q : Cache). q .left) is

@@ -22,23 +22,17 @@ use Rattle.cache_room.specs.Inner.{countedOf, CountableAt, DroppedAt}
 use Rattle.cache_room.proofs.Stores.{EvictionSizes}
 use Rattle.cache_room.proofs.Evicts.{can-count}
 use Rattle.cache_serve.specs.InnerReady.{ServableAt}
-use Rattle.cache_arrivals.specs.InnerStores.{arrivalOf, listedOf, LeftAt}
-use Rattle.cache_arrivals.specs.InnerReady.{ArrivableAt, ArrivalAt, ListableAt, RetirementAt}
+use Rattle.cache_counts.specs.declared.Total.the-variants.{Arrivals}
+use Rattle.cache_counts.specs.Inner.{stepCounted}
+use Rattle.cache_arrivals.specs.InnerStores.{listedOf, LeftAt}
+use Rattle.cache_arrivals.specs.InnerReady.{ArrivableAt, ListableAt}
 use Rattle.cache_arrivals.proofs.Arrivals.{arrive-becomes}
 use Rattle.cache_arrivals.proofs.Retirements.{unheld-becomes, held-becomes, retire-becomes}
 
 -- ---- an arrival
 
 module _ (b : List ℕ) (p : ArrivableAt b) where
-  pub arrival-at : ArrivalAt b
-  arrival-at =
-      record {
-        reads = valid-reads (p .valid);
-        steps = omega (arith, p .room);
-        arrivals = omega (arith, p .room, p .valid .cache .rule .steps);
-      }
-
-  module _ (b1 : List ℕ) (s1 : Stands b1 (arrivalOf (cacheOf b))) where
+  module _ (b1 : List ℕ) (s1 : Stands b1 (stepCounted (cacheOf b) Arrivals)) where
     pub listable-at : ListableAt b1
     listable-at =
         record { reads = readable s1; few = subst (λ (m : ℕ). m < 256) (sym (ap (λ (q : Cache). q .n) (s1 .cache))) (p .few) }
@@ -105,16 +99,8 @@ module _ (b : List ℕ) (i : ℕ) (p : ServableAt b i) where
 
   -- and then its mark set
   module _ (b1 : List ℕ) (s1 : BecomesAt (moved (view (cacheOf b)) (dropItem i (stateOf (cacheOf b))) (cacheOf b .closed)) b1) where
-    dropped-valid : ValidBytes b1
+    pub dropped-valid : ValidBytes b1
     dropped-valid = becomes-valid (ok-drop (view (cacheOf b)) i (p .valid .cache .rule) (omega (arith, p .item, size-is (cacheOf b)))) s1
-
-    pub retirement-at : RetirementAt b1
-    retirement-at =
-        record {
-          reads = s1 .reads;
-          steps = dropped-valid .cache .rule .taken;
-          retirements = omega (arith, dropped-valid .cache .rule .taken, dropped-valid .cache .rule .steps);
-        }
 
     pub retire-at : (left : List ℕ) → LeftAt b1 i left → BecomesAt (took (view (cacheOf b)) (Retire i)) left
     retire-at left s2 =

@@ -27,10 +27,9 @@ use Rattle.cache_state.specs.InnerBecomes.{Becomes}
 use Rattle.cache_state.proofs.Views.{size-is, item-is, slot-is, held-is}
 use Rattle.cache_room.specs.Inner.{droppedOf, countedOf}
 use Rattle.cache_room.proofs.Views.{dirty-is}
-use Rattle.cache_room.proofs.Stores.{EvictionSizes, dropped-slot, dropped-sizes, dropped-normal, counted-normal, counted-view}
+use Rattle.cache_room.proofs.Stores.{EvictionSizes, same-use, dropped-slot, dropped-sizes, dropped-normal, counted-normal, counted-view}
 use Rattle.cache_serve.proofs.Changes.{uses-by}
 use Rattle.cache_arrivals.specs.InnerStores.{leftOf, Left}
-use Rattle.cache_arrivals.proofs.Arrivals.{same-line}
 
 -- ---- the drop
 
@@ -117,7 +116,7 @@ module _ (c : Cache) (i : ℕ) (gone : List ℕ) (ok : Normal c) (l : i < c .n) 
         stands =
             λ z.
             changed (view c) (record { catalog = catalog-after z; slots = slotsOf c })
-            (record { totals = totals-after z; uses = uses-by c after (retired i) refl (λ k. refl) (λ j b. same-line (eqb j i) (usageOf c j)) z })
+            (record { totals = totals-after z; uses = uses-by c after (retired i) refl (λ k. refl) (λ j b. same-use (eqb j i) (usageOf c j)) z })
             (c .closed);
         fields = record { few = ok .few; past = past; absent = λ j b h. emptied j (ok .absent j b h); clean = ok .clean };
       }

@@ -2,30 +2,20 @@
 use mathlib.Core.{Path._≡_, Bool.true, List.List}
 use Prim.Native.Nat.{ℕ, _+_}
 use lib.ListN.{set}
-use Rattle.landlord.specs.Figures.{totalsOf}
 use Rattle.marks.specs.Inner.{marks}
 use Rattle.cache_state.specs.Cache.{Cache}
 use Rattle.layout.specs.{Layout.cacheOf, Inner.Readable}
-pub use Rattle.cache_state.specs.InnerWith.{withCatalog, withTotals, withLeft}
-
--- an arrival of the log counted: one step, one arrival
-abbrev pub arrivalOf : Cache → Cache
-arrivalOf c =
-    withTotals c
-    (totalsOf (c .steps + 1) (c .hits) (c .loads) (c .loadcost) (c .evictions) (c .dirtyevictions) (c .writebacks) (c .writecost)
-    (c .flushes) (c .arrivals + 1) (c .retirements))
+use Rattle.cache_counts.specs.{declared.Total.the-variants.{Retirements}, Inner.{stepCounted}}
+use Rattle.cache_state.specs.InnerWith.{withCatalog, withLeft}
 
 -- one item more at the end of the catalog
 abbrev pub listedOf : Cache → ℕ → ℕ → ℕ → Cache
 listedOf c b l w =
     withCatalog c (c .k) (c .n + 1) (set (c .blocks) (c .n) b) (set (c .load) (c .n) l) (set (c .write) (c .n) w) (c .left)
 
--- these marks of the items that have left, and a retirement of the log counted: one step, one retirement
+-- a retirement of the log counted, and these marks of the items that have left
 abbrev pub leftOf : Cache → List ℕ → Cache
-leftOf c gone =
-    withTotals (withLeft c gone)
-    (totalsOf (c .steps + 1) (c .hits) (c .loads) (c .loadcost) (c .evictions) (c .dirtyevictions) (c .writebacks) (c .writecost)
-    (c .flushes) (c .arrivals) (c .retirements + 1))
+leftOf c gone = withLeft (stepCounted c Retirements) gone
 
 -- item i is marked: which words hold the marks is left to crate marks
 pub record Left (c : Cache) (i : ℕ) (r : Cache) : Type 0 where

@@ -6,22 +6,12 @@ ghost use Rattle.landlord.specs.Rule.{dropItem};
 ghost use Rattle.landlord.specs.Figures.{moved, took};
 ghost use Rattle.cache_state.specs.Cache.{view};
 ghost use Rattle.cache_state.specs.InnerView.{stateOf};
-ghost use Rattle.layout.specs.Layout.{cacheOf};
+ghost use Rattle.layout.specs.Layout.{cacheOf, ValidBytes};
 ghost use Rattle.layout.specs.Inner.{Stands, BecomesAt};
 ghost use Rattle.cache_serve.specs.InnerReady.{ServableAt};
-ghost use Rattle.cache_arrivals.specs.InnerStores.{arrivalOf, listedOf, LeftAt};
-ghost use Rattle.cache_arrivals.specs.InnerReady.{ArrivableAt, ArrivalAt, ListableAt, RetirementAt};
-
-// An arrival in the log is a step.
-fn count_arrival(b: &mut [u8])
-    requires { ⌜ ArrivalAt (now b) ⌝ }
-    ensures { λ _. ⌜ Stands (now (b .exit)) (arrivalOf (cacheOf (now (b .entry)))) ⌝ }
-{
-    let steps = layout::steps(b);
-    let arrivals = layout::arrivals(b);
-    layout::put_steps(b, steps + 1);
-    layout::put_arrivals(b, arrivals + 1);
-}
+ghost use Rattle.cache_arrivals.specs.InnerStores.{listedOf, LeftAt};
+ghost use Rattle.cache_arrivals.specs.InnerReady.{ArrivableAt, ListableAt};
+use cache_counts::Total;
 
 // One item more, at the end of the catalog. The places past it are blank, so that there is nothing to clear.
 fn list_item(b: &mut [u8], blocks: u8, load: u16, write: u16)
@@ -40,7 +30,7 @@ pub fn arrive(b: &mut [u8], blocks: u8, load: u16, write: u16)
     requires { ⌜ ArrivableAt (now b) ⌝ }
     ensures { λ _. ⌜ BecomesAt (took (view (cacheOf (now (b .entry)))) (Arrive (cacheOf (now (b .entry)) .n) blocks load write)) (now (b .exit)) ⌝ }
 {
-    count_arrival(b);
+    cache_counts::count_step(b, Total::Arrivals);
     list_item(b, blocks, load, write);
 }
 
@@ -58,15 +48,12 @@ fn drop_held(b: &mut [u8], i: usize)
 
 // Item `i` is marked as one that has left. A retirement in the log is a step.
 fn mark_left(b: &mut [u8], i: usize)
-    requires { ⌜ RetirementAt (now b) ⌝ }
+    requires { ⌜ ValidBytes (now b) ⌝ }
     ensures { λ _. ⌜ LeftAt (now (b .entry)) i (now (b .exit)) ⌝ }
 {
     let words = layout::left(b);
-    let steps = layout::steps(b);
-    let retirements = layout::retirements(b);
+    cache_counts::count_step(b, Total::Retirements);
     layout::put_left(b, marks::mark(words, i));
-    layout::put_steps(b, steps + 1);
-    layout::put_retirements(b, retirements + 1);
 }
 
 // A retirement in the log: the item is dropped, and stays in the catalog, marked.

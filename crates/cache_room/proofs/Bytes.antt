@@ -15,13 +15,14 @@ use Rattle.landlord.proofs.Keeps.{victim-least, least-rank, bears-rank}
 use Rattle.marks.specs.Inner.{marks}
 use Rattle.cache_state.specs.Cache.{Cache, dirtyAt, view, Normal, Valid}
 use Rattle.cache_state.specs.InnerView.{stateOf}
-use Rattle.cache_state.specs.InnerWith.{withHeld, withLoadCredit, withWriteCredit, withDirty, withEvictions, withDirtyEvictions, withWritebacks, withWriteCost, withItemWritebacks}
+use Rattle.cache_state.specs.InnerWith.{withHeld, withLoadCredit, withWriteCredit, withDirty, withEvictions, withDirtyEvictions}
 use Rattle.cache_state.proofs.Views.{size-is, blocks-is, held-is}
 use Rattle.layout.specs.Layout.{cacheOf}
 use Rattle.layout.specs.Inner.{Stands, Readable, ValidAt, BecomesAt}
 use Rattle.layout.proofs.Rounds.{whole}
 use Rattle.layout.proofs.Places.{readable, stands-as, valid-reads}
-use Rattle.cache_room.specs.Inner.{mostCredit, Ranked, withCounts, lossAt, borneAt, loadLeft, writeLeft, chargedOf, droppedOf, countedOf, ChargeableAt, DroppedAt, CountableAt, CrowdedAt}
+use Rattle.cache_counts.specs.Inner.{writebackCounted, Payable, PayableAt}
+use Rattle.cache_room.specs.Inner.{mostCredit, Ranked, lossAt, borneAt, loadLeft, writeLeft, chargedOf, droppedOf, countedOf, ChargeableAt, DroppedAt, CountableAt, CrowdedAt}
 use Rattle.basis.proofs.Stores.{store-past}
 use Rattle.cache_room.proofs.Views.{rankOf, load-is, write-is, rank-is, ranked, rank-bound, Choosing, Turn}
 use Rattle.cache_room.proofs.Stores.{EvictionSizes, Borne, split-borne, charge-starts, charge-more, charge-skip}
@@ -139,30 +140,34 @@ dropped-at b b1 b2 b3 left v ds ws e s1 s2 s3 un s4 =
         ∙ ap (λ (q : Cache). withDirty q ws)
         (s3 .cache ∙ ap (λ (q : Cache). withWriteCredit q v 0) (s2 .cache ∙ ap (λ (q : Cache). withLoadCredit q v 0) (s1 .cache)))
 
--- the five stores that count a dirty eviction
+-- the stores that count a dirty eviction, and its writeback
+pub payable-at :
+    {b b1 b2 : List ℕ} {v x y : ℕ} →
+    CountableAt b v →
+    Stands b1 (withEvictions (cacheOf b) x) →
+    Stands b2 (withDirtyEvictions (cacheOf b1) y) →
+    PayableAt b2 v
+payable-at {v = v} {y = y} p s1 s2 =
+    record {
+      reads = readable s2;
+      counts =
+          subst (λ (q : Cache). Payable v (q .writebacks) (getD (q .itemwritebacks) v 0) (q .writecost))
+          (sym (s2 .cache ∙ ap (λ (q : Cache). withDirtyEvictions q y) (s1 .cache))) (p .counts .writeback);
+    }
+
 pub counted-dirty :
-    (b b1 b2 b3 b4 left : List ℕ) (v : ℕ) {e de w own paid price : ℕ} {d : Bool} →
+    (b b1 b2 left : List ℕ) (v : ℕ) {e de : ℕ} {d : Bool} →
     e ≡ cacheOf b .evictions →
     de ≡ cacheOf b .dirtyevictions →
-    w ≡ cacheOf b .writebacks →
-    own ≡ getD (cacheOf b .itemwritebacks) v 0 →
-    paid ≡ cacheOf b .writecost →
-    price ≡ getD (cacheOf b .write) v 0 →
     Stands b1 (withEvictions (cacheOf b) (e + 1)) →
     d ≡ true →
     Stands b2 (withDirtyEvictions (cacheOf b1) (de + 1)) →
-    Stands b3 (withWritebacks (cacheOf b2) (w + 1)) →
-    Stands b4 (withItemWritebacks (cacheOf b3) v (own + 1)) →
-    Stands left (withWriteCost (cacheOf b4) (paid + price)) →
+    Stands left (writebackCounted (cacheOf b2) v) →
     Stands left (countedOf (cacheOf b) v d)
-counted-dirty b b1 b2 b3 b4 left v {e} {de} {w} {own} {paid} {price} ee ed ew eo es ep s1 was s2 s3 s4 s5 =
-    stands-as s5
-    (ap (λ (q : Cache). withWriteCost q (paid + price))
-    (s4 .cache
-    ∙ ap (λ (q : Cache). withItemWritebacks q v (own + 1))
-    (s3 .cache
-    ∙ ap (λ (q : Cache). withWritebacks q (w + 1)) (s2 .cache ∙ ap (λ (q : Cache). withDirtyEvictions q (de + 1)) (s1 .cache))))
-    ∙ (λ z. withCounts (cacheOf b) (ee z + 1) (ed z + 1) (ew z + 1) (es z + ep z) (set (cacheOf b .itemwritebacks) v (eo z + 1)))
+counted-dirty b b1 b2 left v {e} {de} ee ed s1 was s2 s3 =
+    stands-as s3
+    (ap (λ (q : Cache). writebackCounted q v) (s2 .cache ∙ ap (λ (q : Cache). withDirtyEvictions q (de + 1)) (s1 .cache))
+    ∙ (λ z. writebackCounted (withDirtyEvictions (withEvictions (cacheOf b) (ee z + 1)) (ed z + 1)) v)
     ∙ ap (countedOf (cacheOf b) v) (sym was))
 
 -- the one that counts another

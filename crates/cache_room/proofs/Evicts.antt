@@ -86,7 +86,6 @@ pub can-count :
     Countable q v
 can-count c q {v} ok l e own =
     record {
-      known = omega (arith, ok .fields .few);
       evictions = omega (arith, ap (λ (t : Totals). t .evictions) e, ok .rule .steps, ok .rule .taken, ok .rule .evictions);
       dirtyEvictions =
           omega (
@@ -97,18 +96,22 @@ can-count c q {v} ok l e own =
             ok .rule .evictions,
             ok .rule .dirtyEvictions,
           );
-      writebacks = omega (arith, ap (λ (t : Totals). t .writebacks) e, ok .rule .taken, ok .rule .writebacks);
-      itemWritebacks =
-          let b : v < size (stateOf c) = rw size-is l in
-          omega (
-            arith,
-            ap (λ (ws : List ℕ). getD ws v 0) own,
-            ok .rule .taken,
-            ok .rule .writebacks,
-            line-writebacks (view c) v (ok .rule) b,
-            ap (λ (u : Use). u .writebacks) (use-is c v l),
-          );
-      writeCost = omega (arith, ap (λ (t : Totals). t .writeCost) e, ok .rule .taken, ok .rule .writebacks, ok .rule .writeCost);
+      writeback =
+          record {
+            place = omega (arith, ok .fields .few);
+            total = omega (arith, ap (λ (t : Totals). t .writebacks) e, ok .rule .taken, ok .rule .writebacks);
+            own =
+                let b : v < size (stateOf c) = rw size-is l in
+                omega (
+                  arith,
+                  ap (λ (ws : List ℕ). getD ws v 0) own,
+                  ok .rule .taken,
+                  ok .rule .writebacks,
+                  line-writebacks (view c) v (ok .rule) b,
+                  ap (λ (u : Use). u .writebacks) (use-is c v l),
+                );
+            cost = omega (arith, ap (λ (t : Totals). t .writeCost) e, ok .rule .taken, ok .rule .writebacks, ok .rule .writeCost);
+          };
     }
 
 pub countable : (c : Cache) {v m : ℕ} (ch e : Cache) → Valid c → v < c .n → Leaving c v m ch e → Countable e v

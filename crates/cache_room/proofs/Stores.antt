@@ -24,9 +24,10 @@ use Rattle.marks.specs.Inner.{marks}
 use Rattle.marks.proofs.Laws.{marked-set-same, marked-set-other}
 use Rattle.cache_state.specs.Cache.{Cache, dirtyAt, slotOf, catalogOf, slotsOf, usesOf, view, Blank, Emptied, EmptyPlace, Normal}
 use Rattle.cache_state.specs.InnerView.{usageOf, slotFrom, stateOf, countsOf, figuresOf}
+use Rattle.cache_state.specs.InnerWith.{withSlots}
 use Rattle.cache_state.proofs.Views.{size-is, item-is, use-is}
 use Rattle.cache_state.proofs.Normals.{figures-normal}
-use Rattle.cache_room.specs.Inner.{loadLeft, writeLeft, chargedOf, droppedOf, countedOf, mostCredit, withSlots}
+use Rattle.cache_room.specs.Inner.{loadLeft, writeLeft, chargedOf, droppedOf, countedOf, mostCredit}
 use Rattle.basis.proofs.Stores.{store-length, store-at, store-past, store-start, store-more, store-skip}
 
 -- the arrays that an eviction changes have their 256 places
@@ -241,7 +242,7 @@ still : (n : ℕ) → n ≡ n + 0
 still n = sym (add-zero n)
 
 -- a line of the report to which nothing is added, whatever the test says
-same-use : (t : Bool) (u : Use) → u ≡ plusUse u (cond t noUse noUse)
+pub same-use : (t : Bool) (u : Use) → u ≡ plusUse u (cond t noUse noUse)
 same-use true u = λ z. useOf (still (u .minutes) z) (still (u .loads) z) (still (u .writebacks) z)
 same-use false u = λ z. useOf (still (u .minutes) z) (still (u .loads) z) (still (u .writebacks) z)
 

@@ -2,12 +2,13 @@
 use mathlib.Core.{Path._≡_, Bool.{Bool, true, false}, List.List}
 use Prim.Native.Nat.{ℕ, _+_, _*_, _-_, _≤_, _<_}
 use lib.ListN.{getD, set}
-use Rattle.landlord.specs.{Catalog.full, Slot.splitOf, Rule.used, Figures.totalsOf}
+use Rattle.landlord.specs.{Catalog.full, Slot.splitOf, Rule.used}
 use Rattle.marks.specs.Inner.{marks}
 use Rattle.cache_state.specs.{Cache.{Cache, Normal}, InnerView.stateOf}
 use Rattle.layout.specs.{Layout.{cacheOf, ValidBytes}, Inner.{Readable, ValidAt}}
+use Rattle.cache_counts.specs.Inner.{writebackCounted, Payable}
 use Rattle.basis.specs.InnerStores.{storeTo}
-pub use Rattle.cache_state.specs.InnerWith.{withSlots, withFigures}
+use Rattle.cache_state.specs.InnerWith.{withSlots, withEvictions, withDirtyEvictions}
 
 -- no credit is greater than this
 abbrev pub mostCredit : ℕ
@@ -18,12 +19,6 @@ pub record Ranked (a b blocks : ℕ) : Type 0 where
   pub some : 1 ≤ blocks
   pub load : a ≤ mostCredit
   pub write : b ≤ mostCredit
-
--- c with other counts of evictions, of dirty evictions, of writebacks (in all, their cost, and by item)
-abbrev pub withCounts : Cache → ℕ → ℕ → ℕ → ℕ → List ℕ → Cache
-withCounts c e de w wc ws =
-    withFigures c (c .minutes) (c .itemloads) ws
-    (totalsOf (c .steps) (c .hits) (c .loads) (c .loadcost) e de w wc (c .flushes) (c .arrivals) (c .retirements))
 
 -- what item i loses where each block loses m
 abbrev pub lossAt : Cache → ℕ → ℕ → ℕ
@@ -54,19 +49,14 @@ pub record Dropped (c : Cache) (v : ℕ) (r : Cache) : Type 0 where
 
 -- the eviction of item v is counted, and if it was dirty its writeback
 abbrev pub countedOf : Cache → ℕ → Bool → Cache
-countedOf c v false = withCounts c (c .evictions + 1) (c .dirtyevictions) (c .writebacks) (c .writecost) (c .itemwritebacks)
-countedOf c v true =
-    withCounts c (c .evictions + 1) (c .dirtyevictions + 1) (c .writebacks + 1) (c .writecost + getD (c .write) v 0)
-    (set (c .itemwritebacks) v (getD (c .itemwritebacks) v 0 + 1))
+countedOf c v false = withEvictions c (c .evictions + 1)
+countedOf c v true = writebackCounted (withDirtyEvictions (withEvictions c (c .evictions + 1)) (c .dirtyevictions + 1)) v
 
 -- counts that can grow by one: in a valid cache none is above the steps, of which there are at most 1,000,000
 pub record Countable (c : Cache) (v : ℕ) : Type 0 where
-  pub known : v < 256
   pub evictions : c .evictions ≤ 1000000
   pub dirtyEvictions : c .dirtyevictions ≤ 1000000
-  pub writebacks : c .writebacks ≤ 1000000
-  pub itemWritebacks : getD (c .itemwritebacks) v 0 ≤ 1000000
-  pub writeCost : c .writecost ≤ 65535 * 1000000
+  pub writeback : Payable v (c .writebacks) (getD (c .itemwritebacks) v 0) (c .writecost)
 
 -- ---- of the bytes of a state
 

@@ -84,19 +84,13 @@ pub fn count(b: &mut [u8], v: usize, dirty: bool)
     requires { ⌜ CountableAt (now b) v ⌝ }
     ensures { λ _. ⌜ Stands (now (b .exit)) (countedOf (cacheOf (now (b .entry))) v dirty) ⌝ }
 {
-    // Everything is read before anything is stored.
+    // Both are read before either is stored.
     let evictions = layout::evictions(b);
     let dirties = layout::dirty_evictions(b);
-    let writebacks = layout::writebacks(b);
-    let own = layout::item_writebacks(b, v);
-    let paid = layout::write_cost(b);
-    let price = layout::item_write_cost(b, v) as u64;
     layout::put_evictions(b, evictions + 1);
     if dirty {
         layout::put_dirty_evictions(b, dirties + 1);
-        layout::put_writebacks(b, writebacks + 1);
-        layout::put_item_writebacks(b, v, own + 1);
-        layout::put_write_cost(b, paid + price);
+        cache_counts::count_writeback(b, v);
     }
 }
 

@@ -19,8 +19,10 @@ use Rattle.layout.specs.Layout.{cacheOf, ValidBytes}
 use Rattle.layout.specs.Inner.{Stands, Readable, BecomesAt}
 use Rattle.layout.proofs.Rounds.{whole}
 use Rattle.layout.proofs.Places.{readable, valid-reads}
-use Rattle.cache_serve.specs.InnerStores.{hitOf, loadedOf, refilledOf, flushedOf, WroteAt, WroteBackAt}
-use Rattle.cache_serve.specs.InnerReady.{Servable, Refillable, SteppableAt, ServableAt, RefillableAt, WritableAt, FlushableAt}
+use Rattle.cache_counts.specs.declared.Total.the-variants.{Hits, Flushes}
+use Rattle.cache_counts.specs.Inner.{stepCounted, PayableAt}
+use Rattle.cache_serve.specs.InnerStores.{loadedOf, refilledOf, WroteAt, WroteBackAt}
+use Rattle.cache_serve.specs.InnerReady.{Servable, Refillable, SteppableAt, ServableAt, RefillableAt, WritableAt}
 use Rattle.cache_serve.proofs.Bounds.{item-ok}
 use Rattle.cache_serve.proofs.Serves.{read-hit, read-load, writable, write-becomes}
 use Rattle.cache_serve.proofs.Writebacks.{Flushing, flush-starts, flush-ends, flushable, flush-turn, flushed-valid, flush-step-becomes}
@@ -34,17 +36,17 @@ MovesTo b f left = BecomesAt (moved (view (cacheOf b)) (f (stateOf (cacheOf b)))
 -- the item was held, and a hit counted; or it was not, and was loaded
 abbrev pub FoundOrLoaded : List ℕ → ℕ → List ℕ → Type 0
 FoundOrLoaded b i left =
-    ((getD (cacheOf b .held) i false ≡ true) × Stands left (hitOf (cacheOf b)))
+    ((getD (cacheOf b .held) i false ≡ true) × Stands left (stepCounted (cacheOf b) Hits))
     ⊎ ((getD (cacheOf b .held) i false ≡ false) × Stands left (loadedOf (cacheOf b) i))
 
 pub hit-way :
     (b : List ℕ) (i : ℕ) {q left : List ℕ} {isHeld : Bool} →
     isHeld ≡ getD (cacheOf b .held) i false →
     isHeld ≡ true →
-    Stands q (hitOf (cacheOf b)) →
+    Stands q (stepCounted (cacheOf b) Hits) →
     left ≡ q →
     FoundOrLoaded b i left
-hit-way b i is h s e = inl (sym is ∙ h, subst (λ (x : List ℕ). Stands x (hitOf (cacheOf b))) (sym e) s)
+hit-way b i is h s e = inl (sym is ∙ h, subst (λ (x : List ℕ). Stands x (stepCounted (cacheOf b) Hits)) (sym e) s)
 
 pub load-way :
     (b : List ℕ) (i : ℕ) {q left : List ℕ} {isHeld : Bool} →
@@ -91,7 +93,7 @@ module _ (b : List ℕ) (i : ℕ) (p : ServableAt b i) where
       at c e r = subst (Becomes v) (sym (s .cache ∙ ap (λ (q : Cache). refilledOf q i) e)) r
 
       by : FoundOrLoaded b i b1 → Becomes v (cacheOf left)
-      by (inl h) = at (hitOf (cacheOf b)) (h .1 .cache) (read-hit (cacheOf b) i (whole b) servable (h .0))
+      by (inl h) = at (stepCounted (cacheOf b) Hits) (h .1 .cache) (read-hit (cacheOf b) i (whole b) servable (h .0))
       by (inr h) = at (loadedOf (cacheOf b) i) (h .1 .cache) (read-load (cacheOf b) i (whole b) servable (h .0))
 
   -- a write after the read
@@ -133,7 +135,7 @@ module _
     pub flush-ends-at : 256 ≤ i → MovesTo b flush q
     flush-ends-at l = record { reads = f .reads; cache = flush-ends (cacheOf b) (cacheOf q) at i (f .flushes) next l }
 
-    pub flushable-at : i < 256 → FlushableAt q i
+    pub flushable-at : i < 256 → PayableAt q i
     flushable-at l = record { reads = f .reads; counts = flushable (cacheOf b) (cacheOf q) at i (f .flushes) next l }
 
     pub flush-turn-at : i < 256 → (left : List ℕ) → WroteBackAt q i left → FlushingAt b left (i + 1)
@@ -145,7 +147,7 @@ module _
 
 -- ---- a flush of the log
 
-module _ (b b1 : List ℕ) (p : SteppableAt b) (s : Stands b1 (flushedOf (cacheOf b))) where
+module _ (b b1 : List ℕ) (p : SteppableAt b) (s : Stands b1 (stepCounted (cacheOf b) Flushes)) where
   pub flushed-valid-at : ValidBytes b1
   flushed-valid-at =
       record {

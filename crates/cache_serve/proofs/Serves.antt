@@ -24,7 +24,9 @@ use Rattle.cache_state.specs.InnerView.{usageOf, slotFrom, itemOf, stateOf, cou
 use Rattle.cache_state.specs.InnerBecomes.{Becomes}
 use Rattle.cache_state.proofs.Views.{size-is, slots-length, item-is, slot-is, use-is, held-is}
 use Rattle.layout.specs.InnerRows.{WholeArrays}
-use Rattle.cache_serve.specs.InnerStores.{hitOf, loadedOf, refilledOf, writtenOf, Wrote}
+use Rattle.cache_counts.specs.declared.Total.the-variants.{Hits}
+use Rattle.cache_counts.specs.Inner.{stepCounted}
+use Rattle.cache_serve.specs.InnerStores.{loadedOf, refilledOf, writtenOf, Wrote}
 use Rattle.cache_serve.specs.InnerReady.{Servable, Writable}
 use Rattle.cache_serve.proofs.Changes.{OnlyAt, stands-but, normal-but, plus-none}
 use Rattle.cache_serve.proofs.Bounds.{item-ok, item-minutes}
@@ -84,9 +86,9 @@ pub read-hit :
     WholeArrays c →
     Servable c i →
     getD (c .held) i false ≡ true →
-    Becomes (moved (view c) (serveRead i (stateOf c)) (c .closed)) (refilledOf (hitOf c) i)
+    Becomes (moved (view c) (serveRead i (stateOf c)) (c .closed)) (refilledOf (stepCounted c Hits) i)
 read-hit c i s ok h =
-    read-becomes c (refilledOf (hitOf c) i) i (hit i) (ok .valid .fields) (ok .item)
+    read-becomes c (refilledOf (stepCounted c Hits) i) i (hit i) (ok .valid .fields) (ok .item)
     (record {
       fixed = refl;
       others =

@@ -22,8 +22,10 @@ use Rattle.cache_state.specs.InnerBecomes.{Becomes}
 use Rattle.cache_state.proofs.Views.{size-is, slots-length, item-is, slot-is, from-dirty}
 use Rattle.cache_state.proofs.Normals.{figures-normal}
 use Rattle.layout.specs.InnerRows.{WholeArrays}
-use Rattle.cache_serve.specs.InnerStores.{wroteBackOf, flushedOf, WroteBack}
-use Rattle.cache_serve.specs.InnerReady.{Steppable, Flushable}
+use Rattle.cache_counts.specs.declared.Total.the-variants.{Flushes}
+use Rattle.cache_counts.specs.Inner.{stepCounted, Payable}
+use Rattle.cache_serve.specs.InnerStores.{wroteBackOf, WroteBack}
+use Rattle.cache_serve.specs.InnerReady.{Steppable}
 use Rattle.cache_serve.proofs.Changes.{OnlyAt, stands-but, normal-but, uses-by, plus-none}
 use Rattle.cache_serve.proofs.Bounds.{item-writebacks, write-small}
 use Rattle.cache_serve.proofs.Flushes.{writeBack, flush-first, flush-none}
@@ -155,7 +157,7 @@ module _ (c q : Cache) (at i : ℕ) (f : Flushing c q at) (e : i ≡ at + firstS
     here : i < q .n
     here = dirty-in q i (f .normal) l (found .here l)
 
-    pub flushable : Flushable q i
+    pub flushable : Payable i (q .writebacks) (getD (q .itemwritebacks) i 0) (q .writecost)
     flushable =
         record {
           place = l;
@@ -203,13 +205,13 @@ module _ (c q : Cache) (at i : ℕ) (f : Flushing c q at) (e : i ≡ at + firstS
             omega (arith, getD-set-other (q .itemwritebacks) i j (getD (q .itemwritebacks) i 0 + 1) 0 p, f .own j m, found .after)
 
 -- a flush of the log that is counted leaves the cache valid, so that it can be flushed
-pub flushed-valid : (c : Cache) → Steppable c → Valid (flushedOf c)
+pub flushed-valid : (c : Cache) → Steppable c → Valid (stepCounted c Flushes)
 unfolding catalogOf slotsOf usesOf
 flushed-valid c ok =
     let n : Normal c = ok .valid .fields in
     let v : StandingOk (view c) = ok .valid .rule in
     record {
-      fields = figures-normal c (c .itemwritebacks) (countsOf (flushedOf c)) (c .closed) n (λ i l m. n .past i l m .place .writebacks);
+      fields = figures-normal c (c .itemwritebacks) (countsOf (stepCounted c Flushes)) (c .closed) n (λ i l m. n .past i l m .place .writebacks);
       rule =
           record {
             capacity = v .capacity;
@@ -231,18 +233,18 @@ flushed-valid c ok =
           };
     }
 
-flushed-stands : (c : Cache) → view (flushedOf c) ≡ moved (view c) (record { state = stateOf c; events = flushStep ∷ [] }) (c .closed)
+flushed-stands : (c : Cache) → view (stepCounted c Flushes) ≡ moved (view c) (record { state = stateOf c; events = flushStep ∷ [] }) (c .closed)
 unfolding fold catalogOf slotsOf
 flushed-stands c =
     λ z.
-    changed (view c) (stateOf c) (record { totals = total z; uses = uses-by c (flushedOf c) flushStep refl (λ m. refl) (λ j l. plus-none (usageOf c j)) z }) (c .closed)
+    changed (view c) (stateOf c) (record { totals = total z; uses = uses-by c (stepCounted c Flushes) flushStep refl (λ m. refl) (λ j l. plus-none (usageOf c j)) z }) (c .closed)
   where
-    total : countsOf (flushedOf c) ≡ plusTotals (countsOf c) (adds (catalogOf c) flushStep)
+    total : countsOf (stepCounted c Flushes) ≡ plusTotals (countsOf c) (adds (catalogOf c) flushStep)
     total = simp add-zero
 
 pub flush-step-becomes :
     (c r : Cache) →
-    Becomes (moved (view (flushedOf c)) (flush (stateOf (flushedOf c))) (c .closed)) r →
+    Becomes (moved (view (stepCounted c Flushes)) (flush (stateOf (stepCounted c Flushes))) (c .closed)) r →
     Becomes (took (view c) Flush) r
 unfolding fold step took
 flush-step-becomes c r b =

@@ -1,6 +1,6 @@
 -- What a caller must have shown before a step is counted or an item's fields are stored. Assumes nothing.
 use mathlib.Core.List.{List}
-use Prim.Native.Nat.{ℕ, _*_, _<_, _≤_}
+use Prim.Native.Nat.{ℕ, _<_, _≤_}
 use lib.ListN.{getD}
 use Rattle.cache_state.specs.Cache.{Cache, Valid}
 use Rattle.layout.specs.{Layout.{cacheOf, ValidBytes}, Inner.Readable}
@@ -28,14 +28,6 @@ pub record Writable (c : Cache) (i minutes : ℕ) : Type 0 where
   pub short : minutes ≤ 1440
   pub sofar : getD (c .minutes) i 0 ≤ 1440000000
 
--- item i can be written back, and that counted. Writebacks are at most 1,000,000, one for each step, before a flush, which adds at
--- most one for each of the 256 numbers.
-pub record Flushable (c : Cache) (i : ℕ) : Type 0 where
-  pub place : i < 256
-  pub total : c .writebacks ≤ 1000256
-  pub own : getD (c .itemwritebacks) i 0 ≤ 1000256
-  pub cost : c .writecost ≤ 65535 * 1000256
-
 -- ---- the same of the bytes of a state
 
 pub record SteppableAt (b : List ℕ) : Type 0 where
@@ -54,7 +46,3 @@ pub record RefillableAt (b : List ℕ) (i : ℕ) : Type 0 where
 pub record WritableAt (b : List ℕ) (i minutes : ℕ) : Type 0 where
   pub reads : Readable b
   pub counts : Writable (cacheOf b) i minutes
-
-pub record FlushableAt (b : List ℕ) (i : ℕ) : Type 0 where
-  pub reads : Readable b
-  pub counts : Flushable (cacheOf b) i

@@ -2,26 +2,17 @@
 use mathlib.Core.{Path._≡_, Bool.{true, false}, List.List}
 use Prim.Native.Nat.{ℕ, _+_}
 use lib.ListN.{getD, set}
-use Rattle.landlord.specs.{Catalog.full, Figures.totalsOf}
+use Rattle.landlord.specs.Catalog.{full}
 use Rattle.marks.specs.Inner.{marks}
 use Rattle.cache_state.specs.{Cache.Cache, InnerView.countsOf}
 use Rattle.layout.specs.{Layout.cacheOf, Inner.Readable}
-pub use Rattle.cache_state.specs.InnerWith.{withSlots, withFigures}
+use Rattle.cache_counts.specs.{declared.Total.the-variants.{Loads}, Inner.{stepCounted, writebackCounted}}
+use Rattle.cache_state.specs.InnerWith.{withSlots, withFigures, withHeld, withDirty, withWriteCredit, withItemLoads, withLoadCost}
 
--- a hit counted: one step, one hit
-abbrev pub hitOf : Cache → Cache
-hitOf c =
-    withFigures c (c .minutes) (c .itemloads) (c .itemwritebacks)
-    (totalsOf (c .steps + 1) (c .hits + 1) (c .loads) (c .loadcost) (c .evictions) (c .dirtyevictions) (c .writebacks) (c .writecost)
-    (c .flushes) (c .arrivals) (c .retirements))
-
--- item i loaded, and that counted: one step, one load, which costs the item's load cost
+-- item i loaded, and that counted: it costs the item's load cost
 abbrev pub loadedOf : Cache → ℕ → Cache
 loadedOf c i =
-    withFigures (withSlots c (set (c .held) i true) (c .loadcredit) (c .writecredit) (c .dirty))
-    (c .minutes) (set (c .itemloads) i (getD (c .itemloads) i 0 + 1)) (c .itemwritebacks)
-    (totalsOf (c .steps + 1) (c .hits) (c .loads + 1) (c .loadcost + getD (c .load) i 0) (c .evictions) (c .dirtyevictions)
-    (c .writebacks) (c .writecost) (c .flushes) (c .arrivals) (c .retirements))
+    withLoadCost (withItemLoads (withHeld (stepCounted c Loads) i true) i (getD (c .itemloads) i 0 + 1)) (c .loadcost + getD (c .load) i 0)
 
 -- the load credit of item i full
 abbrev pub refilledOf : Cache → ℕ → Cache
@@ -35,18 +26,7 @@ writtenOf c i minutes marked =
 
 -- item i written back, and that counted: its write credit 0, and these marks
 abbrev pub wroteBackOf : Cache → ℕ → List ℕ → Cache
-wroteBackOf c i marked =
-    withFigures (withSlots c (c .held) (c .loadcredit) (set (c .writecredit) i 0) marked)
-    (c .minutes) (c .itemloads) (set (c .itemwritebacks) i (getD (c .itemwritebacks) i 0 + 1))
-    (totalsOf (c .steps) (c .hits) (c .loads) (c .loadcost) (c .evictions) (c .dirtyevictions)
-    (c .writebacks + 1) (c .writecost + getD (c .write) i 0) (c .flushes) (c .arrivals) (c .retirements))
-
--- a flush of the log counted: one step, one flush
-abbrev pub flushedOf : Cache → Cache
-flushedOf c =
-    withFigures c (c .minutes) (c .itemloads) (c .itemwritebacks)
-    (totalsOf (c .steps + 1) (c .hits) (c .loads) (c .loadcost) (c .evictions) (c .dirtyevictions) (c .writebacks) (c .writecost)
-    (c .flushes + 1) (c .arrivals) (c .retirements))
+wroteBackOf c i marked = withWriteCredit (withDirty (writebackCounted c i) marked) i 0
 
 -- A store that sets or clears a mark: which words hold the marks is left to crate marks.
 pub record Wrote (c : Cache) (i minutes : ℕ) (r : Cache) : Type 0 where

@@ -11,8 +11,10 @@ ghost use Rattle.cache_state.specs.Cache.{view};
 ghost use Rattle.cache_state.specs.InnerView.{stateOf};
 ghost use Rattle.layout.specs.Layout.{cacheOf, ValidBytes};
 ghost use Rattle.layout.specs.Inner.{Stands, BecomesAt};
-ghost use Rattle.cache_serve.specs.InnerStores.{hitOf, loadedOf, refilledOf, flushedOf, WroteAt, WroteBackAt};
-ghost use Rattle.cache_serve.specs.InnerReady.{SteppableAt, ServableAt, RefillableAt, WritableAt, FlushableAt};
+ghost use Rattle.cache_counts.specs.Inner.{PayableAt};
+ghost use Rattle.cache_serve.specs.InnerStores.{loadedOf, refilledOf, WroteAt, WroteBackAt};
+ghost use Rattle.cache_serve.specs.InnerReady.{SteppableAt, ServableAt, RefillableAt, WritableAt};
+use cache_counts::Total;
 
 // A cost as it is added to a sum of costs.
 fn cost(price: u16) -> u64
@@ -57,17 +59,6 @@ fn full_credit(price: u16, blocks: u8) -> u64
     shares_per_block(price, blocks) * (blocks as u64)
 }
 
-// A request for an item that is held.
-fn count_hit(b: &mut [u8])
-    requires { ⌜ SteppableAt (now b) ⌝ }
-    ensures { λ _. ⌜ Stands (now (b .exit)) (hitOf (cacheOf (now (b .entry)))) ⌝ }
-{
-    let steps = layout::steps(b);
-    let hits = layout::hits(b);
-    layout::put_steps(b, steps + 1);
-    layout::put_hits(b, hits + 1);
-}
-
 // A request for an item that is not held: it is loaded, and its load cost paid. What is not held has no mark and no credit, so
 // the item comes in clean, with write credit 0, and there is nothing to clear.
 fn load_item(b: &mut [u8], i: usize)
@@ -75,14 +66,11 @@ fn load_item(b: &mut [u8], i: usize)
     ensures { λ _. ⌜ Stands (now (b .exit)) (loadedOf (cacheOf (now (b .entry))) i) ⌝ }
 {
     let own = layout::item_loads(b, i);
-    let steps = layout::steps(b);
-    let loads = layout::loads(b);
     let paid = layout::load_cost(b);
     let price = cost(layout::item_load_cost(b, i));
+    cache_counts::count_step(b, Total::Loads);
     layout::put_held(b, i, true);
     layout::put_item_loads(b, i, own + 1);
-    layout::put_steps(b, steps + 1);
-    layout::put_loads(b, loads + 1);
     layout::put_load_cost(b, paid + price);
 }
 
@@ -110,30 +98,13 @@ fn count_write(b: &mut [u8], i: usize, minutes: u32)
 
 // A dirty item is written back: it pays its write cost, loses its write credit, and is clean. Its load credit remains.
 fn write_back(b: &mut [u8], i: usize)
-    requires { ⌜ FlushableAt (now b) i ⌝ }
+    requires { ⌜ PayableAt (now b) i ⌝ }
     ensures { λ _. ⌜ WroteBackAt (now (b .entry)) i (now (b .exit)) ⌝ }
 {
+    cache_counts::count_writeback(b, i);
     let words = layout::dirty(b);
-    let own = layout::item_writebacks(b, i);
-    let writebacks = layout::writebacks(b);
-    let paid = layout::write_cost(b);
-    let price = cost(layout::item_write_cost(b, i));
     layout::put_dirty(b, marks::unmark(words, i));
     layout::put_write_credit(b, i, 0);
-    layout::put_item_writebacks(b, i, own + 1);
-    layout::put_writebacks(b, writebacks + 1);
-    layout::put_write_cost(b, paid + price);
-}
-
-// A flush in the log is a step; what it writes back is counted by itself.
-fn count_flush(b: &mut [u8])
-    requires { ⌜ SteppableAt (now b) ⌝ }
-    ensures { λ _. ⌜ Stands (now (b .exit)) (flushedOf (cacheOf (now (b .entry)))) ⌝ }
-{
-    let steps = layout::steps(b);
-    let flushes = layout::flushes(b);
-    layout::put_steps(b, steps + 1);
-    layout::put_flushes(b, flushes + 1);
 }
 
 // A read of item `i`, for which there is room if it is not held.
@@ -142,7 +113,7 @@ pub fn serve_read(b: &mut [u8], i: usize)
     ensures { λ _. ⌜ BecomesAt (moved (view (cacheOf (now (b .entry)))) (serveRead i (stateOf (cacheOf (now (b .entry))))) (cacheOf (now (b .entry)) .closed)) (now (b .exit)) ⌝ }
 {
     if layout::held(b, i) {
-        count_hit(b);
+        cache_counts::count_step(b, Total::Hits);
     } else {
         load_item(b, i);
     }
@@ -180,6 +151,6 @@ pub fn flush_step(b: &mut [u8])
     requires { ⌜ SteppableAt (now b) ⌝ }
     ensures { λ _. ⌜ BecomesAt (took (view (cacheOf (now (b .entry)))) Flush) (now (b .exit)) ⌝ }
 {
-    count_flush(b);
+    cache_counts::count_step(b, Total::Flushes);
     flush(b);
 }

@@ -2,7 +2,7 @@
 // before the first byte is written, so a page that is too short is left as it was; then each line is written into what remains of the page.
 ghost use mathlib.Core.Path.{_≡_};
 ghost use Prim.Native.Nat.{_≤_};
-ghost use lib.ListN.{length};
+ghost use lib.ListN.{length, replicate};
 ghost use Rattle.cache_state.specs.Cache.{view};
 ghost use Rattle.decimal.specs.InnerPages.{textOver};
 ghost use Rattle.layout.specs.Layout.{cacheOf, ValidBytes};
@@ -21,9 +21,9 @@ pub enum Written {
     Refused(Refusal),
 }
 
-// A page with room for every report.
+// A blank page with room for every report.
 pub fn longest_page() -> [u8; LONGEST]
-    ensures { λ r. ⌜ length r ≡ longest ⌝ }
+    ensures { λ r. ⌜ r ≡ replicate longest 0 ⌝ }
 {
     [0; LONGEST]
 }

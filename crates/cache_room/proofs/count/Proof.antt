@@ -1,6 +1,6 @@
 -- `cache_room::count` meets its contract. Assumes nothing.
 use borrow.Author.Needs.{needs}
-use Rattle.cache_room.proofs.Bytes.{counted-dirty, counted-clean}
+use Rattle.cache_room.proofs.Bytes.{payable-at, counted-dirty, counted-clean}
 use Rattle.cache_room.proofs.count.Statement.{statement}
 use Rattle.cache_room.proofs.count.Tie as tie
 
@@ -9,21 +9,6 @@ evictions-requires c κs = search needs
 
 dirty-evictions-requires : tie.Need-dirty-evictions-requires
 dirty-evictions-requires c κs = search needs
-
-writebacks-requires : tie.Need-writebacks-requires
-writebacks-requires c κs = search needs
-
-item-writebacks-requires : tie.Need-item-writebacks-requires
-item-writebacks-requires c κs = search needs
-
-write-cost-requires : tie.Need-write-cost-requires
-write-cost-requires c κs = search needs
-
-item-write-cost-requires : tie.Need-item-write-cost-requires
-item-write-cost-requires c κs = search needs
-
-cast-price : tie.Need-cast-price
-cast-price c = search needs
 
 add-put-evictions : tie.Need-add-put-evictions
 add-put-evictions c = search needs
@@ -37,53 +22,36 @@ add-put-dirty-evictions c = search needs
 put-dirty-evictions-requires : tie.Need-put-dirty-evictions-requires
 put-dirty-evictions-requires c κs = search needs
 
-add-put-writebacks : tie.Need-add-put-writebacks
-add-put-writebacks c = search needs
-
-put-writebacks-requires : tie.Need-put-writebacks-requires
-put-writebacks-requires c κs = search needs
-
-add-put-item-writebacks : tie.Need-add-put-item-writebacks
-add-put-item-writebacks c = search needs
-
-put-item-writebacks-requires : tie.Need-put-item-writebacks-requires
-put-item-writebacks-requires c κs = search needs
-
-add-put-write-cost : tie.Need-add-put-write-cost
-add-put-write-cost c = search needs
-
-put-write-cost-requires : tie.Need-put-write-cost-requires
-put-write-cost-requires c κs = search needs
+count-writeback-requires : tie.Need-count-writeback-requires
+count-writeback-requires c κs =
+    let d = c .before .before .before in
+    let e = d .before .before .before .before .before in
+    payable-at (e .before .before .before .before .before .before .before .pre) (e .put-evictions .ensures) (d .put-dirty-evictions .ensures)
 
 same-length : tie.Need-same-length
 same-length c = search needs
 
 returns : tie.Need-returns
 returns c =
-    let r = c .before .before .before .before .before .before .before .before .before .before .before .before .before .before .before .before .before .before .before .before .before in
-    counted-dirty (r .before .before .before .before .before .before .before .before .before .before .before .before .before .args .b .now) _ _ _ _ _
-    (r .before .before .before .before .before .before .before .before .before .before .before .before .before .args .v)
-    (r .before .before .before .before .before .before .before .before .before .before .evictions .ensures)
-    (r .before .before .before .before .before .before .before .before .dirty-evictions .ensures)
-    (r .before .before .before .before .before .before .writebacks .ensures) (r .before .before .before .before .item-writebacks .ensures)
-    (r .before .before .write-cost .ensures) (r .item-write-cost .ensures)
-    (c .before .before .before .before .before .before .before .before .before .before .before .before .before .before .before .before .before .before .before .put-evictions .ensures)
-    (c .before .before .before .before .before .before .before .before .before .before .before .before .before .before .before .before .if1 .taken)
-    (c .before .before .before .before .before .before .before .before .before .before .before .before .before .before .put-dirty-evictions .ensures)
-    (c .before .before .before .before .before .before .before .before .before .before .put-writebacks .ensures)
-    (c .before .before .before .before .before .before .put-item-writebacks .ensures) (c .before .before .put-write-cost .ensures)
+    let w = c .before .before in
+    let d = w .before .before .before .before in
+    let t = d .before .before in
+    let e = t .before .before .before in
+    let r2 = e .before .before in
+    let r1 = r2 .before .before in
+    let s = r1 .before .before .before in
+    counted-dirty (s .args .b .now) _ _ _ (s .args .v) (r1 .evictions .ensures) (r2 .dirty-evictions .ensures) (e .put-evictions .ensures)
+    (t .if1 .taken) (d .put-dirty-evictions .ensures) (w .count-writeback .ensures)
 
 same-length-2 : tie.Need-same-length-2
 same-length-2 c = search needs
 
 returns-2 : tie.Need-returns-2
 returns-2 c =
-    counted-clean
-    (c .before .before .before .before .before .before .before .before .before .before .before .before .before .before .before .before .before .before .args .b .now)
-    _
-    (c .before .before .before .before .before .before .before .before .before .before .before .before .before .before .before .before .before .before .args .v)
-    (c .before .before .before .before .before .before .before .before .before .before .before .before .before .before .before .evictions .ensures)
-    (c .before .before .before .put-evictions .ensures) (c .if1 .left)
+    let e = c .before .before .before in
+    let r1 = e .before .before .before .before in
+    let s = r1 .before .before .before in
+    counted-clean (s .args .b .now) _ (s .args .v) (r1 .evictions .ensures) (e .put-evictions .ensures) (c .if1 .left)
 
 pub count-spec : {M : Type 1} → statement M
 count-spec =
@@ -91,21 +59,11 @@ count-spec =
     (tie.spec
     evictions-requires
     dirty-evictions-requires
-    writebacks-requires
-    item-writebacks-requires
-    write-cost-requires
-    item-write-cost-requires
-    cast-price
     add-put-evictions
     put-evictions-requires
     add-put-dirty-evictions
     put-dirty-evictions-requires
-    add-put-writebacks
-    put-writebacks-requires
-    add-put-item-writebacks
-    put-item-writebacks-requires
-    add-put-write-cost
-    put-write-cost-requires
+    count-writeback-requires
     same-length
     returns
     same-length-2

@@ -19,8 +19,8 @@ counted j =
 held-requires : tie.Need-held-requires
 held-requires c κs = search needs
 
-count-hit-requires : tie.Need-count-hit-requires
-count-hit-requires c κs = search needs
+count-step-requires : tie.Need-count-step-requires
+count-step-requires c κs = search needs
 
 load-item-requires : tie.Need-load-item-requires
 load-item-requires c κs = search needs
@@ -46,7 +46,7 @@ serve-read-spec =
     tie.close
     (tie.spec
     held-requires
-    count-hit-requires
+    count-step-requires
     load-item-requires
     refill-requires
     same-length
