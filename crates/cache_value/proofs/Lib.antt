@@ -4,3 +4,4 @@ mod Answers
 pub mod Season
 mod Runs
 pub mod Tells
+mod Places

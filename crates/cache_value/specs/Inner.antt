@@ -1,10 +1,10 @@
 -- What the functions of an opening give. Assumes nothing.
-use mathlib.Core.{Path._≡_, Bool.{cond, true}, List.List}
+use mathlib.Core.{Path._≡_, Bool.{Bool, cond, true, false}, List.{List, _++_}}
 use Prim.Native.Nat.{ℕ, _<_}
-use lib.{ListN.replicate, Dec.eqb}
+use lib.{ListN.{take, drop, replicate}, Dec.eqb}
 use Rattle.types.specs.declared.Deduction.the-variants.{WriteFirst}
 use Rattle.landlord.specs.{Catalog.Catalog, Calls.{Opening, Call, openingRefusal, startsAt}}
-use Rattle.cache_state.specs.Cache.{Cache as Record, EmptyPlace}
+use Rattle.cache_state.specs.{Cache.{Cache as Record, EmptyPlace}, InnerView.countsOf, InnerWith.{withCatalog, withSlots, withFigures}}
 use Rattle.cache_open.specs.Inner.{emptyWith}
 use Rattle.cache_run.specs.Season.{Follows}
 use Rattle.cache_value.specs.{declared.Cache.Cache, Contract.{recordOf, byValue, refusedOpening}}
@@ -25,3 +25,22 @@ pub record Chain (o : Opening Catalog) (calls : List Call) (numbers : List ℕ) 
   pub first : Cache
   pub opening : Opened o 0 first
   pub follows : Follows byValue first calls numbers d
+
+-- ---- the struct stored and read place by place
+
+-- the first n of a list, and z at the other places of 256
+unfoldable pub first : {A : Type 0} → A → ℕ → List A → List A
+first z n xs = take n xs ++ drop n (replicate 256 z)
+
+-- a cache with each list of numbers and of flags that its items have changed
+abbrev pub placesBy : (List ℕ → List ℕ) → (List Bool → List Bool) → Record → Record
+placesBy f g c =
+    withFigures
+    (withSlots
+    (withCatalog c (c .k) (c .n) (f (c .blocks)) (f (c .load)) (f (c .write)) (c .left))
+    (g (c .held)) (f (c .loadcredit)) (f (c .writecredit)) (c .dirty))
+    (f (c .minutes)) (f (c .itemloads)) (f (c .itemwritebacks)) (countsOf c)
+
+-- a cache of which only the first n places are filled
+abbrev pub placesTo : ℕ → Record → Record
+placesTo n c = placesBy (first 0 n) (first false n) c

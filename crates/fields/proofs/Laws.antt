@@ -8,7 +8,7 @@ use native.Mathlib.Nat.{add-zero, suc-add, add-suc, zero-mul, pow-zero, pow-suc,
 use native.Mathlib.Omega.{arith}
 use lib.Dec.{eqb}
 use lib.ListN.{length, take, drop, getD, set, replicate, length-append, length-drop, length-set, take-append-drop, drop-of-length-le}
-use lib.Seq.{sets, set-append-left, sets-eq, length-take-le, take-at, drop-at, drop-append-add, drop-drop, take-add, take-length, getD-drop}
+use lib.Seq.{sets, set-append-left, sets-eq, length-take-le, take-at, drop-at, drop-append-add, drop-drop, take-add, getD-drop}
 use Rattle.fields.specs.LittleEndian.{un, unrun, unflags, le}
 use Rattle.fields.specs.Inner.{Below, runOf, flags}
 
@@ -70,16 +70,6 @@ un-take-lt zero bs h = omega (arith, pow-zero 256)
 un-take-lt (suc w) [] h = one-le-pow (suc w) 256 (omega arith)
 un-take-lt (suc w) (b ∷ bs) h = omega (arith, pow-suc 256 w, h zero, un-take-lt w bs (λ i. h (suc i)))
 
-pub un-lt : (bs : List ℕ) → Below 256 bs → un bs < 256 ^ length bs
-un-lt bs h = rw take-length at (un-take-lt (length bs) bs h)
-
--- every byte of an encoding is a byte
-pub le-lt : (w v : ℕ) → Below 256 (le w v)
-unfolding le
-le-lt zero v i = omega arith
-le-lt (suc w) v zero = omega arith
-le-lt (suc w) v (suc i) = le-lt w (v / 256) i
-
 -- ---- parts of a list of bytes
 
 pub below-append : (m : ℕ) (xs ys : List ℕ) → Below m xs → Below m ys → Below m (xs ++ ys)
@@ -100,10 +90,6 @@ below-take m (suc n) (v ∷ vs) h (suc i) = below-take m n vs (λ j. h (suc j)) 
 pub past : {A : Type 0} (xs ys : List A) (at n : ℕ) → at ≡ length xs + n → drop at (xs ++ ys) ≡ drop n ys
 past xs ys at n e = rw e (drop-append-add xs ys n)
 
--- the part of `w` elements at the place `at`
-pub part : {A : Type 0} (xs ys zs : List A) (at w : ℕ) → length xs ≡ at → length ys ≡ w → take w (drop at (xs ++ (ys ++ zs))) ≡ ys
-part xs ys zs at w p q = rw (drop-at xs (ys ++ zs) at p) (take-at ys zs w q)
-
 -- a part and what follows it are what stands from the part's place on
 pub rejoin : {A : Type 0} (l : List A) (at n to : ℕ) → to ≡ at + n → take n (drop at l) ++ drop to l ≡ drop at l
 rejoin l at n to e = rw (e, ← drop-drop n at l) (take-append-drop n (drop at l))
@@ -122,12 +108,6 @@ unfolding unrun
 unrun-lt w zero bs h i = one-le-pow w 256 (omega arith)
 unrun-lt w (suc n) bs h zero = un-take-lt w bs h
 unrun-lt w (suc n) bs h (suc i) = unrun-lt w n (drop w bs) (below-drop 256 w bs h) i
-
--- and each byte of a run is a byte
-pub run-lt : (w : ℕ) (vs : List ℕ) → Below 256 (runOf w vs)
-unfolding runOf
-run-lt w [] i = omega arith
-run-lt w (v ∷ vs) i = below-append 256 (le w v) (runOf w vs) (le-lt w v) (run-lt w vs) i
 
 -- a run of numbers that fit, read back, is those numbers
 pub unrun-run : (w n : ℕ) (vs rest : List ℕ) → length vs ≡ n → Below (256 ^ w) vs → unrun w n (runOf w vs ++ rest) ≡ vs

@@ -65,6 +65,10 @@ readable s = record { size = s .size; allowed = s .allowed; cache = refl }
 pub stands-as : {b : List ℕ} {c d : Cache} → Stands b c → c ≡ d → Stands b d
 stands-as s e = record { size = s .size; allowed = s .allowed; cache = s .cache ∙ e }
 
+-- a store told of what the bytes stood for, told of the cache that it was
+pub stands-on : {b left : List ℕ} {c : Cache} {A : Type 0} {v : A} (f : Cache → A → Cache) → Stands left (f (cacheOf b) v) → Stands b c → Stands left (f c v)
+stands-on {v = v} f t s = stands-as t (ap (λ (d : Cache). f d v) (s .cache))
+
 pub valid-reads : {b : List ℕ} → ValidBytes b → Readable b
 valid-reads v = record { size = v .size; allowed = v .allowed; cache = refl }
 

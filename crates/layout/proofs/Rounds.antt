@@ -10,13 +10,13 @@ use lib.ListN.{length, drop, getD, length-drop, List·getD-append}
 use lib.Seq.{take-all, getD-drop}
 use Rattle.fields.specs.LittleEndian.{unflags, le}
 use Rattle.fields.specs.Inner.{Below, runOf, flags}
-use Rattle.fields.proofs.Laws.{sets-all, length-unrun, length-unflags, un-front, un-take-lt, below-drop, rejoin, le-back, unrun-lt, unrun-run, run-back, flags-lt, length-flags, unflags-flags, flag-byte, flags-back}
+use Rattle.fields.proofs.Laws.{length-unrun, length-unflags, un-front, un-take-lt, below-drop, rejoin, le-back, unrun-lt, unrun-run, run-back, flags-lt, length-flags, unflags-flags, flag-byte, flags-back}
 use Rattle.types.specs.Types.{deductionNumber, deductionOf}
 use Rattle.types.proofs.Deductions.{deduction-number, number-deduction, deduction-lt}
 use Rattle.cache_state.specs.Cache.{Cache}
 use Rattle.layout.specs.Layout.{stateBytes, format, numberAt, numberFar, numbersAt, cacheOf, AllowedBytes}
 use Rattle.layout.specs.InnerRows.{atFormat, atCapacity, atCount, atClosed, atSteps, atHits, atLoads, atEvictions, atDirtyEvictions, atWritebacks, atFlushes, atLoadCost, atWriteCost, atDirty, atLoadCredits, atWriteCredits, atMinutes, atItemLoads, atItemWritebacks, atItemLoadCosts, atItemWriteCosts, atBlocks, atHeld, atRule, atLeft, atArrivals, atRetirements, rowBytes, fieldRows, bytesOf, flag, WholeArrays, Fits}
-use Rattle.layout.proofs.Rows.{Packed, end, number-row, numbers-row, flags-row, packed-length, packed-below, stored, packed-stored, reach}
+use Rattle.layout.proofs.Rows.{Packed, end, number-row, numbers-row, flags-row, packed-length, reach}
 
 -- the fields lie end to end
 pub packed : (c : Cache) → WholeArrays c → Packed 0 (fieldRows c) stateBytes
@@ -49,22 +49,9 @@ packed c w =
     (numbers-row 8 4 (c .left) (w .left) (number-row 4 (c .arrivals) (number-row 4 (c .retirements) end))))))))))))))))))))))))))
 
 -- so the bytes of a cache are all the bytes of the state
-pub length-whole : (c : Cache) → WholeArrays c → length (bytesOf c) ≡ stateBytes
-unfolding bytesOf
-length-whole c w = omega (arith, packed-length (packed c w))
-
 pub length-bytesOf : (c : Cache) → Fits c → length (bytesOf c) ≡ stateBytes
-length-bytesOf c f = length-whole c (f .whole)
-
--- and each is a byte
-pub bytesOf-below : (c : Cache) → Fits c → Below 256 (bytesOf c)
 unfolding bytesOf
-bytesOf-below c f = packed-below (packed c (f .whole))
-
--- the fields of a cache, stored one by one over all the bytes of a state, make its bytes
-pub store-all : (c : Cache) (b : List ℕ) → WholeArrays c → length b ≡ stateBytes → stored b (fieldRows c) ≡ bytesOf c
-unfolding bytesOf
-store-all c b w n = packed-stored (packed c w) b ∙ sets-all b (rowBytes (fieldRows c)) (length-whole c w ∙ sym n)
+length-bytesOf c f = omega (arith, packed-length (packed c (f .whole)))
 
 -- ---- stored and read back
 

@@ -8,8 +8,8 @@ use native.Mathlib.Omega.{arith}
 use lib.ListN.{length, drop, getD, length-append}
 use lib.Seq.{sets}
 use Rattle.fields.specs.LittleEndian.{le}
-use Rattle.fields.specs.Inner.{Below, runOf, flags}
-use Rattle.fields.proofs.Laws.{length-le, length-run, length-flags, le-lt, run-lt, flags-lt, below-append, past, sets-append, sets-past, sets-within}
+use Rattle.fields.specs.Inner.{runOf, flags}
+use Rattle.fields.proofs.Laws.{length-le, length-run, length-flags, past, sets-append, sets-past, sets-within}
 use Rattle.layout.specs.InnerRows.{FieldRow, rowBytes}
 
 -- rows stored into bytes, each at its place
@@ -20,45 +20,41 @@ stored b (r ∷ rs) = stored (sets b (r .0) (r .1)) rs
 -- rows of bytes that lie end to end, from one place to another
 pub data Packed : ℕ → List FieldRow → ℕ → Type 0 where
   end : {to : ℕ} → Packed to [] to
-  row : {at to : ℕ} {x : List ℕ} {rs : List FieldRow} (w : ℕ) → length x ≡ w → Below 256 x → Packed (at + w) rs to → Packed at ((at, x) ∷ rs) to
+  row : {at to : ℕ} {x : List ℕ} {rs : List FieldRow} (w : ℕ) → length x ≡ w → Packed (at + w) rs to → Packed at ((at, x) ∷ rs) to
 
 -- a number of `w` bytes, `n` numbers of `w` bytes each, and `n` flags
 pub number-row : {at to : ℕ} {rs : List FieldRow} (w v : ℕ) → Packed (at + w) rs to → Packed at ((at, le w v) ∷ rs) to
-number-row w v p = row w (length-le w v) (le-lt w v) p
+number-row w v p = row w (length-le w v) p
 
 pub numbers-row : {at to : ℕ} {rs : List FieldRow} (w n : ℕ) (vs : List ℕ) → length vs ≡ n → Packed (at + n * w) rs to → Packed at ((at, runOf w vs) ∷ rs) to
-numbers-row w n vs e p = row {x = runOf w vs} (n * w) (rw (length-run, e)) (run-lt w vs) p
+numbers-row w n vs e p = row {x = runOf w vs} (n * w) (rw (length-run, e)) p
 
 pub flags-row : {at to : ℕ} {rs : List FieldRow} (n : ℕ) (fs : List Bool) → length fs ≡ n → Packed (at + n) rs to → Packed at ((at, flags fs) ∷ rs) to
-flags-row n fs e p = row {x = flags fs} n (length-flags fs ∙ e) (λ i. omega (arith, flags-lt fs i)) p
+flags-row n fs e p = row {x = flags fs} n (length-flags fs ∙ e) p
 
--- their bytes reach from the one place to the other, and each is a byte
+-- their bytes reach from the one place to the other
 pub packed-length : {at to : ℕ} {rs : List FieldRow} → Packed at rs to → at + length (rowBytes rs) ≡ to
 packed-length end = omega arith
-packed-length (row {x = x} {rs = rs} w e h p) = omega (arith, length-append x (rowBytes rs), packed-length p)
-
-pub packed-below : {at to : ℕ} {rs : List FieldRow} → Packed at rs to → Below 256 (rowBytes rs)
-packed-below end = λ i. omega arith
-packed-below (row {x = x} {rs = rs} w e h p) = below-append 256 x (rowBytes rs) h (packed-below p)
+packed-length (row {x = x} {rs = rs} w e p) = omega (arith, length-append x (rowBytes rs), packed-length p)
 
 -- stored one by one, they are stored as one
 pub packed-stored : {at to : ℕ} {rs : List FieldRow} → Packed at rs to → (b : List ℕ) → stored b rs ≡ sets b at (rowBytes rs)
 packed-stored end b = refl
-packed-stored (row {at = at} {x = x} {rs = rs} w e h p) b = packed-stored p (sets b at x) ∙ rw (sets-append b at x (rowBytes rs), e)
+packed-stored (row {at = at} {x = x} {rs = rs} w e p) b = packed-stored p (sets b at x) ∙ rw (sets-append b at x (rowBytes rs), e)
 
 -- no row stands before the first
 after : {at to : ℕ} {rs : List FieldRow} → Packed at rs to → (n : ℕ) → n < length rs → at ≤ getD rs n (0, []) .0
 after end n h = absurd (omega arith)
-after (row w e h p) zero l = omega arith
-after (row {at = at} {rs = rs} w e h p) (suc n) l = omega (arith, after p n (omega arith))
+after (row w e p) zero l = omega arith
+after (row {at = at} {rs = rs} w e p) (suc n) l = omega (arith, after p n (omega arith))
 
 -- what stands at the place of row `n`, `q` bytes into the rows, is that row and those that follow it
 pub reach : {at to : ℕ} {rs : List FieldRow} → Packed at rs to → (n q : ℕ) → n < length rs → getD rs n (0, []) .0 ≡ at + q → drop q (rowBytes rs) ≡ getD rs n (0, []) .1 ++ rowBytes (drop (suc n) rs)
 reach end n q l z = absurd (omega arith)
-reach (row w e h p) zero q l z =
+reach (row w e p) zero q l z =
     let f : q ≡ 0 = omega arith in
     rw f
-reach (row {at = at} {x = x} {rs = rs} w e h p) (suc n) q l z =
+reach (row {at = at} {x = x} {rs = rs} w e p) (suc n) q l z =
     let a : at + w ≤ getD rs n (0, []) .0 = after p n (omega arith) in
     past x (rowBytes rs) q (q - w) (omega arith) ∙ reach p n (q - w) (omega arith) (omega arith)
 
@@ -78,10 +74,10 @@ pub sets-row :
     off + length x ≤ length (getD rs n (0, []) .1) →
     sets (rowBytes rs) (q + off) x ≡ rowBytes (replaced rs n (sets (getD rs n (0, []) .1) off x))
 sets-row end n q off x l z k = absurd (omega arith)
-sets-row (row {x = y} {rs = rs} w e h p) zero q off x l z k =
+sets-row (row {x = y} {rs = rs} w e p) zero q off x l z k =
     let f : q + off ≡ off = omega arith in
     rw f (sets-within y (rowBytes rs) x off k)
-sets-row (row {at = at} {x = y} {rs = rs} w e h p) (suc n) q off x l z k =
+sets-row (row {at = at} {x = y} {rs = rs} w e p) (suc n) q off x l z k =
     let a : at + w ≤ getD rs n (0, []) .0 = after p n (omega arith) in
     sets-past y (rowBytes rs) x (q + off) (q - w + off) (omega arith)
     ∙ ap (λ (t : List ℕ). y ++ t) (sets-row p n (q - w) off x (omega arith) (omega arith) k)

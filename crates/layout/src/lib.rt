@@ -323,7 +323,7 @@ fn words(b: &[u8], at: usize) -> [u64; 4]
     ]
 }
 
-pub fn put_words(b: &mut [u8], at: usize, words: [u64; 4])
+fn put_words(b: &mut [u8], at: usize, words: [u64; 4])
     requires { ⌜ at + 32 ≤ length (now b) ⌝ }
     ensures { λ _. ⌜ now (b .exit) ≡ sets (now (b .entry)) at (runOf 8 words) ⌝ }
 {

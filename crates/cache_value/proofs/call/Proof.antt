@@ -1,7 +1,6 @@
 -- `cache_value::call` meets its contract: the call in place on the struct's bytes, as the call by value. Assumes nothing.
 use native.Mathlib.Omega.{arith}
 use borrow.Author.Needs.{needs}
-use Rattle.layout.proofs.Places.{stands}
 use Rattle.landlord.specs.CallNumbers.{callFrom}
 use Rattle.cache_value.proofs.Calls.{many-called, refused-called, taken-called}
 use Rattle.cache_value.proofs.call.Statement.{statement}
@@ -25,7 +24,7 @@ call-bytes-requires c κs = search needs
 returns-2 : tie.Need-returns-2
 returns-2 c =
     let a = c .before .before .before .before .before .before .before .before .before .args in
-    refused-called (a .c) (stands (c .before .before .before .before .before .encode .ensures .0) (c .before .before .before .before .before .encode .ensures .1 (omega arith))) (callFrom (a .which) (a .n)) _ (c .before .before .call-bytes .ensures) (c .if2 .taken)
+    refused-called (a .c) (c .before .before .before .before .before .encode .ensures) (callFrom (a .which) (a .n)) _ (c .before .before .call-bytes .ensures) (c .if2 .taken)
 
 slice-aggregate-decode : tie.Need-slice-aggregate-decode
 slice-aggregate-decode c = search needs
@@ -36,7 +35,7 @@ decode-requires c κs = search needs
 returns-3 : tie.Need-returns-3
 returns-3 c =
     let a = c .before .before .before .before .before .before .before .before .before .before .before .args in
-    taken-called (a .c) (stands (c .before .before .before .before .before .before .before .encode .ensures .0) (c .before .before .before .before .before .before .before .encode .ensures .1 (omega arith))) (callFrom (a .which) (a .n)) _ (c .decode .result) (c .before .before .before .before .call-bytes .ensures) (c .before .before .if2 .left) (c .decode .ensures)
+    taken-called (a .c) (c .before .before .before .before .before .before .before .encode .ensures) (callFrom (a .which) (a .n)) _ (c .decode .result) (c .before .before .before .before .call-bytes .ensures) (c .before .before .if2 .left) (c .decode .ensures)
 
 pub call-spec : {M : Type 1} → statement M
 call-spec =

@@ -1,7 +1,6 @@
 -- `cache_value::run` meets its contract: the season theorem of its arguments. Assumes nothing.
 use native.Mathlib.Omega.{arith}
 use borrow.Author.Needs.{needs}
-use Rattle.layout.proofs.Places.{stands}
 use Rattle.landlord.specs.CallNumbers.{callsOf}
 use Rattle.cache_value.proofs.Answers.{opening-number}
 use Rattle.cache_value.proofs.Runs.{run-refused, run-taken}
@@ -33,7 +32,7 @@ slice-aggregate-run-calls c = search needs
 run-calls-requires : tie.Need-run-calls-requires
 run-calls-requires c κs =
     let o = c .before .before .before .before .before .before .before .opening .ensures in
-    valid-there (c .before .before .before .before .before .before .before .opening .result .cache) (stands (c .before .before .before .encode .ensures .0) (c .before .before .before .encode .ensures .1 (omega (arith, o .valid .fields .few)))) (o .valid)
+    valid-there (c .before .before .before .before .before .before .before .opening .result .cache) (c .before .before .before .encode .ensures) (o .valid)
 
 slice-aggregate-decode : tie.Need-slice-aggregate-decode
 slice-aggregate-decode c = search needs
@@ -50,7 +49,7 @@ returns-2 c =
     let r = c .before .before .before .before .before .before .before .before .before .before .before .before .before .opening .result in
     let o = c .before .before .before .before .before .before .before .before .before .before .before .before .before .opening .ensures in
     run-taken _ (callsOf (a .calls .now)) (a .answers .now) (r .number) (r .cache) (c .decode .result) o (c .before .before .before .before .before .before .before .before .before .before .before .if1 .left)
-    (stands (c .before .before .before .before .before .before .before .before .before .encode .ensures .0) (c .before .before .before .before .before .before .before .before .before .encode .ensures .1 (omega (arith, o .valid .fields .few)))) (c .before .before .before .before .before .run-calls .ensures .0) (c .decode .ensures)
+    (c .before .before .before .before .before .before .before .before .before .encode .ensures) (c .before .before .before .before .before .run-calls .ensures .0) (c .decode .ensures)
 
 pub run-spec : {M : Type 1} → statement M
 run-spec =

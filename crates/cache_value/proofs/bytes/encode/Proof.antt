@@ -1,116 +1,80 @@
--- `cache_value::bytes::encode` meets its contract: the seven groups are all the rows of the cache, which lie end to end over the whole of the bytes. Assumes nothing.
-use Prim.Native.Nat.{ℕ, _^_, _<_}
-use mir.Val as val
-use mir.Val.{bits}
-use mir.Syntax.{Width, w8, w16, w32, w64}
-use lib.ListN.{getD}
+-- `cache_value::bytes::encode` meets its contract: after i turns the first i places stand in the bytes. Assumes nothing.
+use mathlib.Core.Path.{_≡_, sym, _∙_}
+use Prim.Native.Nat.{_≤_, _-_}
+use native.Mathlib.Omega.{arith}
 use borrow.Author.Needs.{needs}
-use Rattle.layout.specs.InnerRows.{fieldRows, WholeArrays, Fits}
-use Rattle.layout.proofs.Rounds.{store-all}
+use Rattle.cache_state.specs.InnerWith.{withLoadCredit, withWriteCredit, withMinutes, withItemLoads, withItemWritebacks, withItemLoadCost, withItemWriteCost, withBlocks, withHeld}
+use Rattle.layout.specs.Inner.{Stands}
+use Rattle.layout.specs.InnerRows.{WholeArrays}
+use Rattle.layout.proofs.Places.{stands-as, stands-on}
 use Rattle.cache_value.specs.Contract.{recordOf}
+use Rattle.cache_value.specs.Inner.{placesTo}
+use Rattle.cache_value.proofs.Places.{place-more, place-all}
 use Rattle.cache_value.proofs.bytes.encode.Statement.{statement}
 use Rattle.cache_value.proofs.bytes.encode.Tie as tie
 
-put-head-requires : tie.Need-put-head-requires
-put-head-requires c κs = search needs
+abbrev Inv-loop : tie.InvT-loop
+Inv-loop b₀ c i₀ b i = (i ≤ 256) × Stands b (placesTo i (recordOf c))
 
-put-totals-requires : tie.Need-put-totals-requires
-put-totals-requires c κs = search needs
+abbrev μ-loop : tie.MeasureT-loop
+μ-loop b₀ c i₀ b i = 256 - i
 
-put-costs-requires : tie.Need-put-costs-requires
-put-costs-requires c κs = search needs
+-- each array that comes in has all its places
+whole : (c : tie.Start Inv-loop μ-loop) → WholeArrays (recordOf (c .args .t1))
+whole c = search needs
 
-put-credits-requires : tie.Need-put-credits-requires
-put-credits-requires c κs = search needs
+loop-holds : tie.Need-loop-holds Inv-loop μ-loop
+loop-holds c = (omega arith, (c .before .before .put-own) .ensures)
 
-put-uses-requires : tie.Need-put-uses-requires
-put-uses-requires c κs = search needs
+add-i : tie.Need-add-i Inv-loop μ-loop
+add-i c = omega (arith, (c .before .before .before .before .before .before .before .before .before .before .before .before .before .before .before .before .before .before .before .before .before .before .before .before .before .before .before .before .before .before .before .before .before .before .before .before .before .before .before .before .before .before .before .before .before .loop-test))
 
-put-catalog-requires : tie.Need-put-catalog-requires
-put-catalog-requires c κs = search needs
+loop-less : tie.Need-loop-less Inv-loop μ-loop
+loop-less c = omega (arith, (c .before .before .before .before .before .before .before .before .before .before .before .before .before .before .before .before .before .before .before .before .before .before .before .before .before .before .before .before .before .before .before .before .before .before .before .before .before .before .before .before .before .before .before .before .before .loop-test))
 
-put-arrivals-requires : tie.Need-put-arrivals-requires
-put-arrivals-requires c κs = search (needs, c .before .before .before .before .before .before .before .before .before .before .before .before .before .before .before .before .before .before .before .before .before .before .before .before .before .before .before .before .before .before .before .before .before .before .before .before .before .before .before .before .pre, c .before .before .before .before .before .before .before .before .before .before .before .before .before .before .before .before .before .before .before .before .before .before .before .before .before .before .before .before .before .before .before .before .before .before .before .before .b .given, c .before .before .before .before .before .before .before .before .before .before .before .before .before .before .before .before .before .before .before .before .before .before .before .before .before .before .before .before .before .before .before .before .b2 .given)
-
-same-length : tie.Need-same-length
-same-length c = search (needs, c .before .before .before .before .before .before .before .before .before .before .before .before .before .before .before .before .before .before .before .before .before .before .before .before .before .before .before .before .before .before .before .before .before .before .before .before .before .before .before .before .before .before .before .pre, c .before .before .before .before .before .before .before .before .before .before .before .before .before .before .before .before .before .before .before .before .before .before .before .before .before .before .before .before .before .before .before .before .before .before .before .before .before .before .before .b .given, c .before .before .before .before .before .before .before .before .before .before .before .before .before .before .before .before .before .before .before .before .before .before .before .before .before .before .before .before .before .before .before .before .before .before .before .b2 .given, c .before .before .before .before .before .before .before .before .before .before .before .before .before .before .before .before .before .before .before .before .before .before .before .before .before .before .before .before .before .b3 .given)
-
--- the arrays that come in have all their places, and every number the range of its type
-below : (w : Width) (v : ℕ) → val.Fits w v → v < 2 ^ bits w
-below w v f = f .fits
-
-whole : (c : tie.Start) → WholeArrays (recordOf (c .args .t1))
-whole c =
-    record {
-      dirty = search needs;
-      loadcredit = search needs;
-      writecredit = search needs;
-      minutes = search needs;
-      itemloads = search needs;
-      itemwritebacks = search needs;
-      load = search needs;
-      write = search needs;
-      blocks = search needs;
-      held = search needs;
-      left = search needs;
-    }
-
-fitting : (c : tie.Start) → c .args .t1 .n < 2 ^ 16 → Fits (recordOf (c .args .t1))
-fitting c n =
-    record {
-      whole = whole c;
-      k = below w32 (c .args .t1 .k) (search needs);
-      n = n;
-      steps = below w32 (c .args .t1 .steps) (search needs);
-      hits = below w32 (c .args .t1 .hits) (search needs);
-      loads = below w32 (c .args .t1 .loads) (search needs);
-      evictions = below w32 (c .args .t1 .evictions) (search needs);
-      dirtyevictions = below w32 (c .args .t1 .dirtyevictions) (search needs);
-      writebacks = below w32 (c .args .t1 .writebacks) (search needs);
-      flushes = below w32 (c .args .t1 .flushes) (search needs);
-      loadcost = below w64 (c .args .t1 .loadcost) (search needs);
-      writecost = below w64 (c .args .t1 .writecost) (search needs);
-      dirty = λ i. below w64 (getD (c .args .t1 .dirty) i 0) (search needs);
-      loadcredit = λ i. below w64 (getD (c .args .t1 .loadcredit) i 0) (search needs);
-      writecredit = λ i. below w64 (getD (c .args .t1 .writecredit) i 0) (search needs);
-      minutes = λ i. below w32 (getD (c .args .t1 .minutes) i 0) (search needs);
-      itemloads = λ i. below w32 (getD (c .args .t1 .itemloads) i 0) (search needs);
-      itemwritebacks = λ i. below w32 (getD (c .args .t1 .itemwritebacks) i 0) (search needs);
-      load = λ i. below w16 (getD (c .args .t1 .load) i 0) (search needs);
-      write = λ i. below w16 (getD (c .args .t1 .write) i 0) (search needs);
-      blocks = λ i. below w8 (getD (c .args .t1 .blocks) i 0) (search needs);
-      left = λ i. below w64 (getD (c .args .t1 .left) i 0) (search needs);
-      arrivals = below w32 (c .args .t1 .arrivals) (search needs);
-      retirements = below w32 (c .args .t1 .retirements) (search needs);
-    }
-
-returns : tie.Need-returns
-unfolding fieldRows
-returns c =
-    let start = c .before .before .before .before .before .before .before .before .before .before .before .before .before .before .before .before .before .before .before .before .before .before .before .before .before .before .before .before .before .before .before .before .before .before .before .before .before .before .before .before .before .before .before in (
-      rw (
-        c .before .before .put-arrivals .ensures,
-        c .before .before .before .before .before .before .put-catalog .ensures,
-        c .before .before .before .before .before .before .before .before .before .before .before .before .before .before .before .put-uses .ensures,
-        c .before .before .before .before .before .before .before .before .before .before .before .before .before .before .before .before .before .before .before .before .before .before .before .put-credits .ensures,
-        c .before .before .before .before .before .before .before .before .before .before .before .before .before .before .before .before .before .before .before .before .before .before .before .before .before .before .before .before .before .before .put-costs .ensures,
-        c .before .before .before .before .before .before .before .before .before .before .before .before .before .before .before .before .before .before .before .before .before .before .before .before .before .before .before .before .before .before .before .before .before .before .before .before .put-totals .ensures,
-        c .before .before .before .before .before .before .before .before .before .before .before .before .before .before .before .before .before .before .before .before .before .before .before .before .before .before .before .before .before .before .before .before .before .before .before .before .before .before .before .before .put-head .ensures,
-      )
-          (store-all (recordOf (start .args .t1)) (start .args .b .now) (whole start) (start .pre)),
-      fitting start,
+loop-again : tie.Need-loop-again Inv-loop μ-loop
+loop-again c =
+    let i = (c .before .before .before .before .before .before .before .before .before .before .before .before .before .before .before .before .before .before .before .before .before .before .before .before .before .before .before .before .before .before .before .before .before .before .before .before .before .before .before .before .before .before .before .before .before .before .loop) .i in (
+      omega (arith, (c .before .before .before .before .before .before .before .before .before .before .before .before .before .before .before .before .before .before .before .before .before .before .before .before .before .before .before .before .before .before .before .before .before .before .before .before .before .before .before .before .before .before .before .before .before .loop-test)),
+      stands-as
+          (stands-on (λ d v. withHeld d i v) (c .before .before .put-held .ensures)
+          (stands-on (λ d v. withBlocks d i v) (c .before .before .before .before .before .before .before .put-blocks .ensures)
+          (stands-on (λ d v. withItemWriteCost d i v) (c .before .before .before .before .before .before .before .before .before .before .before .before .put-item-write-cost .ensures)
+          (stands-on (λ d v. withItemLoadCost d i v) (c .before .before .before .before .before .before .before .before .before .before .before .before .before .before .before .before .before .put-item-load-cost .ensures)
+          (stands-on (λ d v. withItemWritebacks d i v) (c .before .before .before .before .before .before .before .before .before .before .before .before .before .before .before .before .before .before .before .before .before .before .put-item-writebacks .ensures)
+          (stands-on (λ d v. withItemLoads d i v) (c .before .before .before .before .before .before .before .before .before .before .before .before .before .before .before .before .before .before .before .before .before .before .before .before .before .before .before .put-item-loads .ensures)
+          (stands-on (λ d v. withMinutes d i v) (c .before .before .before .before .before .before .before .before .before .before .before .before .before .before .before .before .before .before .before .before .before .before .before .before .before .before .before .before .before .before .before .before .put-minutes .ensures)
+          (stands-on (λ d v. withWriteCredit d i v) (c .before .before .before .before .before .before .before .before .before .before .before .before .before .before .before .before .before .before .before .before .before .before .before .before .before .before .before .before .before .before .before .before .before .before .before .before .before .put-write-credit .ensures)
+          (stands-on (λ d v. withLoadCredit d i v) (c .before .before .before .before .before .before .before .before .before .before .before .before .before .before .before .before .before .before .before .before .before .before .before .before .before .before .before .before .before .before .before .before .before .before .before .before .before .before .before .before .before .before .put-load-credit .ensures) (c .before .before .before .before .before .before .before .before .before .before .before .before .before .before .before .before .before .before .before .before .before .before .before .before .before .before .before .before .before .before .before .before .before .before .before .before .before .before .before .before .before .before .before .before .before .before .loop .inv .1))))))))))
+          (place-more (recordOf (c .before .before .before .before .before .before .before .before .before .before .before .before .before .before .before .before .before .before .before .before .before .before .before .before .before .before .before .before .before .before .before .before .before .before .before .before .before .before .before .before .before .before .before .before .before .before .before .before .before .before .before .before .args .t1)) (whole (c .before .before .before .before .before .before .before .before .before .before .before .before .before .before .before .before .before .before .before .before .before .before .before .before .before .before .before .before .before .before .before .before .before .before .before .before .before .before .before .before .before .before .before .before .before .before .before .before .before .before .before .before)) i (c .before .before .before .before .before .before .before .before .before .before .before .before .before .before .before .before .before .before .before .before .before .before .before .before .before .before .before .before .before .before .before .before .before .before .before .before .before .before .before .before .before .before .before .before .before .loop-test .taken)),
     )
 
+same-length : tie.Need-same-length Inv-loop μ-loop
+same-length c = (c .before .loop) .inv .1 .size ∙ sym (c .before .before .before .before .before .before .before .pre .0)
+
+returns : tie.Need-returns Inv-loop μ-loop
+returns c = stands-as (c .before .loop .inv .1) (place-all (recordOf (c .before .before .before .before .before .before .before .args .t1)) (whole (c .before .before .before .before .before .before .before)) (c .before .loop .i) (omega arith))
+
+-- of each field: that its place is counted and lies in the array, and what its setter asks
 pub encode-spec : {M : Type 1} → statement M
 encode-spec =
     tie.close
     (tie.spec
-    put-head-requires
-    put-totals-requires
-    put-costs-requires
-    put-credits-requires
-    put-uses-requires
-    put-catalog-requires
-    put-arrivals-requires
+    Inv-loop
+    μ-loop
+    (λ c κs. search needs)
+    loop-holds
+    (λ c. search needs) (λ c. search needs) (λ c κs. search needs)  -- load_credit
+    (λ c. search needs) (λ c. search needs) (λ c κs. search needs)  -- write_credit
+    (λ c. search needs) (λ c. search needs) (λ c κs. search needs)  -- minutes
+    (λ c. search needs) (λ c. search needs) (λ c κs. search needs)  -- item_loads
+    (λ c. search needs) (λ c. search needs) (λ c κs. search needs)  -- item_writebacks
+    (λ c. search needs) (λ c. search needs) (λ c κs. search needs)  -- item_load_cost
+    (λ c. search needs) (λ c. search needs) (λ c κs. search needs)  -- item_write_cost
+    (λ c. search (needs, c .before .before .before .before .before .before .before .before .before .before .before .before .before .before .before .before .before .before .before .before .before .before .before .before .before .before .before .before .before .before .before .before .before .before .before .before .loop-test)) (λ c κs. search (needs, c .before .before .before .before .before .before .before .before .before .before .before .before .before .before .before .before .before .before .before .before .before .before .before .before .before .before .before .before .before .before .before .before .before .before .before .before .before .loop-test))  -- blocks
+    (λ c. search (needs, c .before .before .before .before .before .before .before .before .before .before .before .before .before .before .before .before .before .before .before .before .before .before .before .before .before .before .before .before .before .before .before .before .before .before .before .before .before .before .before .before .before .loop-test)) (λ c κs. search (needs, c .before .before .before .before .before .before .before .before .before .before .before .before .before .before .before .before .before .before .before .before .before .before .before .before .before .before .before .before .before .before .before .before .before .before .before .before .before .before .before .before .before .before .loop-test))  -- held
+    add-i
+    loop-less
+    loop-again
     same-length
     returns)
