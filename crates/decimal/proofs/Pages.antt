@@ -9,7 +9,9 @@ use native.Mathlib.Omega.{arith}
 use lib.ListN.{length, getD, take, drop, set, length-append, length-drop, take-append-drop, drop-of-length-le}
 use lib.Seq.{drop-cons, drop-drop, take-at, drop-at, length-take-le, take-all, set-split}
 use borrow.Rule.Slice.PartMut.{midOf, putMid, mid-len}
+use Rattle.decimal.specs.Decimal.{digitsOf, wroteOf, pageOf}
 use Rattle.decimal.specs.InnerPages.{textOver}
+use Rattle.decimal.proofs.Laws.{wrote-all, page-all}
 
 -- ## A text at a place of a page
 
@@ -119,6 +121,16 @@ module _ {all before : List ℕ} (room : length all ≤ length before) where
   pub go-room : (a : ℕ) (t u page : List ℕ) → TextGoing all before a (t ++ u) page → length t ≤ length (midOf a (length page - a) page)
   go-room a t u page g =
       omega (arith, g .count, g .same, length-append t u, mid-len a (length page) page (omega arith))
+
+  -- a number is written, by a writer that would leave the page as it was if there were no room
+  pub go-number :
+      {a : ℕ} (v : ℕ) (u : List ℕ) {page ys : List ℕ} {w : ℕ} →
+      TextGoing all before a (digitsOf v ++ u) page →
+      (w ≡ wroteOf (digitsOf v) (midOf a (length page - a) page)) × (ys ≡ pageOf (digitsOf v) (midOf a (length page - a) page)) →
+      TextGoing all before (a + w) u (putMid a (length page - a) page ys)
+  go-number {a} v u {page} g p =
+      let fits = go-room a (digitsOf v) u page g in
+      go-next (digitsOf v) u g (p .0 ∙ wrote-all (digitsOf v) _ fits) (p .1 ∙ page-all (digitsOf v) _ fits)
 
 -- the first part is written on the page itself
 pub go-first :

@@ -7,7 +7,7 @@ ghost use lib.ListN.{length};
 ghost use lib.Seq.{sets};
 ghost use Rattle.decimal.specs.Decimal.{sameText, shaped, digitsOf, wroteOf, pageOf};
 ghost use Rattle.decimal.specs.InnerReads.{readOf};
-ghost use Rattle.decimal.specs.InnerPages.{textOver, twoDigits, threeDigits};
+ghost use Rattle.decimal.specs.InnerPages.{textOver, labelled, twoDigits, threeDigits};
 
 // What a text is, read as a number with a limit: no number, a number above the limit, or one that is at most the limit.
 pub enum Number {
@@ -208,4 +208,14 @@ pub fn put_text(text: &[u8], page: &mut [u8]) -> usize
         i += 1;
     }
     i
+}
+
+// Writes a number behind its label at the start of the page, which has room for both.
+pub fn put_labelled(label: &[u8], v: u64, page: &mut [u8]) -> usize
+    requires { ⌜ length (labelled (now label) v) ≤ length (now page) ⌝ }
+    ensures { λ r. ⌜ r ≡ length (labelled (now (label .entry)) v) ⌝ }
+    ensures { λ r. ⌜ now (page .exit) ≡ textOver (labelled (now (label .entry)) v) (now (page .entry)) ⌝ }
+{
+    let at = put_text(label, page);
+    at + write(v, &mut page[at..])
 }

@@ -18,8 +18,8 @@ use Rattle.cache_state.specs.InnerView.{usageOf, stateOf, figuresOf}
 use Rattle.cache_state.proofs.Views.{size-is, use-is}
 use Rattle.report_lines.specs.declared.Rival.{Rival}
 use Rattle.report_lines.specs.declared.Rival.the-variants.{Absent, Against}
-use Rattle.report_lines.specs.Lines.{separator, lineOf, itemLines, rivalNumbers, totalNames, totalNumbers}
-use Rattle.report_lines.specs.Inner.{itemNumbers, RivalOk}
+use Rattle.report_lines.specs.Lines.{separator, lineOf, itemNumbers, itemLines, rivalNumbers, totalNames, totalNumbers}
+use Rattle.report_lines.specs.Inner.{RivalOk}
 use Rattle.report_lines.proofs.Sides.{few-blocks, left-fits, right-fits}
 use Rattle.report_lines.proofs.Laws.{items-count, items-end, names-alone-count, names-priced-count, totals-count}
 use Rattle.report.specs.Report.{reportOf, refusalText, longest}

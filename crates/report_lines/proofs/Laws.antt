@@ -7,18 +7,16 @@ use native.Mathlib.Numerals.{add-one}
 use native.Mathlib.Omega.{arith}
 use lib.ListN.{length, getD, take, drop, length-append, drop-of-length-le}
 use lib.Seq.{drop-cons, take-all}
-use borrow.Rule.Slice.PartMut.{midOf, putMid}
-use Rattle.decimal.specs.Decimal.{digitsOf, wroteOf, pageOf}
-use Rattle.decimal.proofs.Laws.{wrote-all, page-all}
-use Rattle.decimal.proofs.Pages.{TextGoing, go-as, go-room, go-next, text-next}
+use Rattle.decimal.specs.Decimal.{digitsOf}
+use Rattle.decimal.proofs.Pages.{text-next}
 use Rattle.landlord.specs.Figures.{Use, noUse, Standing, totalCost, leftSide, rightSide}
 use Rattle.cache_state.specs.Cache.{Cache, usesOf}
 use Rattle.cache_state.specs.InnerView.{usageOf}
 use Rattle.cache_state.proofs.Views.{uses-length, use-is}
 use Rattle.report_lines.specs.declared.Rival.{Rival}
 use Rattle.report_lines.specs.declared.Rival.the-variants.{Absent, Against}
-use Rattle.report_lines.specs.Lines.{separator, lineOf, itemLines, rivalNumbers, totalNames, totalNumbers, totalLines}
-use Rattle.report_lines.specs.Inner.{itemNumbers, totalsThen, RivalOk, rivalCount}
+use Rattle.report_lines.specs.Lines.{separator, lineOf, itemNumbers, itemLines, rivalNumbers, totalNames, totalsThen, totalNumbers, totalLines}
+use Rattle.report_lines.specs.Inner.{RivalOk, rivalCount}
 
 -- ## What is left of a line of numbers
 
@@ -47,22 +45,6 @@ line-count ns i h =
     let e : length (lineOf (drop i ns)) ≡ length (digitsOf (getD ns i 0)) + suc (length (lineOf (drop (i + 1) ns))) =
     ap length (line-next ns i h) ∙ length-append (digitsOf (getD ns i 0)) (separator (drop (i + 1) ns) ∷ lineOf (drop (i + 1) ns)) in
     omega arith
-
--- a number whose text has room is written
-pub number-next :
-    (ns before : List ℕ) (i a w : ℕ) (page ys : List ℕ) →
-    length (lineOf ns) ≤ length before →
-    i < length ns →
-    TextGoing (lineOf ns) before a (lineOf (drop i ns)) page →
-    w ≡ wroteOf (digitsOf (getD ns i 0)) (midOf a (length page - a) page) →
-    ys ≡ pageOf (digitsOf (getD ns i 0)) (midOf a (length page - a) page) →
-    TextGoing (lineOf ns) before (a + w) (separator (drop (i + 1) ns) ∷ lineOf (drop (i + 1) ns)) (putMid a (length page - a) page ys)
-number-next ns before i a w page ys room l g n p =
-    let t = digitsOf (getD ns i 0) in
-    let u = separator (drop (i + 1) ns) ∷ lineOf (drop (i + 1) ns) in
-    let h : TextGoing (lineOf ns) before a (t ++ u) page = go-as (line-next ns i l) g in
-    let fits = go-room room a t u page h in
-    go-next room t u h (n ∙ wrote-all t _ fits) (p ∙ page-all t _ fits)
 
 -- ## What is left of the items' lines
 

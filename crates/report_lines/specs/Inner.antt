@@ -1,21 +1,11 @@
 -- What the writers of lines ask and give. Assumes nothing.
-use mathlib.Core.List.{[], List, _∷_}
-use Rattle.landlord.specs.Figures.{Use, Standing, tenthsOf, totalCost}
+use mathlib.Core.List.{List}
+use Rattle.landlord.specs.Figures.{Standing}
 use Prim.Native.Nat.{ℕ, _≤_}
 use lib.ListN.{length}
 use Rattle.cache_state.specs.Cache.{view}
 use Rattle.layout.specs.Layout.{cacheOf, ValidBytes}
 use Rattle.report_lines.specs.declared.Rival.{Rival, the-variants.{Absent, Against}}
-
--- the numbers of an item's line
-abbrev pub itemNumbers : ℕ → Use → List ℕ
-itemNumbers i u = i ∷ tenthsOf (u .minutes) ∷ u .loads ∷ u .writebacks ∷ []
-
--- the eight totals, with these numbers behind them
-abbrev pub totalsThen : Standing → List ℕ → List ℕ
-totalsThen v more =
-    let t = v .figures .totals in
-    t .hits ∷ t .loads ∷ t .loadCost ∷ t .evictions ∷ t .dirtyEvictions ∷ t .writebacks ∷ t .writeCost ∷ totalCost (v .figures) ∷ more
 
 -- What the report asks of a rival: a plan of 1 to k blocks, and a cost with which both sides of the bound fit their words.
 abbrev pub RivalOk : Standing → Rival → Type 0

@@ -16,10 +16,14 @@ unfoldable pub lineOf : List ℕ → List ℕ
 lineOf [] = []
 lineOf (x ∷ rest) = digitsOf x ++ (separator rest ∷ lineOf rest)
 
--- one line an item, from number i on: its number, and what was counted for it, the minutes as tenths of an hour
+-- the numbers of an item's line: its own, and what was counted for it, the minutes as tenths of an hour
+abbrev pub itemNumbers : ℕ → Use → List ℕ
+itemNumbers i u = i ∷ tenthsOf (u .minutes) ∷ u .loads ∷ u .writebacks ∷ []
+
+-- one line an item, from number i on
 unfoldable pub itemLines : ℕ → List Use → List ℕ
 itemLines i [] = []
-itemLines i (u ∷ uses) = lineOf (i ∷ tenthsOf (u .minutes) ∷ u .loads ∷ u .writebacks ∷ []) ++ itemLines (suc i) uses
+itemLines i (u ∷ uses) = lineOf (itemNumbers i u) ++ itemLines (suc i) uses
 
 -- a plan of h blocks: its cost, and both sides of the bound
 abbrev pub rivalNumbers : Standing → Rival → List ℕ
@@ -31,11 +35,15 @@ abbrev pub totalNames : Rival → List ℕ
 totalNames Absent = textOf "hits loads loadcost drops dirtydrops writebacks writecost total\n"
 totalNames (Against h cost) = textOf "hits loads loadcost drops dirtydrops writebacks writecost total rival left right\n"
 
+-- the eight totals, with these numbers behind them
+abbrev pub totalsThen : Standing → List ℕ → List ℕ
+totalsThen v more =
+    let t = v .figures .totals in
+    t .hits ∷ t .loads ∷ t .loadCost ∷ t .evictions ∷ t .dirtyEvictions ∷ t .writebacks ∷ t .writeCost ∷ totalCost (v .figures) ∷ more
+
 -- the numbers of the last line: the totals, and those of a rival
 abbrev pub totalNumbers : Standing → Rival → List ℕ
-totalNumbers v rival =
-    let t = v .figures .totals in
-    t .hits ∷ t .loads ∷ t .loadCost ∷ t .evictions ∷ t .dirtyEvictions ∷ t .writebacks ∷ t .writeCost ∷ totalCost (v .figures) ∷ rivalNumbers v rival
+totalNumbers v rival = totalsThen v (rivalNumbers v rival)
 
 -- the totals: a line of names and a line of numbers
 unfoldable pub totalLines : Standing → Rival → List ℕ

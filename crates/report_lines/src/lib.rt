@@ -9,8 +9,8 @@ ghost use Rattle.cache_state.specs.InnerView.{usageOf, figuresOf};
 ghost use Rattle.decimal.specs.InnerPages.{textOver};
 ghost use Rattle.landlord.specs.Figures.{tenthsOf, totalCost, leftSide, rightSide};
 ghost use Rattle.layout.specs.Layout.{stateBytes, cacheOf, ValidBytes};
-ghost use Rattle.report_lines.specs.Lines.{lineOf, itemLines, rivalNumbers, totalNumbers, totalLines};
-ghost use Rattle.report_lines.specs.Inner.{itemNumbers, Comparable, TextFits, rivalCount};
+ghost use Rattle.report_lines.specs.Lines.{lineOf, itemNumbers, itemLines, rivalNumbers, totalNumbers, totalLines};
+ghost use Rattle.report_lines.specs.Inner.{Comparable, TextFits, rivalCount};
 
 // What the last two lines say of a rival plan: nothing; or, of a plan of so many blocks, its cost and the two sides of the bound.
 pub enum Rival {

@@ -14,14 +14,14 @@ use lib.Dec.{leb, eqb}
 use lib.ListN.{length, getD, take, drop, length-append, take-append-drop, drop-of-length-le, List·getD-eq-default}
 use lib.Seq.{drop-cons, take-at, drop-at, take-all}
 use Rattle.decimal.specs.Decimal.{textOf, sameText, digitsOf, allDigits, wroteOf, pageOf}
-use Rattle.decimal.specs.InnerPages.{textOver}
+use Rattle.decimal.specs.InnerPages.{textOver, labelled}
 use Rattle.decimal.proofs.Laws.{less-or-not, digits-all, digits-length, wrote-all, wrote-none, page-all, page-none}
 use Rattle.decimal.proofs.Texts.{same-true}
 use Rattle.decimal.proofs.Pages.{TextGoing, go-first, go-as, go-room, go-next, go-end}
 use Rattle.types.specs.Types.{namesItem}
 use Rattle.basis.proofs.Tables.{every, every-at}
 use Rattle.sentence.specs.Sentences.{words, wordOf, inTable, linePart, itemPart, sentenceOf, longestSentence}
-use Rattle.sentence.specs.InnerSentences.{inOneText, startOf, WordAt, OnPage, toldOf, isStop, pieceOf, placeOf}
+use Rattle.sentence.specs.InnerSentences.{inOneText, startOf, WordAt, OnPage, isStop, pieceOf, placeOf}
 
 -- ## Tests
 
@@ -145,7 +145,7 @@ pub line-none : (line : ℕ) → line ≡ 0 → linePart line ≡ []
 unfolding linePart
 line-none line h = rw (eq-eqb line 0 h)
 
-pub line-told : (line : ℕ) → (line ≡ 0 → ⊥) → linePart line ≡ toldOf (textOf ", line ") line
+pub line-told : (line : ℕ) → (line ≡ 0 → ⊥) → linePart line ≡ labelled (textOf ", line ") line
 unfolding linePart
 line-told line h = rw (ne-eqb line 0 h)
 
@@ -153,7 +153,7 @@ pub item-none : (number item : ℕ) → namesItem number ≡ false → itemPart 
 unfolding itemPart
 item-none number item h = rw h
 
-pub item-told : (number item : ℕ) → namesItem number ≡ true → itemPart number item ≡ toldOf (textOf ", sail ") item
+pub item-told : (number item : ℕ) → namesItem number ≡ true → itemPart number item ≡ labelled (textOf ", sail ") item
 unfolding itemPart
 item-told number item h = rw h
 
@@ -231,17 +231,6 @@ module _ (t u : List ℕ) {before : List ℕ} (room : length (t ++ u) ≤ length
       OnPage u (midOf a (length page - a) page) b ys →
       OnPage (t ++ u) before (a + b) (putMid a (length page - a) page ys)
   put-next p q = put-is (go-end (go-next room u [] (going p) (q .count) (q .text)))
-
--- a number's digits put on a page that has room for them
-pub put-digits :
-    {x v b : ℕ} {page ys : List ℕ} →
-    x ≡ v →
-    length (digitsOf v) ≤ length page →
-    (b ≡ wroteOf (digitsOf x) page) × (ys ≡ pageOf (digitsOf x) page) →
-    OnPage (digitsOf v) page b ys
-put-digits {x} {v} {b} {page} e h w =
-    rw (← e) (let k : length (digitsOf x) ≤ length page = rw e h in
-    record { count = w .0 ∙ wrote-all (digitsOf x) page k; text = w .1 ∙ page-all (digitsOf x) page k })
 
 -- nothing is put
 pub put-none : (page : List ℕ) → OnPage [] page 0 page

@@ -12,6 +12,7 @@ use lib.Seq.{drop-drop, take-all, take-append-seam, drop-append-seam}
 use Rattle.decimal.specs.declared.Number.{Number}
 use Rattle.decimal.specs.declared.Number.the-variants.{Malformed, OutOfRange, Value}
 use Rattle.decimal.specs.Decimal.{textOf, sameText, digitsOf}
+use Rattle.decimal.specs.InnerPages.{labelled}
 use Rattle.decimal.specs.InnerReads.{readOf}
 use Rattle.decimal.proofs.Laws.{read-digits, read-value}
 use Rattle.decimal.proofs.Texts.{same-lengths, same-refl, same-true}
@@ -21,7 +22,7 @@ use Rattle.sentence.specs.declared.Part.the-variants.{Missing, Told}
 use Rattle.sentence.specs.declared.Reading.{Reading}
 use Rattle.sentence.specs.declared.Reading.the-variants.{NoSentence, Sentence}
 use Rattle.sentence.specs.Sentences.{words, wordOf, inTable, linePart, itemPart, sentenceOf, Sayable, SaysThat}
-use Rattle.sentence.specs.InnerSentences.{toldOf, pieceOf, placeOf, partFrom, partOf, endOf, itemBehind, restOf, lineBehind, behindWord, readBack}
+use Rattle.sentence.specs.InnerSentences.{pieceOf, placeOf, partFrom, partOf, endOf, itemBehind, restOf, lineBehind, behindWord, readBack}
 use Rattle.sentence.proofs.Laws.{word-plain, place-word, place-found, line-none, line-told, item-none, item-told, take-piece, piece-front, piece-fits, piece-plain, number-plain}
 
 -- ## A number behind its label
@@ -60,7 +61,7 @@ module _ (label : List ℕ) (limit : ℕ) (s : List ℕ) where
       rw k (ap (partFrom (length label + length (pieceOf rest))) (r ∙ ap (λ (l : List ℕ). readOf l limit) digits)) ∙ sym (part-read h)
 
   -- what is read as a number behind its label is that number's text
-  pub part-is : (v bytes : ℕ) → partOf label limit s ≡ Told v bytes → (s ≡ toldOf label v ++ drop bytes s) × (v ≤ limit) × (bytes ≤ length s)
+  pub part-is : (v bytes : ℕ) → partOf label limit s ≡ Told v bytes → (s ≡ labelled label v ++ drop bytes s) × (v ≤ limit) × (bytes ≤ length s)
   part-is v bytes h = go (sameText label (take (length label) s)) refl
     where
       rest : List ℕ
@@ -69,7 +70,7 @@ module _ (label : List ℕ) (limit : ℕ) (s : List ℕ) where
       found :
           (x : Number) → readOf (pieceOf rest) limit ≡ x → sameText label (take (length label) s) ≡ true →
           partFrom (length label + length (pieceOf rest)) x ≡ Told v bytes →
-          (s ≡ toldOf label v ++ drop bytes s) × (v ≤ limit) × (bytes ≤ length s)
+          (s ≡ labelled label v ++ drop bytes s) × (v ≤ limit) × (bytes ≤ length s)
       found Malformed e t q = let z : _≡_ {A = ℕ} 0 1 = cc in absurd (omega arith)
       found OutOfRange e t q = let z : _≡_ {A = ℕ} 0 1 = cc in absurd (omega arith)
       found (Value x) e t q =
@@ -89,17 +90,17 @@ module _ (label : List ℕ) (limit : ℕ) (s : List ℕ) where
 
       go :
           (t : Bool) → sameText label (take (length label) s) ≡ t →
-          (s ≡ toldOf label v ++ drop bytes s) × (v ≤ limit) × (bytes ≤ length s)
+          (s ≡ labelled label v ++ drop bytes s) × (v ≤ limit) × (bytes ≤ length s)
       go true e = found (readOf (pieceOf rest) limit) refl e (sym (part-read e) ∙ h)
       go false e = let m = part-other e in let z : _≡_ {A = ℕ} 0 1 = cc in absurd (omega arith)
 
 -- a number behind its label is read
 part-told :
     (label : List ℕ) (limit v : ℕ) (r : List ℕ) → v ≤ limit → pieceOf r ≡ [] →
-    partOf label limit (toldOf label v ++ r) ≡ Told v (length (toldOf label v))
+    partOf label limit (labelled label v ++ r) ≡ Told v (length (labelled label v))
 unfolding partOf
 part-told label limit v r h k =
-    let all : toldOf label v ++ r ≡ label ++ (digitsOf v ++ r) = append-assoc label (digitsOf v) r in
+    let all : labelled label v ++ r ≡ label ++ (digitsOf v ++ r) = append-assoc label (digitsOf v) r in
     let digits : pieceOf (digitsOf v ++ r) ≡ digitsOf v =
     piece-plain (digitsOf v) r (number-plain v) ∙ ap (λ (l : List ℕ). digitsOf v ++ l) k ∙ append-nil (digitsOf v) in
     rw (all, take-append-seam label (digitsOf v ++ r), drop-append-seam label (digitsOf v ++ r), same-refl label, digits, read-digits v limit h)
@@ -143,7 +144,7 @@ rest-reads limit n l i h = go (namesItem n) refl
           e,
           item-told n i e,
           part-told sail limit i (textOf ".\n") h refl,
-          drop-append-seam (toldOf sail i) (textOf ".\n"),
+          drop-append-seam (labelled sail i) (textOf ".\n"),
         )
     go false e = rw (e, item-none n i e)
 
@@ -167,7 +168,7 @@ behind-reads limit n l i t h k = go (eqb l 0) refl
           line-told l (eqb-false l 0 e),
           part-told label limit l tail h (tail-stops n i),
           e,
-          drop-append-seam (toldOf label l) tail,
+          drop-append-seam (labelled label l) tail,
         )
         (rest-reads limit n l i k)
 

@@ -1,9 +1,8 @@
--- What the inner functions of `sentence` ask and give: the words as one text, a part of a sentence that tells a number, and a text taken
--- apart from its front. Assumes nothing.
+-- What the inner functions of `sentence` ask and give: the words as one text, and a text taken apart from its front. Assumes nothing.
 use mathlib.Core.{Path._≡_, Bool.{Bool, cond, _||_}, List.{List, [], _∷_, _++_}}
 use Prim.Native.{Nat.{ℕ, suc, _+_, _-_, _≤_}, String.String}
 use lib.{Dec.eqb, ListN.{length, take, drop}}
-use Rattle.decimal.specs.{declared.Number.{Number, the-variants.{Malformed, OutOfRange, Value}}, Decimal.{textOf, sameText, digitsOf}, InnerReads.readOf, InnerPages.textOver}
+use Rattle.decimal.specs.{declared.Number.{Number, the-variants.{Malformed, OutOfRange, Value}}, Decimal.{textOf, sameText}, InnerReads.readOf, InnerPages.textOver}
 use Rattle.types.specs.Types.{namesItem}
 use Rattle.sentence.specs.declared.{Part.{Part, the-variants.{Missing, Told}}, Reading.{Reading, the-variants.{NoSentence, Sentence}}}
 use Rattle.sentence.specs.Sentences.{words, wordOf, inTable}
@@ -30,10 +29,6 @@ pub record WordAt (number a e : ℕ) : Type 0 where
 pub record OnPage (t before : List ℕ) (bytes : ℕ) (page : List ℕ) : Type 0 where
   pub count : bytes ≡ length t
   pub text : page ≡ textOver t before
-
--- a number behind its label
-abbrev pub toldOf : List ℕ → ℕ → List ℕ
-toldOf label value = label ++ digitsOf value
 
 -- ## Reading
 

@@ -7,7 +7,7 @@ ghost use lib.ListN.{length};
 ghost use Rattle.decimal.specs.Decimal.{textOf, sameText, wroteOf, pageOf};
 ghost use Rattle.types.specs.Types.{namesItem};
 ghost use Rattle.sentence.specs.Sentences.{words, wordOf, inTable, linePart, itemPart, sentenceOf, SaysThat};
-ghost use Rattle.sentence.specs.InnerSentences.{startOf, WordAt, OnPage, toldOf, pieceOf, placeOf, partOf, endOf, restOf, behindWord};
+ghost use Rattle.sentence.specs.InnerSentences.{startOf, WordAt, OnPage, pieceOf, placeOf, partOf, endOf, restOf, behindWord};
 use decimal::Number;
 
 // The words of the refusals, one behind the other in the order of their numbers. 0 and 23 have none.
@@ -189,15 +189,6 @@ fn put_word(number: u32, page: &mut [u8]) -> usize
     decimal::put_text(&LETTERS[from..to], page)
 }
 
-// Writes a number behind its label at the start of the page, which has room for both.
-fn put_told(label: &[u8], value: u32, page: &mut [u8]) -> usize
-    requires { ⌜ length (toldOf (now label) value) ≤ length (now page) ⌝ }
-    ensures { λ r. ⌜ OnPage (toldOf (now (label .entry)) value) (now (page .entry)) r (now (page .exit)) ⌝ }
-{
-    let at = decimal::put_text(label, page);
-    at + decimal::write(wide(value), &mut page[at..])
-}
-
 // Writes the line, if there is one, at the start of the page, which has room for it.
 fn put_line(line: u32, page: &mut [u8]) -> usize
     requires { ⌜ length (linePart line) ≤ length (now page) ⌝ }
@@ -206,7 +197,7 @@ fn put_line(line: u32, page: &mut [u8]) -> usize
     if line == 0 {
         return 0;
     }
-    put_told(b", line ", line, page)
+    decimal::put_labelled(b", line ", line as u64, page)
 }
 
 // Writes the sail, if the number names one, at the start of the page, which has room for it.
@@ -217,7 +208,7 @@ fn put_item(number: u32, item: u32, page: &mut [u8]) -> usize
     if !names_item(number) {
         return 0;
     }
-    put_told(b", sail ", item, page)
+    decimal::put_labelled(b", sail ", item as u64, page)
 }
 
 // Writes word and line at the start of the page, which has room for both.

@@ -6,10 +6,10 @@ use Prim.Native.Nat.{_+_, _-_, _≤_}
 use native.Mathlib.Omega.{arith}
 use borrow.Author.Needs.{needs}
 use borrow.Rule.Slice.PartMut.{putMid}
-use lib.ListN.{length, drop}
-use Rattle.decimal.proofs.Pages.{TextGoing, go-start, go-as, go-byte, go-end}
+use lib.ListN.{length, getD, drop}
+use Rattle.decimal.proofs.Pages.{TextGoing, go-start, go-as, go-byte, go-number, go-end}
 use Rattle.report_lines.specs.Lines.{separator, lineOf}
-use Rattle.report_lines.proofs.Laws.{line-end, number-next, space-next, feed-last}
+use Rattle.report_lines.proofs.Laws.{line-next, line-end, space-next, feed-last}
 use Rattle.report_lines.proofs.put_line.Statement.{statement}
 use Rattle.report_lines.proofs.put_line.Tie as tie
 
@@ -53,9 +53,9 @@ written :
 written c =
     let s = c .before .before .before .before .before .before .before in
     let l = c .before .before .before .before .loop in
-    number-next (s .args .numbers .now) (s .args .page .now) (l .i) (l .at) _ (l .page) _ (s .pre) (omega arith) (l .inv .1)
-    (c .write .ensures .0)
-    (c .write .ensures .1)
+    let ns = s .args .numbers .now in
+    go-number (s .pre) (getD ns (l .i) 0) (separator (drop (l .i + 1) ns) ∷ lineOf (drop (l .i + 1) ns))
+    (go-as (line-next ns (l .i) (omega arith)) (l .inv .1)) (c .write .ensures)
 
 add-at : tie.Need-add-at Inv-loop μ-loop
 add-at c = omega (arith, written (c .before .before) .count)

@@ -6,7 +6,7 @@ use borrow.Author.Needs.{needs}
 use borrow.Author.Tests.{not-true, not-false}
 use lib.ListN.{length}
 use Rattle.types.specs.Types.{namesItem}
-use Rattle.sentence.proofs.Laws.{item-none, item-told, put-none, put-as}
+use Rattle.sentence.proofs.Laws.{item-none, item-told, put-none, put-is, put-as}
 use Rattle.sentence.proofs.put_item.Statement.{statement}
 use Rattle.sentence.proofs.put_item.Tie as tie
 
@@ -22,11 +22,11 @@ returns c =
 named : (c : tie.Else1) → namesItem (c .before .before .before .args .number) ≡ true
 named c = sym (c .before .names-item .ensures) ∙ not-false _ (c .if1 .left)
 
-slice-aggregate-put-told : tie.Need-slice-aggregate-put-told
-slice-aggregate-put-told c = search needs
+slice-aggregate-put-labelled : tie.Need-slice-aggregate-put-labelled
+slice-aggregate-put-labelled c = search needs
 
-put-told-requires : tie.Need-put-told-requires
-put-told-requires c κs =
+put-labelled-requires : tie.Need-put-labelled-requires
+put-labelled-requires c κs =
     let s = c .before .before .before .before .before in
     omega (arith, ap length (item-told (s .args .number) (s .args .item) (named (c .before .before))), s .pre)
 
@@ -36,7 +36,7 @@ same-length c = search needs
 returns-2 : tie.Need-returns-2
 returns-2 c =
     let a = c .before .before .before .before .before .before .before .before .args in
-    put-as (item-told (a .number) (a .item) (named (c .before .before .before .before .before))) (c .before .before .put-told .ensures)
+    put-as (item-told (a .number) (a .item) (named (c .before .before .before .before .before))) (put-is (c .before .before .put-labelled .ensures))
 
 pub put-item-spec : {M : Type 1} → statement M
 put-item-spec =
@@ -44,7 +44,7 @@ put-item-spec =
     (tie.spec
     names-item-requires
     returns
-    slice-aggregate-put-told
-    put-told-requires
+    slice-aggregate-put-labelled
+    put-labelled-requires
     same-length
     returns-2)
