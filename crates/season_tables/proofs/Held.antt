@@ -4,9 +4,8 @@ use mathlib.Core.Path.{_≡_, refl, sym, ap, subst, _∙_}
 use mathlib.Core.Logic.{_≢_}
 use mathlib.Core.Bool.{Bool, true, false, cond, _&&_}
 use mathlib.Core.List.{List, [], _∷_, _++_}
-use Prim.Native.Nat.{ℕ, suc, _+_, _*_, _≤_, _<_}
+use Prim.Native.Nat.{ℕ, _+_, _*_, _≤_, _<_}
 use native.Mathlib.Omega.{arith}
-use native.Mathlib.Numerals.{add-one}
 use lib.ListN.{length, take, drop, length-append}
 use lib.Seq.{sets, take-nil, take-append-le}
 use lib.Dec.{eqb, leb, ltb}
@@ -16,7 +15,7 @@ use Rattle.types.specs.declared.Numbers.{Numbers}
 use Rattle.types.specs.declared.Act.{Act}
 use Rattle.types.specs.declared.Deduction.{Deduction}
 use Rattle.types.specs.declared.Refusal.{Refusal}
-use Rattle.types.specs.declared.Refusal.the-variants.{Malformed, Heading, OutOfSequence, PlanTooLarge, ActOutOfOrder}
+use Rattle.types.specs.declared.Refusal.the-variants.{Heading, OutOfSequence, PlanTooLarge, ActOutOfOrder}
 use Rattle.types.specs.Types.{numbersOf, stepOf, stepItem, actItem, telling, told}
 use Rattle.landlord.specs.Fold.{fold}
 use Rattle.landlord.specs.Catalog.{Catalog, listed, catalogNext, catalogAfter}
@@ -30,13 +29,12 @@ use Rattle.catalog_bytes.specs.Inner.{catalogOfFirst, itemBytes}
 use Rattle.catalog_bytes.proofs.Laws.{none-first, one-more}
 use Rattle.season_lines.specs.declared.Line.{Line}
 use Rattle.season_lines.specs.declared.Line.the-variants.{Sizes, Item as ItemLine, Step as StepLine, Act as ActLine, Refused as RefusedLine}
-use Rattle.season_lines.specs.declared.Names.{Names}
-use Rattle.season_lines.specs.declared.Names.the-variants.{Form, Unknown}
 use Rattle.season_items.specs.declared.Present.{Present}
+use Rattle.season_tables.specs.declared.TablePlace.{TablePlace}
 use Rattle.season_tables.specs.declared.Seen.{Seen}
 use Rattle.season_tables.specs.declared.Scanned.{Scanned}
 use Rattle.season_tables.specs.declared.Verdict.the-variants.{Taken, Refused}
-use Rattle.season_tables.specs.Tables.{Placed, Sofar, on, stop, atStart, nowNamed, namedBy, nextTable, takes, atEnd}
+use Rattle.season_tables.specs.Tables.{Placed, Tables, gives, stops, atStart, takes, atEnd}
 use Rattle.season_tables.specs.Inner.{lastPlace, Holds, nothingRead, endVerdict, Leads, LeadsFrom, LeadsBy, NotesItem, NotesStep, NotesAct, KeepsPast, actNumbers, Takeable, StepTakeable, ActTakeable}
 use Rattle.season_tables.specs.InnerSound.{catalogBefore}
 use Rattle.landlord.specs.CallNumbers.{callNumbers}
@@ -47,21 +45,18 @@ use Rattle.season_tables.proofs.Told.{step-range, step-told, act-range,
 use Rattle.season_tables.proofs.Keeps.{taken-past}
 
 -- a line is taken, with what the struct holds then
-goes : (r : Scanned) (q : Seen) (catalog calls acts : List ℕ) (v : Sofar) → r .verdict ≡ Taken → r .seen ≡ q → Holds q catalog calls acts v → (r .verdict ≡ Taken) × Holds (r .seen) catalog calls acts v
+goes : (r : Scanned) (q : Seen) (catalog calls acts : List ℕ) (v : Tables) → r .verdict ≡ Taken → r .seen ≡ q → Holds q catalog calls acts v → (r .verdict ≡ Taken) × Holds (r .seen) catalog calls acts v
 goes r q catalog calls acts v t e h = (t, subst (λ (s : Seen). Holds s catalog calls acts v) (sym e) h)
 
 -- the number of items
-pub count-is : (q : Seen) (catalog calls acts : List ℕ) (v : Sofar) → Holds q catalog calls acts v → length (v .catalog) ≡ q .n
+pub count-is : (q : Seen) (catalog calls acts : List ℕ) (v : Tables) → Holds q catalog calls acts v → length (v .catalog) ≡ q .n
 count-is q catalog calls acts v h = sym (h .itemCount)
 
 -- nothing is read, whatever the slices hold
-pub begins : (catalog calls acts : List ℕ) → Holds nothingRead catalog calls acts atStart
+pub begins : (catalog calls acts : List ℕ) → Holds nothingRead catalog calls acts (atStart .read)
 unfolding fold callNumbers actNumbers
 begins catalog calls acts =
     record {
-      table = refl;
-      named = refl;
-      form = refl;
       k = refl;
       h = refl;
       few = omega arith;
@@ -77,123 +72,12 @@ begins catalog calls acts =
       earlier = tells-none;
       stored = λ i l. absurd (let z : i < 0 = l in omega arith);
       passed = omega arith;
-      unstepped = λ l. refl;
     }
-
--- the line of names
-abbrev named : Seen → ℕ → Seen
-named q f =
-    record {
-      table = q .table;
-      named = true;
-      k = q .k;
-      h = q .h;
-      n = q .n;
-      steps = q .steps;
-      acts = q .acts;
-      last = q .last;
-      form = f;
-      rule = q .rule;
-      present = q .present;
-      earlier = q .earlier;
-    }
-
-module _ (q : Seen) (names : Names) (at : ℕ) (r : Scanned) where
-  pub names-right :
-      (f : ℕ) → names ≡ Form f → r .verdict ≡ Taken → r .seen ≡ named q f → LeadsBy q (λ v. namedBy v names at) r
-  names-right f e t s catalog calls acts v h =
-      rw e
-      (goes r (named q f) catalog calls acts (nowNamed v f) t s
-      (record {
-        table = h .table;
-        named = refl;
-        form = refl;
-        k = h .k;
-        h = h .h;
-        few = h .few;
-        items = h .items;
-        itemCount = h .itemCount;
-        stepCount = h .stepCount;
-        actCount = h .actCount;
-        last = h .last;
-        stepsNoted = h .stepsNoted;
-        actsNoted = h .actsNoted;
-        rule = h .rule;
-        present = h .present;
-        earlier = h .earlier;
-        stored = h .stored;
-        passed = h .passed;
-        unstepped = h .unstepped;
-      }))
-
-  pub names-wrong : names ≡ Unknown → r .verdict ≡ Refused (Heading at) → LeadsBy q (λ v. namedBy v names at) r
-  names-wrong e t catalog calls acts v h = rw e t
-
--- the blank line
-abbrev turned : Seen → Seen
-turned q =
-    record {
-      table = q .table + 1;
-      named = false;
-      k = q .k;
-      h = q .h;
-      n = q .n;
-      steps = q .steps;
-      acts = q .acts;
-      last = q .last;
-      form = 0;
-      rule = q .rule;
-      present = q .present;
-      earlier = q .earlier;
-    }
-
-module _ (q : Seen) (bytes at : ℕ) (r : Scanned) where
-  pub blank-there : bytes ≡ 0 → r .verdict ≡ Taken → r .seen ≡ turned q → LeadsBy q (λ v. cond (eqb bytes 0) (on (nextTable v)) (stop (Malformed at))) r
-  blank-there e t s catalog calls acts v h =
-      rw (eq-eqb bytes 0 e)
-      (goes r (turned q) catalog calls acts (nextTable v) t s
-      (record {
-        table = add-one (q .table) ∙ ap suc (h .table);
-        named = refl;
-        form = refl;
-        k = h .k;
-        h = h .h;
-        few = h .few;
-        items = h .items;
-        itemCount = h .itemCount;
-        stepCount = h .stepCount;
-        actCount = h .actCount;
-        last = h .last;
-        stepsNoted = h .stepsNoted;
-        actsNoted = h .actsNoted;
-        rule = h .rule;
-        present = h .present;
-        earlier = h .earlier;
-        stored = h .stored;
-        passed = h .passed;
-        unstepped = λ l. h .unstepped (omega arith);
-      }))
-
-  pub blank-missing : (bytes ≡ 0 → ⊥) → r .verdict ≡ Refused (Malformed at) → LeadsBy q (λ v. cond (eqb bytes 0) (on (nextTable v)) (stop (Malformed at))) r
-  blank-missing e t catalog calls acts v h = rw (ne-eqb bytes 0 e) t
 
 -- the line of sizes
 abbrev sized : Seen → ℕ → ℕ → Deduction → Seen
 sized q k h word =
-    record {
-      table = q .table;
-      named = q .named;
-      k = k;
-      h = h;
-      n = q .n;
-      steps = q .steps;
-      acts = q .acts;
-      last = q .last;
-      form = q .form;
-      rule = word;
-      present = q .present;
-      earlier = q .earlier;
-    }
+    record { k = k; h = h; rule = word; n = q .n; steps = q .steps; acts = q .acts; last = q .last; present = q .present; earlier = q .earlier }
 
 module _ (q : Seen) (size plan : ℕ) (word : Deduction) (at : ℕ) (r : Scanned) where
   pub sizes-fit : plan ≤ size → r .verdict ≡ Taken → r .seen ≡ sized q size plan word → LeadsBy q (λ v. takes v (Sizes size plan word) at) r
@@ -202,9 +86,6 @@ module _ (q : Seen) (size plan : ℕ) (word : Deduction) (at : ℕ) (r : Scanned
       rw (le-leb plan size e)
       (goes r (sized q size plan word) catalog calls acts _ t s
       (record {
-        table = h .table;
-        named = h .named;
-        form = h .form;
         k = refl;
         h = refl;
         few = h .few;
@@ -220,7 +101,6 @@ module _ (q : Seen) (size plan : ℕ) (word : Deduction) (at : ℕ) (r : Scanned
         earlier = h .earlier;
         stored = h .stored;
         passed = h .passed;
-        unstepped = h .unstepped;
       }))
 
   pub sizes-too-large : size < plan → r .verdict ≡ Refused (PlanTooLarge at) → LeadsBy q (λ v. takes v (Sizes size plan word) at) r
@@ -233,26 +113,13 @@ counted n p = record { n = n; left = p .left }
 
 abbrev itemized : Seen → ℕ → Seen
 itemized q i =
-    record {
-      table = q .table;
-      named = q .named;
-      k = q .k;
-      h = q .h;
-      n = i + 1;
-      steps = q .steps;
-      acts = q .acts;
-      last = q .last;
-      form = q .form;
-      rule = q .rule;
-      present = counted (i + 1) (q .present);
-      earlier = counted (i + 1) (q .earlier);
-    }
+    record { k = q .k; h = q .h; rule = q .rule; n = i + 1; steps = q .steps; acts = q .acts; last = q .last; present = counted (i + 1) (q .present); earlier = counted (i + 1) (q .earlier) }
 
 one-longer : {A : Type 0} (n : ℕ) (xs : List A) (x : A) → n ≡ length xs → n + 1 ≡ length (xs ++ (x ∷ []))
 one-longer n xs x e = rw (length-append xs (x ∷ [])) (omega arith)
 
 -- where no step is read, the catalog is as its table has it
-none-read : (v : Sofar) → length (v .steps) ≡ 0 → v .steps ≡ []
+none-read : (v : Tables) → length (v .steps) ≡ 0 → v .steps ≡ []
 none-read v e = go (v .steps) e
   where
     go : (steps : List Step) → length steps ≡ 0 → steps ≡ []
@@ -264,7 +131,7 @@ module _ (q : Seen) (catalog : List ℕ) (i b l w at : ℕ) (r : Scanned) where
       (after : List ℕ) →
       1280 ≤ length catalog →
       i ≤ 255 →
-      q .table ≤ 1 →
+      q .steps ≡ 0 →
       i ≡ q .n →
       r .verdict ≡ Taken →
       r .seen ≡ itemized q i →
@@ -275,9 +142,6 @@ module _ (q : Seen) (catalog : List ℕ) (i b l w at : ℕ) (r : Scanned) where
       rw (eq-eqb i (length (v .catalog)) (e ∙ h .itemCount))
       (goes r (itemized q i) after calls acts _ t s
       (record {
-        table = h .table;
-        named = h .named;
-        form = h .form;
         k = h .k;
         h = h .h;
         few = omega arith;
@@ -300,14 +164,13 @@ module _ (q : Seen) (catalog : List ℕ) (i b l w at : ℕ) (r : Scanned) where
             (subst (HasItems grown) (sym put)
             (stored-items catalog i b l w (omega arith) (v .catalog) (e ∙ h .itemCount) (rw (plain (v .catalog)) at (h .stored))));
         passed = h .passed;
-        unstepped = h .unstepped;
       }))
     where
       grown : Catalog
       grown = v .catalog ++ (listed b l w ∷ [])
 
       none : v .steps ≡ []
-      none = none-read v (sym (h .stepCount) ∙ h .unstepped early)
+      none = none-read v (sym (h .stepCount) ∙ early)
 
       plain : (cat : Catalog) → catalogAfter cat (v .steps) ≡ cat
       plain cat = ap (catalogAfter cat) none
@@ -340,23 +203,10 @@ module _ (q : Seen) (catalog : List ℕ) (i b l w at : ℕ) (r : Scanned) where
 -- a step's line, with what is known of the items then
 abbrev stepped : Seen → Present → Seen
 stepped q p =
-    record {
-      table = q .table;
-      named = q .named;
-      k = q .k;
-      h = q .h;
-      n = q .n;
-      steps = q .steps + 1;
-      acts = q .acts;
-      last = q .last;
-      form = q .form;
-      rule = q .rule;
-      present = p;
-      earlier = q .earlier;
-    }
+    record { k = q .k; h = q .h; rule = q .rule; n = q .n; steps = q .steps + 1; acts = q .acts; last = q .last; present = p; earlier = q .earlier }
 
 -- the items as the steps of a text have left them
-abbrev itemsNow : Sofar → Catalog
+abbrev itemsNow : Tables → Catalog
 itemsNow v = catalogAfter (v .catalog) (v .steps)
 
 -- they can be looked up
@@ -377,7 +227,7 @@ step-items s n catalog e = ap (λ (x : Step). withArrival x catalog) (ap stepOf 
 
 module _ (q : Seen) (catalog calls : List ℕ) (s : Step) (at number : ℕ) (e : TellsRefusal (q .k) (q .present) catalog s number) where
   -- the number is the one that the table gives the step
-  same-number : (acts : List ℕ) (v : Sofar) → Holds q catalog calls acts v → number ≡ itemRefusal (v .k) (itemsNow v) s
+  same-number : (acts : List ℕ) (v : Tables) → Holds q catalog calls acts v → number ≡ itemRefusal (v .k) (itemsNow v) s
   same-number acts v h = e (itemsNow v) (h .present) (h .stored) ∙ ap (λ (k : ℕ). itemRefusal k (itemsNow v) s) (h .k)
 
   pub step-in-range : StepTakeable q s catalog calls → number ≢ 0 → (1 ≤ number) × (number ≤ 20)
@@ -401,7 +251,7 @@ module _ (q : Seen) (catalog calls : List ℕ) (s : Step) (at number : ℕ) (e :
   module _ (f : number ≡ 0) (ranged : inRange (numbersOf s) ≡ true) (room : 1280 ≤ length catalog)
       (n : Numbers) (p : Present) (g : n ≡ numbersOf s) (a : Advanced (q .present) n p)
     where
-      module _ (acts : List ℕ) (v : Sofar) (h : Holds q catalog calls acts v) where
+      module _ (acts : List ℕ) (v : Tables) (h : Holds q catalog calls acts v) where
         short : length (itemsNow v) ≤ 256
         short = omega (arith, h .few, h .present .count)
 
@@ -416,7 +266,6 @@ module _ (q : Seen) (catalog calls : List ℕ) (s : Step) (at number : ℕ) (e :
 
       pub step-noted :
           (r : Scanned) (catalog-after calls-after : List ℕ) →
-          2 ≤ q .table →
           7 * q .steps + 7 ≤ length calls →
           r .verdict ≡ Taken →
           r .seen ≡ stepped q p →
@@ -424,7 +273,7 @@ module _ (q : Seen) (catalog calls : List ℕ) (s : Step) (at number : ℕ) (e :
           calls-after ≡ putAt calls (7 * q .steps) (callNumbers (s ∷ [])) →
           NotesStep q catalog calls (λ v. takes v (StepLine s) at) r catalog-after calls-after
       unfolding takes
-      step-noted r catalog-after calls-after behind places t y items put acts v h =
+      step-noted r catalog-after calls-after places t y items put acts v h =
           let after = now-stored acts v h in
           let known = now-tells acts v h in
           let more : catalogNext (itemsNow v) s ≡ catalogAfter (v .catalog) (v .steps ++ (s ∷ [])) = sym (after-more (v .catalog) (v .steps) s) in
@@ -433,9 +282,6 @@ module _ (q : Seen) (catalog calls : List ℕ) (s : Step) (at number : ℕ) (e :
           rw (sym (same-number acts v h), f)
           (goes r (stepped q p) catalog-after calls-after acts _ t y
           (record {
-            table = h .table;
-            named = h .named;
-            form = h .form;
             k = h .k;
             h = h .h;
             few = omega (arith, known .count, after .few);
@@ -456,11 +302,10 @@ module _ (q : Seen) (catalog calls : List ℕ) (s : Step) (at number : ℕ) (e :
             earlier = subst (λ (steps : List Step). Tells (catalogAfter (v .catalog) steps) (q .earlier)) same (h .earlier);
             stored = subst (λ (c : Catalog). HasItems c catalog-after) more (subst (HasItems (catalogNext (itemsNow v) s)) (sym items) (after .items (h .stored)));
             passed = omega (arith, h .passed);
-            unstepped = λ l. absurd (omega arith);
           }))
 
       pub step-past :
-          (r : Scanned) (acts : List ℕ) (v : Sofar) (catalog-after calls-after : List ℕ) →
+          (r : Scanned) (acts : List ℕ) (v : Tables) (catalog-after calls-after : List ℕ) →
           Holds q catalog calls acts v →
           7 * q .steps + 7 ≤ length calls →
           r .verdict ≡ Taken →
@@ -484,20 +329,7 @@ module _ (q : Seen) (catalog calls : List ℕ) (s : Step) (at number : ℕ) (e :
 -- an act's line, with what is known of the items before its place
 abbrev acted : Seen → ℕ → Present → Seen
 acted q place p =
-    record {
-      table = q .table;
-      named = q .named;
-      k = q .k;
-      h = q .h;
-      n = q .n;
-      steps = q .steps;
-      acts = q .acts + 1;
-      last = place;
-      form = q .form;
-      rule = q .rule;
-      present = q .present;
-      earlier = p;
-    }
+    record { k = q .k; h = q .h; rule = q .rule; n = q .n; steps = q .steps; acts = q .acts + 1; last = place; present = q .present; earlier = p }
 
 abbrev placed : ℕ → Act → Placed
 placed place act = record { place = place; act = act }
@@ -513,7 +345,7 @@ acts-more (b ∷ acts) a = rw (acts-more acts a)
 
 -- the steps up to an act's place can be walked over
 act-walks :
-    (q : Seen) (place : ℕ) (catalog calls acts : List ℕ) (v : Sofar) →
+    (q : Seen) (place : ℕ) (catalog calls acts : List ℕ) (v : Tables) →
     Holds q catalog calls acts v →
     place < q .steps →
     Walks (q .earlier) calls (q .last) place (v .catalog) (v .steps)
@@ -543,7 +375,7 @@ act-walkable q place act calls acts t e f =
 
 -- what is known of the items before an act's place, and the number that its item gets by that
 module _ (q : Seen) (calls acts : List ℕ) (place : ℕ) (act : Act) (some : place < q .steps) (p : Present) (caught : CatchesUp (q .earlier) calls (q .last) place p) where
-  act-tells : (catalog : List ℕ) (v : Sofar) → Holds q catalog calls acts v → Tells (catalogBefore v place) p
+  act-tells : (catalog : List ℕ) (v : Tables) → Holds q catalog calls acts v → Tells (catalogBefore v place) p
   act-tells catalog v h = caught (v .catalog) (v .steps) (act-walks q place catalog calls acts v h some)
 
   pub act-few : ActTakeable q place act calls acts → p .n ≤ 256
@@ -553,7 +385,7 @@ module _ (q : Seen) (calls acts : List ℕ) (place : ℕ) (act : Act) (some : pl
       omega (arith, act-tells (t .catalog) v h .count, h .few, h .present .count, before-follows (v .catalog) (v .steps) place .longer)
 
   module _ (number : ℕ) (k : TellsKnown p (actItem act) number) where
-    act-number : (catalog : List ℕ) (v : Sofar) → Holds q catalog calls acts v → number ≡ ifKnown (catalogBefore v place) (actItem act) 0
+    act-number : (catalog : List ℕ) (v : Tables) → Holds q catalog calls acts v → number ≡ ifKnown (catalogBefore v place) (actItem act) 0
     act-number catalog v h =
         k (catalogBefore v place) (omega (arith, h .few, h .present .count, before-follows (v .catalog) (v .steps) place .longer)) (act-tells catalog v h)
 
@@ -562,7 +394,7 @@ module _ (q : Seen) (calls acts : List ℕ) (place : ℕ) (act : Act) (some : pl
         act-range number f (catalogBefore (t .line .read) place) (actItem act) (act-number (t .catalog) (t .line .read) (t .line .holds))
 
 module _ (q : Seen) (calls acts : List ℕ) (place : ℕ) (act : Act) (at : ℕ) (r : Scanned) where
-  in-turn : (catalog : List ℕ) (v : Sofar) → Holds q catalog calls acts v → q .last ≤ place → place < q .steps → leb (lastPlace (v .acts)) place && ltb place (length (v .steps)) ≡ true
+  in-turn : (catalog : List ℕ) (v : Tables) → Holds q catalog calls acts v → q .last ≤ place → place < q .steps → leb (lastPlace (v .acts)) place && ltb place (length (v .steps)) ≡ true
   in-turn catalog v h e f = rw (sym (h .last), sym (h .stepCount), le-leb (q .last) place e, lt-ltb place (q .steps) f)
 
   pub act-early : place < q .last → r .verdict ≡ Refused (ActOutOfOrder at) → NotesAct q calls acts (λ v. takes v (ActLine place act) at) r acts
@@ -577,7 +409,7 @@ module _ (q : Seen) (calls acts : List ℕ) (place : ℕ) (act : Act) (at : ℕ)
   module _ (e : q .last ≤ place) (f : place < q .steps) (p : Present) (caught : CatchesUp (q .earlier) calls (q .last) place p)
       (number : ℕ) (k : TellsKnown p (actItem act) number)
     where
-      told-number : (catalog : List ℕ) (v : Sofar) → Holds q catalog calls acts v → number ≡ ifKnown (catalogBefore v place) (actItem act) 0
+      told-number : (catalog : List ℕ) (v : Tables) → Holds q catalog calls acts v → number ≡ ifKnown (catalogBefore v place) (actItem act) 0
       told-number catalog v h = act-number q calls acts place act f p caught number k catalog v h
 
       pub act-refuses :
@@ -605,9 +437,6 @@ module _ (q : Seen) (calls acts : List ℕ) (place : ℕ) (act : Act) (at : ℕ)
           rw (in-turn catalog v h e f, sym (told-number catalog v h), none)
           (goes r (acted q place p) catalog calls after _ t s
           (record {
-            table = h .table;
-            named = h .named;
-            form = h .form;
             k = h .k;
             h = h .h;
             few = h .few;
@@ -626,7 +455,6 @@ module _ (q : Seen) (calls acts : List ℕ) (place : ℕ) (act : Act) (at : ℕ)
             earlier = act-tells q calls acts place act f p caught catalog v h;
             stored = h .stored;
             passed = omega arith;
-            unstepped = h .unstepped;
           }))
 
       pub act-past :
@@ -645,13 +473,13 @@ module _ (q : Seen) (calls acts : List ℕ) (place : ℕ) (act : Act) (at : ℕ)
 
 -- the input's end
 pub end-leads :
-    (upto : ℕ) (q : Seen) (at : ℕ) (r : Scanned) → r .verdict ≡ endVerdict upto q at → r .seen ≡ q → LeadsBy q (λ v. atEnd upto v at) r
-end-leads upto q at r t s catalog calls acts v h = go (v .named && eqb (v .table) upto) (t ∙ same)
+    (upto : ℕ) (p : TablePlace) (q : Seen) (at : ℕ) (r : Scanned) →
+    r .verdict ≡ endVerdict upto p at →
+    r .seen ≡ q →
+    LeadsBy q (λ v. atEnd upto (record { place = p; read = v }) at) r
+end-leads upto p q at r t s catalog calls acts v h = go (p .named && eqb (p .table) upto) t
   where
-    same : endVerdict upto q at ≡ cond (v .named && eqb (v .table) upto) Taken (Refused (Heading at))
-    same = rw (h .named, h .table)
-
-    go : (b : Bool) → r .verdict ≡ cond b Taken (Refused (Heading at)) → Leads (cond b (on v) (stop (Heading at))) r catalog calls acts
+    go : (b : Bool) → r .verdict ≡ cond b Taken (Refused (Heading at)) → Leads (cond b (gives v) (stops (Heading at))) r catalog calls acts
     go true e = goes r q catalog calls acts v e s h
     go false e = e
 

@@ -7,8 +7,8 @@ ghost use lib.Dec.{eqb};
 ghost use Rattle.types.specs.declared.Refusal.the-variants.{Malformed};
 ghost use Rattle.season_lines.specs.declared.Line.the-variants.{Sizes, Item as ItemLine, Step as StepLine, Act as ActLine};
 ghost use Rattle.season_tables.specs.declared.Verdict.the-variants.{Taken, Refused};
-ghost use Rattle.season_tables.specs.Tables.{on, stop, mayEnd, mustEnd, namedBy, nextTable, takes, leads, atEnd};
-ghost use Rattle.season_tables.specs.Inner.{nothingRead, endVerdict, LeadsFrom, LeadsBy, NotesItem, NotesStep, NotesAct, KeepsSeen, KeepsPast, Keeps, Takeable, StepTakeable, ActTakeable, Leadable, wantsValues};
+ghost use Rattle.season_tables.specs.Tables.{gives, stops, atStart, mayEnd, mustEnd, nextTable, namedBy, takes, atEnd};
+ghost use Rattle.season_tables.specs.Inner.{nothingRead, endVerdict, LeadsFrom, LeadsBy, NotesItem, NotesStep, NotesAct, KeepsSeen, KeepsPast, Keeps, moved, ReadsLine, KeepsLine, wantsValues, Takeable, StepTakeable, ActTakeable, LineReadable};
 use line_fields::Field;
 use season_items::Present;
 use season_lines::Line;
@@ -18,21 +18,25 @@ use types::Deduction;
 use types::Refusal;
 use types::Step;
 
-// What has been read: in which table, and whether behind its line of names; the sizes, k 0 before they are read; how many items of the
-// catalogue, steps and acts, which stand in lent slices; the place of the last act; which of its headings this table has, 0 before its
-// line of names; the rule of deduction, write-first before the sizes are read; and the items as all steps
-// have left them, and as the steps before the place of the last act have.
-pub struct Seen {
+// The place in the reading: in which table, the tables counted from 0; whether behind its line of names; and which of its headings that
+// was, 0 before it.
+pub struct TablePlace {
     pub table: u32,
     pub named: bool,
+    pub heading: u32,
+}
+
+// What has been read: the sizes, k 0 before they are read, and the rule of deduction, write-first till then; how many items of the
+// catalogue, steps and acts, which stand in lent slices; the place of the last act; and the items as all steps have left them, and as the
+// steps before the place of the last act have.
+pub struct Seen {
     pub k: u32,
     pub h: u32,
+    pub rule: Deduction,
     pub n: usize,
     pub steps: usize,
     pub acts: usize,
     pub last: u32,
-    pub form: u32,
-    pub rule: Deduction,
     pub present: Present,
     pub earlier: Present,
 }
@@ -42,10 +46,16 @@ pub enum Verdict {
     Refused(Refusal),
 }
 
-// The answer to a line, or to all of them, with what has been read then.
+// The answer to a value line, or to all lines, with what has been read then.
 pub struct Scanned {
     pub verdict: Verdict,
     pub seen: Seen,
+}
+
+// The answer to any line, with the place then.
+pub struct LineRead {
+    pub place: TablePlace,
+    pub scanned: Scanned,
 }
 
 // Whether a blank line may stand here: behind the one line of `locker rival`, and in each table after it but the last.
@@ -69,35 +79,43 @@ fn must_end(table: u32, k: u32) -> bool
 }
 
 // Whether the fields of a line of so many bytes are looked at: a value line is due, and this is not the blank line.
-pub fn wants_values(named: bool, upto: u32, table: u32, k: u32, bytes: usize) -> bool
-    ensures { λ r. ⌜ r ≡ wantsValues named upto table k bytes ⌝ }
+pub fn wants_values(upto: u32, place: TablePlace, k: u32, bytes: usize) -> bool
+    ensures { λ r. ⌜ r ≡ wantsValues upto place k bytes ⌝ }
 {
-    if !named {
+    if !place.named {
         return false;
     }
     if bytes == 0 {
-        if may_end(upto, table, k) {
+        if may_end(upto, place.table, k) {
             return false;
         }
     }
-    !must_end(table, k)
+    !must_end(place.table, k)
+}
+
+// The place of the first line.
+pub fn at_start() -> TablePlace
+    ensures { λ r. ⌜ r ≡ atStart .place ⌝ }
+{
+    TablePlace {
+        table: 0,
+        named: false,
+        heading: 0,
+    }
 }
 
 // Nothing is read.
-pub fn at_start() -> Seen
+pub fn nothing_read() -> Seen
     ensures { λ r. ⌜ r ≡ nothingRead ⌝ }
 {
     Seen {
-        table: 0,
-        named: false,
         k: 0,
         h: 0,
+        rule: Deduction::WriteFirst,
         n: 0,
         steps: 0,
         acts: 0,
         last: 0,
-        form: 0,
-        rule: Deduction::WriteFirst,
         present: season_items::none_present(),
         earlier: season_items::none_present(),
     }
@@ -123,35 +141,46 @@ pub fn stopped(seen: Seen, r: Refusal) -> Scanned
 }
 
 // The line of names, a heading of its table or not.
-fn take_names(seen: Seen, names: Names, at: u32) -> Scanned
-    ensures { λ r. ⌜ LeadsBy seen (λ v. namedBy v names at) r ⌝ }
-    ensures { λ r. ⌜ KeepsSeen seen r ⌝ }
+fn take_names(place: TablePlace, seen: Seen, names: Names, at: u32) -> LineRead
+    ensures { λ r. ⌜ r ≡ moved place seen (namedBy place names at) ⌝ }
 {
     match names {
-        Names::Form(form) => {
-            let mut q = seen;
-            q.named = true;
-            q.form = form;
-            taken(q)
+        Names::Form(heading) => {
+            let mut next = place;
+            next.named = true;
+            next.heading = heading;
+            LineRead {
+                place: next,
+                scanned: taken(seen),
+            }
         }
-        Names::Unknown => stopped(seen, Refusal::Heading { line: at }),
+        Names::Unknown => LineRead {
+            place: place,
+            scanned: stopped(seen, Refusal::Heading { line: at }),
+        },
     }
 }
 
 // The blank line between two tables, or what stands in its place.
-fn take_blank(seen: Seen, bytes: usize, at: u32) -> Scanned
-    requires { ⌜ seen .table ≤ 3 ⌝ }
-    ensures { λ r. ⌜ LeadsBy seen (λ v. cond (eqb bytes 0) (on (nextTable v)) (stop (Malformed at))) r ⌝ }
-    ensures { λ r. ⌜ KeepsSeen seen r ⌝ }
+fn take_blank(place: TablePlace, seen: Seen, bytes: usize, at: u32) -> LineRead
+    requires { ⌜ place .table ≤ 3 ⌝ }
+    ensures { λ r. ⌜ r ≡ moved place seen (cond (eqb bytes 0) (gives (nextTable place)) (stops (Malformed at))) ⌝ }
 {
     if bytes != 0 {
-        return stopped(seen, Refusal::Malformed { line: at });
+        return LineRead {
+            place: place,
+            scanned: stopped(seen, Refusal::Malformed { line: at }),
+        };
     }
-    let mut q = seen;
-    q.table = seen.table + 1;
-    q.named = false;
-    q.form = 0;
-    taken(q)
+    let next = TablePlace {
+        table: place.table + 1,
+        named: false,
+        heading: 0,
+    };
+    LineRead {
+        place: next,
+        scanned: taken(seen),
+    }
 }
 
 fn take_sizes(seen: Seen, k: u32, h: u32, rule: Deduction, at: u32) -> Scanned
@@ -164,16 +193,13 @@ fn take_sizes(seen: Seen, k: u32, h: u32, rule: Deduction, at: u32) -> Scanned
     let present = seen.present;
     let earlier = seen.earlier;
     taken(Seen {
-        table: seen.table,
-        named: seen.named,
         k: k,
         h: h,
+        rule: rule,
         n: seen.n,
         steps: seen.steps,
         acts: seen.acts,
         last: seen.last,
-        form: seen.form,
-        rule: rule,
         present: present,
         earlier: earlier,
     })
@@ -188,7 +214,7 @@ fn take_item(
     at: u32,
     catalog: &mut [u8],
 ) -> Scanned
-    requires { ⌜ (number ≤ 255) × (seen .table ≤ 1) × (1280 ≤ length (now catalog)) ⌝ }
+    requires { ⌜ (number ≤ 255) × (seen .steps ≡ 0) × (1280 ≤ length (now catalog)) ⌝ }
     ensures { λ r. ⌜ NotesItem seen (now (catalog .entry)) (λ v. takes v (ItemLine number blocks load write) at) r (now (catalog .exit)) ⌝ }
     ensures { λ r. ⌜ KeepsPast (5 * r .seen .present .n) seen (now (catalog .entry)) r (now (catalog .exit)) ⌝ }
 {
@@ -279,8 +305,9 @@ fn take_line(
 
 // A line, ended by its line feed, of a text whose last table is the one numbered `upto`; its fields stand in `fields` if it is one with
 // values.
-pub fn lead(
+pub fn read_line(
     upto: u32,
+    place: TablePlace,
     seen: Seen,
     text: &[u8],
     fields: [Field; 6],
@@ -289,29 +316,31 @@ pub fn lead(
     catalog: &mut [u8],
     calls: &mut [u32],
     acts: &mut [u32],
-) -> Scanned
-    requires { ⌜ Leadable upto seen (now text) fields count (now catalog) (now calls) (now acts) ⌝ }
-    ensures { λ r. ⌜ LeadsFrom seen (now (catalog .entry)) (now (calls .entry)) (now (acts .entry)) (λ v. leads upto v (now (text .entry)) at) r (now (catalog .exit)) (now (calls .exit)) (now (acts .exit)) ⌝ }
-    ensures { λ r. ⌜ Keeps seen (now (catalog .entry)) (now (calls .entry)) (now (acts .entry)) r (now (catalog .exit)) (now (calls .exit)) (now (acts .exit)) ⌝ }
+) -> LineRead
+    requires { ⌜ LineReadable upto place seen (now text) fields count (now catalog) (now calls) (now acts) ⌝ }
+    ensures { λ r. ⌜ ReadsLine upto place seen (now (catalog .entry)) (now (calls .entry)) (now (acts .entry)) (now (text .entry)) at r (now (catalog .exit)) (now (calls .exit)) (now (acts .exit)) ⌝ }
+    ensures { λ r. ⌜ KeepsLine place seen (now (catalog .entry)) (now (calls .entry)) (now (acts .entry)) r (now (catalog .exit)) (now (calls .exit)) (now (acts .exit)) ⌝ }
 {
-    let table = seen.table;
-    if !seen.named {
-        return take_names(seen, season_lines::form_of(table, text), at);
+    if !place.named {
+        return take_names(place, seen, season_lines::form_of(place.table, text), at);
     }
-    if wants_values(true, upto, table, seen.k, text.len()) {
-        let line = season_lines::line_in(table, seen.form, fields, count, at);
-        return take_line(seen, line, at, catalog, calls, acts);
+    if wants_values(upto, place, seen.k, text.len()) {
+        let line = season_lines::line_in(place.table, place.heading, fields, count, at);
+        return LineRead {
+            place: place,
+            scanned: take_line(seen, line, at, catalog, calls, acts),
+        };
     }
-    take_blank(seen, text.len(), at)
+    take_blank(place, seen, text.len(), at)
 }
 
 // The end of an input whose last table is the one numbered `upto`: all is read behind its names.
-pub fn ended(upto: u32, seen: Seen, at: u32) -> Scanned
-    ensures { λ r. ⌜ (r .verdict ≡ endVerdict upto seen at) × (r .seen ≡ seen) ⌝ }
-    ensures { λ r. ⌜ LeadsBy seen (λ v. atEnd upto v at) r ⌝ }
+pub fn ended(upto: u32, place: TablePlace, seen: Seen, at: u32) -> Scanned
+    ensures { λ r. ⌜ (r .verdict ≡ endVerdict upto place at) × (r .seen ≡ seen) ⌝ }
+    ensures { λ r. ⌜ LeadsBy seen (λ v. atEnd upto (record { place = place; read = v }) at) r ⌝ }
 {
-    if seen.named {
-        if seen.table == upto {
+    if place.named {
+        if place.table == upto {
             return taken(seen);
         }
     }

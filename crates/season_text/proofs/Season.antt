@@ -32,7 +32,7 @@ use Rattle.layout.specs.Layout.{cacheOf}
 use Rattle.cache.specs.Contract.{lent}
 use Rattle.cache_run.specs.Season.{Season}
 use Rattle.cache_run.proofs.Season.{season-lent}
-use Rattle.season_tables.specs.Tables.{Sofar}
+use Rattle.season_tables.specs.Tables.{Tables}
 use Rattle.season_tables.specs.InnerSound.{Sound}
 use Rattle.season_plan.specs.Plans.{priceOf}
 use Rattle.season_plan.specs.Inner.{planOf}
@@ -59,7 +59,7 @@ allowed-first k cat steps i l a = record { each = λ j b. at j (omega (arith, le
         (λ z. refusalAt k (catalogAfter cat (take-take j i steps (omega arith) z)) j false (callOf (getD-take i steps j Flush b z)))
         ∙ a .each j (omega arith)
 
-module _ (v : Sofar) (ok : Sound v) where
+module _ (v : Tables) (ok : Sound v) where
   -- the log before call i: the steps before it, not closed
   log-before : (i : ℕ) → i ≤ length (v .steps) → logOf (v .k) (v .catalog) (take i (callsIn v)) ≡ record { steps = take i (v .steps); closed = false }
   log-before i l =
@@ -120,7 +120,7 @@ module _ (v : Sofar) (ok : Sound v) where
           rw (asked i, call-at-step (v .steps) i b) (ok .allowed .each i b)
 
 -- the figures reported are those of every such state, and left is at most right
-pub text-compared : (v : Sofar) (cost : ℕ) → Sound v → priceOf v ≡ costs cost → Compared v cost
+pub text-compared : (v : Tables) (cost : ℕ) → Sound v → priceOf v ≡ costs cost → Compared v cost
 text-compared v cost ok e =
     record {
       figures = λ xs numbers d same chain.

@@ -25,7 +25,7 @@ take-item-requires : tie.Need-take-item-requires
 take-item-requires c κs =
     let a = c .before .before .before .before .before .before .before .args in
     let t = line-takeable (a .seen) (a .line) _ (a .catalog .now) (a .calls .now) (a .acts .now) (c .before .before .line2 .given .1) (c .before .before .before .before .before .before .before .pre) in
-    (t .ofTable .0, t .ofTable .1, t .room .roomy .forItems)
+    (t .sayable .0, t .sayable .1, t .room .roomy .forItems)
 
 enum-known-line-3 : tie.Need-enum-known-line-3
 enum-known-line-3 c = search needs

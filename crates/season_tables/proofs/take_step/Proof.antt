@@ -51,7 +51,7 @@ numbers-requires : tie.Need-numbers-requires
 numbers-requires c κs = search needs
 
 put-arrival-requires : tie.Need-put-arrival-requires
-put-arrival-requires c κs = (rw (c .before .numbers .ensures) (c .before .before .before .before .before .before .before .pre .line .ofTable .0), c .before .before .before .before .before .before .before .pre .line .room .roomy .forItems)
+put-arrival-requires c κs = (rw (c .before .numbers .ensures) (c .before .before .before .before .before .before .before .pre .line .sayable), c .before .before .before .before .before .before .before .pre .line .room .roomy .forItems)
 
 mul-put-step : tie.Need-mul-put-step
 mul-put-step c = omega (arith, c .before .before .before .before .before .before .before .before .before .before .before .pre .line .room .forStep)
@@ -82,8 +82,8 @@ returns-2 c =
     let room : 7 * a .seen .steps + 7 ≤ length (a .calls .now) = omega (arith, t .room .forStep, t .room .roomy .forSteps) in
     let stored = c .before .before .before .before .before .before .before .before .put-arrival .ensures ∙ step-items (a .step) (c .before .before .before .before .before .before .before .before .before .before .numbers .result) (a .catalog .now) (c .before .before .before .before .before .before .before .before .before .before .numbers .ensures) in
     let past =
-    step-past (a .seen) (a .catalog .now) (a .calls .now) (a .step) (a .at) (number .result) (number .ensures) (c .before .before .before .before .before .before .before .before .before .before .before .if1 .left) (t .ofTable .0) (t .room .roomy .forItems) (c .before .before .before .before .before .before .before .before .before .before .numbers .result) (c .before .advanced .result) (c .before .before .before .before .before .before .before .before .before .before .numbers .ensures) (c .before .advanced .ensures) (c .taken .result) (c .before .before .before .before .before .before .before .before .before .before .before .before .before .before .before .before .pre .acts) (t .read) (c .before .before .before .before .before .before .before .before .put-arrival .last .0) (c .before .before .before .before .put-step .last .0) (t .holds) room (c .taken .ensures .0) (c .taken .ensures .1) stored (c .before .before .before .before .put-step .ensures) in (
-      step-noted (a .seen) (a .catalog .now) (a .calls .now) (a .step) (a .at) (number .result) (number .ensures) (c .before .before .before .before .before .before .before .before .before .before .before .if1 .left) (t .ofTable .0) (t .room .roomy .forItems) (c .before .before .before .before .before .before .before .before .before .before .numbers .result) (c .before .advanced .result) (c .before .before .before .before .before .before .before .before .before .before .numbers .ensures) (c .before .advanced .ensures) (c .taken .result) (c .before .before .before .before .before .before .before .before .put-arrival .last .0) (c .before .before .before .before .put-step .last .0) (t .ofTable .1) room (c .taken .ensures .0) (c .taken .ensures .1) stored (c .before .before .before .before .put-step .ensures),
+    step-past (a .seen) (a .catalog .now) (a .calls .now) (a .step) (a .at) (number .result) (number .ensures) (c .before .before .before .before .before .before .before .before .before .before .before .if1 .left) (t .sayable) (t .room .roomy .forItems) (c .before .before .before .before .before .before .before .before .before .before .numbers .result) (c .before .advanced .result) (c .before .before .before .before .before .before .before .before .before .before .numbers .ensures) (c .before .advanced .ensures) (c .taken .result) (c .before .before .before .before .before .before .before .before .before .before .before .before .before .before .before .before .pre .acts) (t .read) (c .before .before .before .before .before .before .before .before .put-arrival .last .0) (c .before .before .before .before .put-step .last .0) (t .holds) room (c .taken .ensures .0) (c .taken .ensures .1) stored (c .before .before .before .before .put-step .ensures) in (
+      step-noted (a .seen) (a .catalog .now) (a .calls .now) (a .step) (a .at) (number .result) (number .ensures) (c .before .before .before .before .before .before .before .before .before .before .before .if1 .left) (t .sayable) (t .room .roomy .forItems) (c .before .before .before .before .before .before .before .before .before .before .numbers .result) (c .before .advanced .result) (c .before .before .before .before .before .before .before .before .before .before .numbers .ensures) (c .before .advanced .ensures) (c .taken .result) (c .before .before .before .before .before .before .before .before .put-arrival .last .0) (c .before .before .before .before .put-step .last .0) room (c .taken .ensures .0) (c .taken .ensures .1) stored (c .before .before .before .before .put-step .ensures),
       past,
     )
 
