@@ -108,11 +108,11 @@ acts-count s [] = omega arith
 acts-count s (x ∷ acts) = go (ltb (x .place) s) (eqb (x .place) s) refl refl (acts-count s acts)
   where
     go :
-        (before at : Bool) →
+        (before here : Bool) →
         ltb (x .place) s ≡ before →
-        eqb (x .place) s ≡ at →
+        eqb (x .place) s ≡ here →
         actsBefore s acts + length (actsAt s acts) ≤ length acts →
-        cond before (suc (actsBefore s acts)) (actsBefore s acts) + length (cond at (x .act ∷ actsAt s acts) (actsAt s acts)) ≤ suc (length acts)
+        cond before (suc (actsBefore s acts)) (actsBefore s acts) + length (cond here (x .act ∷ actsAt s acts) (actsAt s acts)) ≤ suc (length acts)
     go true true e f rest = absurd (omega (arith, ltb-true (x .place) s e, eqb-true (x .place) s f))
     go true false e f rest = omega arith
     go false true e f rest = omega arith

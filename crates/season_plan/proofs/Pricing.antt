@@ -54,7 +54,7 @@ pub record Pricing (x : Seen) (xs calls acts : List ℕ) (p : Copies) (a s : ℕ
   pub within : s ≤ x .steps
   pub next : a ≤ x .acts
   pub low : p .paid ≤ most a s
-  pub at : (v : Tables) → Holds x xs calls acts v → Sound v → a ≡ actsBefore s (v .acts)
+  pub begins : (v : Tables) → Holds x xs calls acts v → Sound v → a ≡ actsBefore s (v .acts)
   pub stands : (v : Tables) → Holds x xs calls acts v → Sound v → Stands (catalogBefore v s) p
   pub leads :
       (v : Tables) →
@@ -100,17 +100,17 @@ does-number cat (faulty f) paid r did e = rw did (fault-range f)
 
 -- the line of an act at fault
 act-line : (v : Tables) (s t n a : ℕ) → s ≡ t → n ≡ actsBefore s (v .acts) + a → lineOfAct v n ≡ lineOfAct v (actsBefore t (v .acts) + a)
-act-line v s t n a same at = ap (lineOfAct v) (at ∙ ap (λ u. actsBefore u (v .acts) + a) same)
+act-line v s t n a same is = ap (lineOfAct v) (is ∙ ap (λ u. actsBefore u (v .acts) + a) same)
 
 -- an act's fault is told with the act's line and item
 act-tells :
     (v : Tables) (s n i : ℕ) (f : Fault) →
     ofAct s (actsBefore s (v .acts)) n i f →
     telling (faultNumber f) (lineOfAct v n) i ≡ told (faultRefusal f (faultLine v f))
-act-tells v s n i (unknownItem t a j) (same, at, item) = λ k. telling 6 (act-line v s t n a same at k) (item k)
-act-tells v s n i (retiredItem t a j) (same, at, item) = λ k. telling 20 (act-line v s t n a same at k) (item k)
-act-tells v s n i (notHeld t a j) (same, at, item) = λ k. telling 11 (act-line v s t n a same at k) (item k)
-act-tells v s n i (alreadyHeld t a j) (same, at, item) = λ k. telling 12 (act-line v s t n a same at k) (item k)
+act-tells v s n i (unknownItem t a j) (same, is, item) = λ k. telling 6 (act-line v s t n a same is k) (item k)
+act-tells v s n i (retiredItem t a j) (same, is, item) = λ k. telling 20 (act-line v s t n a same is k) (item k)
+act-tells v s n i (notHeld t a j) (same, is, item) = λ k. telling 11 (act-line v s t n a same is k) (item k)
+act-tells v s n i (alreadyHeld t a j) (same, is, item) = λ k. telling 12 (act-line v s t n a same is k) (item k)
 act-tells v s n i (requestNotHeld t j) of = absurd of
 act-tells v s n i (overCapacity t) of = absurd of
 
@@ -188,7 +188,7 @@ module _ (x : Seen) (xs calls acts : List ℕ) (pre : Priceable x xs calls acts)
         within = omega arith;
         next = omega arith;
         low = omega arith;
-        at = λ v h sound. sym (parted-is 0 (v .acts) 0 (record { within = omega arith; below = λ i l. absurd (let z : i < 0 = l in omega arith); above = λ i l b. omega arith }));
+        begins = λ v h sound. sym (parted-is 0 (v .acts) 0 (record { within = omega arith; below = λ i l. absurd (let z : i < 0 = l in omega arith); above = λ i l b. omega arith }));
         stands =
             λ v h sound.
             record {
@@ -244,7 +244,7 @@ module _ (x : Seen) (xs calls acts : List ℕ) (pre : Priceable x xs calls acts)
           record {
             calls = calls;
             priceable = pre;
-            begins = so .at (pre .text) (pre .holds) (pre .sound);
+            begins = so .begins (pre .text) (pre .holds) (pre .sound);
             stands = so .stands (pre .text) (pre .holds) (pre .sound);
             inside = l;
             paid = so .low;
@@ -253,7 +253,7 @@ module _ (x : Seen) (xs calls acts : List ℕ) (pre : Priceable x xs calls acts)
       module _ (b : Acted) (ran : RunsActs x xs p acts a s b) (bound : ActsWithin x s b) where
         -- the acts before the step, for a text that the slices hold
         did : (v : Tables) → Holds x xs calls acts v → Sound v → ActsDone v s (actsOf v s (copiesIn p)) (p .paid) b
-        did v h sound = ran calls v (record { holds = h; sound = sound; begins = so .at v h sound; stands = so .stands v h sound })
+        did v h sound = ran calls v (record { holds = h; sound = sound; begins = so .begins v h sound; stands = so .stands v h sound })
 
         -- the step with the rest of the log
         unrolled :
@@ -275,11 +275,11 @@ module _ (x : Seen) (xs calls acts : List ℕ) (pre : Priceable x xs calls acts)
         -- 11 or 12, with the act's line and item
         pub pricing-act-fails :
             (line : ℕ) (y : Refusal) → told y ≡ telling (b .number) line (getD acts (3 * b .next + 2) 0) → b .number ≢ 0 → line ≡ 9 + x .n + x .steps + b .next → PricedAs x xs calls acts (Refused y)
-        pricing-act-fails line y tells e at v h sound =
+        pricing-act-fails line y tells e is v h sound =
             subst (λ (z : Priced). PricedBy v z (Refused y)) (unrolled v h sound)
             (act-faulty v s (actsOf v s (copiesIn p)) (stepOn v s)
             (logFrom v (suc s)) (p .paid) line (getD acts (3 * b .next + 2) 0) b y tells (did v h sound) e
-            (omega (arith, h .itemCount, h .stepCount)) (noted-act x xs calls acts v h (b .next) (bound .fault e) .item))
+            (omega (arith, h .itemCount, h .stepCount)) (noted-act x xs calls acts v h (b .next) (bound .inside e) .item))
 
         module _ (e : b .number ≡ 0) where
           -- where the program stands before the step
@@ -325,7 +325,7 @@ module _ (x : Seen) (xs calls acts : List ℕ) (pre : Priceable x xs calls acts)
             -- 14 or 13, with the step's line and item
             pub pricing-step-fails :
                 (line : ℕ) (y : Refusal) → told y ≡ telling (r .number) line (getD calls (7 * s + 2) 0) → r .number ≢ 0 → line ≡ 7 + x .n + s → PricedAs x xs calls acts (Refused y)
-            pricing-step-fails line y tells f at v h sound =
+            pricing-step-fails line y tells f is v h sound =
                 subst (λ (z : Priced). PricedBy v z (Refused y)) (unrolled v h sound)
                 (step-faulty v s (catalogBefore v (suc s)) (actsOf v s (copiesIn p)) (stepOn v s)
                 (logFrom v (suc s)) (p .paid) line (stepItem (stepAt (v .steps) s)) b r y
@@ -351,7 +351,7 @@ module _ (x : Seen) (xs calls acts : List ℕ) (pre : Priceable x xs calls acts)
                   within = omega arith;
                   next = bound .next;
                   low = omega (arith, after (pre .text) (pre .holds) (pre .sound) f .1, bound .paid e);
-                  at =
+                  begins =
                       λ v h sound.
                       rw add-one
                       (acts-next v s (actsOf v s (copiesIn p)) (p .paid) b (did v h sound) e);

@@ -179,7 +179,7 @@ RunsActs x xs p acts first s r =
 -- `next` is no further than behind the last act, an act at fault is one of them, and the sum grows by what an act may cost
 pub record ActsWithin (x : Seen) (s : ℕ) (r : Acted) : Type 0 where
   pub next : r .next ≤ x .acts
-  pub fault : r .number ≢ 0 → r .next < x .acts
+  pub inside : r .number ≢ 0 → r .next < x .acts
   pub paid : r .number ≡ 0 → r .copies .paid ≤ most (r .next) s
 
 -- whatever text the slices hold, this is the price of its plan

@@ -86,13 +86,13 @@ until-no-feed upto n s v h = rw (split-last 10 s h)
 
 -- whether a line's fields are looked at, by what has been read
 abbrev pub wantsHere : ℕ → Sofar → List ℕ → Bool
-wantsHere upto v l = wantsValues upto (v .place) (v .read .k) (length l)
+wantsHere upto v l = wantsValues upto (v .stage) (v .read .k) (length l)
 
 -- a line that is torn by its fields alone
 pub malformed-line :
     (upto : ℕ) (v : Sofar) (l : List ℕ) (n : ℕ) →
     wantsHere upto v l ≡ true →
-    lineIn (v .place .table) (v .place .heading) (fieldsOf l) n ≡ Refused (Malformed n) →
+    lineIn (v .stage .table) (v .stage .heading) (fieldsOf l) n ≡ Refused (Malformed n) →
     readLine upto v l n ≡ stops (Malformed n)
 unfolding takes
 malformed-line upto v l n h e = leads-values upto v l n h ∙ rw e
@@ -184,46 +184,46 @@ may-end b upto table k low e = go b (eqb table 0) (isSized k) (ltb table upto) r
 
 -- where a line leads that leads on: no further than the last table, and no table back; and what it adds
 pub record Moves (upto : ℕ) (v w : Sofar) (wants : Bool) (fields : ℕ) : Type 0 where
-  pub within : 1 ≤ upto → v .place .table ≤ upto → w .place .table ≤ upto
-  pub onward : v .place .table ≤ w .place .table
-  pub adds : Grows (v .place .table) (v .read) (w .read) wants fields
+  pub within : 1 ≤ upto → v .stage .table ≤ upto → w .stage .table ≤ upto
+  pub onward : v .stage .table ≤ w .stage .table
+  pub adds : Grows (v .stage .table) (v .read) (w .read) wants fields
 
 pub grown : (upto : ℕ) (v w : Sofar) (l : List ℕ) (n : ℕ) → readLine upto v l n ≡ gives w → Moves upto v w (wantsHere upto v l) (length (fieldsOf l))
 unfolding wantsValues readLine
 grown upto v w l n e =
-    go (v .place .named) (cond (isBlank l) (mayEnd upto (v .place .table) (v .read .k)) false) (mustEnd (v .place .table) (v .read .k)) (formOf (v .place .table) l)
-    (may-end (isBlank l) upto (v .place .table) (v .read .k)) e
+    go (v .stage .named) (cond (isBlank l) (mayEnd upto (v .stage .table) (v .read .k)) false) (mustEnd (v .stage .table) (v .read .k)) (formOf (v .stage .table) l)
+    (may-end (isBlank l) upto (v .stage .table) (v .read .k)) e
   where
     to : (x : Sofar) (wants : Bool) → x ≡ w → Moves upto v x wants (length (fieldsOf l)) → Moves upto v w wants (length (fieldsOf l))
     to x wants e g = rw e at g
 
     values :
         (x : OrRefusal Tables) →
-        takes (v .read) (lineIn (v .place .table) (v .place .heading) (fieldsOf l) n) n ≡ x →
-        goesOn x (λ t. gives (record { place = v .place; read = t })) ≡ gives w →
+        takes (v .read) (lineIn (v .stage .table) (v .stage .heading) (fieldsOf l) n) n ≡ x →
+        goesOn x (λ t. gives (record { stage = v .stage; read = t })) ≡ gives w →
         Moves upto v w true (length (fieldsOf l))
     values (gives t) is e =
-        to (record { place = v .place; read = t }) true (cc)
-        (record { within = λ u b. b; onward = omega arith; adds = grown-by (v .read) t (v .place .table) (v .place .heading) (fieldsOf l) n is })
+        to (record { stage = v .stage; read = t }) true (cc)
+        (record { within = λ u b. b; onward = omega arith; adds = grown-by (v .read) t (v .stage .table) (v .stage .heading) (fieldsOf l) n is })
     values (stops r) is e = absurd (no-two r w e)
 
     go :
         (a p m : Bool) (names : Names) →
-        (1 ≤ upto → p ≡ true → v .place .table < upto) →
-        cond a (cond p (gives (record { place = nextTable (v .place); read = v .read }))
+        (1 ≤ upto → p ≡ true → v .stage .table < upto) →
+        cond a (cond p (gives (record { stage = nextTable (v .stage); read = v .read }))
         (cond m (stops (Malformed n))
-        (goesOn (takes (v .read) (lineIn (v .place .table) (v .place .heading) (fieldsOf l) n) n) (λ t. gives (record { place = v .place; read = t })))))
-        (goesOn (namedBy (v .place) names n) (λ q. gives (record { place = q; read = v .read })))
+        (goesOn (takes (v .read) (lineIn (v .stage .table) (v .stage .heading) (fieldsOf l) n) n) (λ t. gives (record { stage = v .stage; read = t })))))
+        (goesOn (namedBy (v .stage) names n) (λ q. gives (record { stage = q; read = v .read })))
         ≡ gives w →
         Moves upto v w (cond a (cond p false (not m)) false) (length (fieldsOf l))
     go true true m names below e =
-        to (record { place = nextTable (v .place); read = v .read }) false (cc)
-        (record { within = λ u b. below u refl; onward = omega arith; adds = grows-not (v .place .table) (v .read) false (length (fieldsOf l)) })
+        to (record { stage = nextTable (v .stage); read = v .read }) false (cc)
+        (record { within = λ u b. below u refl; onward = omega arith; adds = grows-not (v .stage .table) (v .read) false (length (fieldsOf l)) })
     go true false true names below e = absurd (no-two (Malformed n) w e)
     go true false false names below e = values _ refl e
     go false p m (Form f) below e =
-        to (record { place = record { table = v .place .table; named = true; heading = f }; read = v .read }) false (cc)
-        (record { within = λ u b. b; onward = omega arith; adds = grows-not (v .place .table) (v .read) false (length (fieldsOf l)) })
+        to (record { stage = record { table = v .stage .table; named = true; heading = f }; read = v .read }) false (cc)
+        (record { within = λ u b. b; onward = omega arith; adds = grows-not (v .stage .table) (v .read) false (length (fieldsOf l)) })
     go false p m Unknown below e = absurd (no-two (Heading n) w e)
 
 -- ## The first field of what is left of a line

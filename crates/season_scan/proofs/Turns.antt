@@ -19,7 +19,7 @@ use Rattle.season_lines.specs.declared.Line.the-variants.{Refused as Torn}
 use Rattle.line_fields.specs.Fields.{split, fieldOf, fieldsOf, fieldAt, isEmpty, noneEmpty}
 use Rattle.season_lines.specs.Lines.{namesIn, lineIn}
 use Rattle.line_fields.specs.Inner.{before, heldField}
-use Rattle.season_tables.specs.declared.TablePlace.{TablePlace}
+use Rattle.season_tables.specs.declared.Stage.{Stage}
 use Rattle.season_tables.specs.declared.Seen.{Seen}
 use Rattle.season_tables.specs.declared.Scanned.{Scanned}
 use Rattle.season_tables.specs.declared.LineRead.{LineRead}
@@ -42,7 +42,7 @@ AsLong catalog₀ calls₀ acts₀ catalog calls acts =
 -- At byte `at`, where line n begins: the struct and the slices hold what has been read, from which the rest of the text leads where
 -- the whole text does, and past that the slices are as they were. A step or an act took at least six bytes, and no step stands before
 -- the third table.
-pub record Lined (upto : ℕ) (s catalog₀ calls₀ acts₀ catalog calls acts : List ℕ) (p : TablePlace) (q : Seen) (at n : ℕ) : Type 0 where
+pub record Lined (upto : ℕ) (s catalog₀ calls₀ acts₀ catalog calls acts : List ℕ) (p : Stage) (q : Seen) (at n : ℕ) : Type 0 where
   pub within : at ≤ length s
   pub counted : n ≤ at + 1
   pub forSteps : 6 * q .steps ≤ at
@@ -56,15 +56,15 @@ pub record Lined (upto : ℕ) (s catalog₀ calls₀ acts₀ catalog calls acts 
   pub past : Untouched q catalog₀ calls₀ acts₀ catalog calls acts
   pub read : Tables
   pub holds : Holds q catalog calls acts read
-  pub left : readFrom upto n (split 10 (drop at s)) (record { place = p; read = read }) ≡ readingTo upto s
-  pub until : readUntil upto n (split 10 (drop at s)) (record { place = p; read = read }) .read ≡ readIn upto s
+  pub left : readFrom upto n (split 10 (drop at s)) (record { stage = p; read = read }) ≡ readingTo upto s
+  pub until : readUntil upto n (split 10 (drop at s)) (record { stage = p; read = read }) .read ≡ readIn upto s
 
 -- the line from `at` to `end`
 abbrev pub lineWithin : List ℕ → ℕ → ℕ → List ℕ
 lineWithin s at end = take (end - at) (drop at s)
 
 -- whether its fields are looked at
-abbrev pub due : ℕ → TablePlace → Seen → ℕ → ℕ → Bool
+abbrev pub due : ℕ → Stage → Seen → ℕ → ℕ → Bool
 due upto p q at end = wantsValues upto p (q .k) (end - at)
 
 -- the fields from byte i on, as they are held
@@ -73,7 +73,7 @@ heldFrom s i end more = map heldField (fieldsFrom s i end more)
 
 -- At byte i of that line, where a field begins if there are more: the fields before it are in the array, no more than the heading has
 -- names, none of them empty, and took at least two bytes each. If no line of values is due, none is looked at.
-pub record Fielded (upto : ℕ) (s : List ℕ) (p : TablePlace) (q : Seen) (at end names : ℕ) (fields : List Field) (count i : ℕ) (more : Bool) : Type 0 where
+pub record Fielded (upto : ℕ) (s : List ℕ) (p : Stage) (q : Seen) (at end names : ℕ) (fields : List Field) (count i : ℕ) (more : Bool) : Type 0 where
   pub slots : length fields ≡ 6
   pub heading : names ≡ namesIn (p .table) (p .heading)
   pub most : names ≤ 6
@@ -94,16 +94,16 @@ ScanAnswers upto s catalog₀ calls₀ acts₀ r catalog calls acts =
 -- ## The first line
 
 pub begins :
-    (upto : ℕ) (s catalog calls acts : List ℕ) (p : TablePlace) (q : Seen) →
+    (upto : ℕ) (s catalog calls acts : List ℕ) (p : Stage) (q : Seen) →
     1 ≤ upto →
     upto ≤ 3 →
     Roomy catalog calls acts →
-    p ≡ atStart .place →
+    p ≡ atStart .stage →
     q ≡ nothingRead →
     Lined upto s catalog calls acts catalog calls acts p q 0 1
 begins upto s catalog calls acts p q low high r e b =
     let h = subst (λ (z : Seen). Holds z catalog calls acts (atStart .read)) (sym b) (nothing-held catalog calls acts) in
-    let here : _≡_ {A = Sofar} (record { place = p; read = atStart .read }) atStart = ap (λ (z : TablePlace). record { place = z; read = atStart .read }) e in
+    let here : _≡_ {A = Sofar} (record { stage = p; read = atStart .read }) atStart = ap (λ (z : Stage). record { stage = z; read = atStart .read }) e in
     record {
       within = omega arith;
       counted = omega arith;
@@ -111,7 +111,7 @@ begins upto s catalog calls acts p q low high r e b =
       forActs = omega (arith, h .actCount);
       low = low;
       high = high;
-      table = omega (arith, ap (λ (z : TablePlace). z .table) e);
+      table = omega (arith, ap (λ (z : Stage). z .table) e);
       unstepped = λ l. h .stepCount;
       roomy = r;
       long = (refl, refl, refl);
@@ -142,12 +142,12 @@ few-ended :
 few-ended true v x r catalog calls acts a b h = (omega (arith, h .1 .stepCount), omega (arith, h .1 .actCount))
 few-ended false v x r catalog calls acts a b h = tt
 
-module _ (upto : ℕ) (s catalog₀ calls₀ acts₀ catalog calls acts : List ℕ) (p : TablePlace) (q : Seen) (at n : ℕ)
+module _ (upto : ℕ) (s catalog₀ calls₀ acts₀ catalog calls acts : List ℕ) (p : Stage) (q : Seen) (at n : ℕ)
     (h : Lined upto s catalog₀ calls₀ acts₀ catalog calls acts p q at n)
   where
-    -- what has been read, with the place
+    -- what has been read, with the stage
     abbrev sofar : Sofar
-    sofar = record { place = p; read = h .read }
+    sofar = record { stage = p; read = h .read }
 
     -- where the reading ends here, the struct being handed back
     leaves : (r : Scanned) → r .seen ≡ q → readUntil upto n (split 10 (drop at s)) sofar ≡ sofar → Leaves upto s catalog₀ calls₀ acts₀ r catalog calls acts
@@ -164,7 +164,7 @@ module _ (upto : ℕ) (s catalog₀ calls₀ acts₀ catalog calls acts : List �
         length s ≤ 65536 →
         length s ≤ at →
         r .seen ≡ q →
-        LeadsBy q (λ v. atEnd upto (record { place = p; read = v }) n) r →
+        LeadsBy q (λ v. atEnd upto (record { stage = p; read = v }) n) r →
         ScanAnswers upto s catalog₀ calls₀ acts₀ r catalog calls acts
     ends r short e same f =
         let all : readingTo upto s ≡ atEnd upto sofar n = sym (h .left) ∙ nothing-left upto n at s sofar e in
@@ -193,7 +193,7 @@ module _ (upto : ℕ) (s catalog₀ calls₀ acts₀ catalog calls acts : List �
 filled : (fields : List Field) (count names : ℕ) → length fields ≡ 6 → count ≤ names → names ≤ 6 → length (take count fields) ≡ count
 filled fields count names e h m = length-take-le count fields (omega arith)
 
-module _ (upto : ℕ) (s : List ℕ) (p : TablePlace) (q : Seen) (at end names : ℕ) where
+module _ (upto : ℕ) (s : List ℕ) (p : Stage) (q : Seen) (at end names : ℕ) where
   pub field-none :
       (fields : List Field) (more : Bool) →
       length fields ≡ 6 →
@@ -304,7 +304,7 @@ module _ (upto : ℕ) (s : List ℕ) (p : TablePlace) (q : Seen) (at end names :
 no-fewer : (a b : ℕ) {c d : ℕ} {wants : Bool} {fields : ℕ} → a ≡ c → b ≡ d → Adds c d wants fields → a ≤ b
 no-fewer a b e f = ⊎-elim (λ w. omega arith) (λ w. omega (arith, w .0))
 
-module _ (upto : ℕ) (s catalog₀ calls₀ acts₀ catalog calls acts : List ℕ) (p : TablePlace) (q : Seen) (at n : ℕ)
+module _ (upto : ℕ) (s catalog₀ calls₀ acts₀ catalog calls acts : List ℕ) (p : Stage) (q : Seen) (at n : ℕ)
     (h : Lined upto s catalog₀ calls₀ acts₀ catalog calls acts p q at n)
     (end : ℕ) (ee : end ≡ at + length (before 10 (drop at s))) (within : end < length s)
   where
@@ -314,9 +314,9 @@ module _ (upto : ℕ) (s catalog₀ calls₀ acts₀ catalog calls acts : List �
     size-is : length (lineWithin s at end) ≡ end - at
     size-is = length-part s at end (omega arith)
 
-    -- what has been read, with the place
+    -- what has been read, with the stage
     abbrev here : Sofar
-    here = record { place = p; read = h .read }
+    here = record { stage = p; read = h .read }
 
     wants-is : wantsHere upto here (lineWithin s at end) ≡ due upto p q at end
     wants-is = λ i. wantsValues upto p (sym (h .holds .k) i) (size-is i)
@@ -414,21 +414,21 @@ module _ (upto : ℕ) (s catalog₀ calls₀ acts₀ catalog calls acts : List �
           pub line-taken :
               AsLong catalog calls acts catalogThen callsThen actsThen →
               r .scanned .verdict ≡ Taken →
-              Lined upto s catalog₀ calls₀ acts₀ catalogThen callsThen actsThen (r .place) (r .scanned .seen) (end + 1) (n + 1)
+              Lined upto s catalog₀ calls₀ acts₀ catalogThen callsThen actsThen (r .stage) (r .scanned .seen) (end + 1) (n + 1)
           line-taken long e = go (readLine upto here (lineWithin s at end) n) refl (led (h .read) (h .holds))
             where
               go :
                   (y : OrRefusal Sofar) →
                   readLine upto here (lineWithin s at end) n ≡ y →
                   LeadsTo y r catalogThen callsThen actsThen →
-                  Lined upto s catalog₀ calls₀ acts₀ catalogThen callsThen actsThen (r .place) (r .scanned .seen) (end + 1) (n + 1)
+                  Lined upto s catalog₀ calls₀ acts₀ catalogThen callsThen actsThen (r .stage) (r .scanned .seen) (end + 1) (n + 1)
               go (gives w) u k =
                   let m = grown upto here w (lineWithin s at end) n u in
                   let g = m .adds in
                   let old = h .holds in
                   let new = k .1 .1 in
-                  let table : r .place .table ≡ w .place .table = ap (λ (z : TablePlace). z .table) (k .0) in
-                  let there : _≡_ {A = Sofar} w (record { place = r .place; read = w .read }) = ap (λ (z : TablePlace). record { place = z; read = w .read }) (sym (k .0)) in
+                  let table : r .stage .table ≡ w .stage .table = ap (λ (z : Stage). z .table) (k .0) in
+                  let there : _≡_ {A = Sofar} w (record { stage = r .stage; read = w .read }) = ap (λ (z : Stage). record { stage = z; read = w .read }) (sym (k .0)) in
                   let rest = split 10 (drop (end + 1) s) in
                   let until-then : readUntil upto n (split 10 (drop at s)) here ≡ readUntil upto (n + 1) rest w = until-is ∙ rw u in
                   let roomy = h .roomy in

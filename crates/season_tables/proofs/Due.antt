@@ -3,12 +3,12 @@ use mathlib.Core.Path.{_≡_}
 use mathlib.Core.Bool.{true, false, not}
 use Prim.Native.Nat.{ℕ}
 use borrow.Author.Tests.{eq-eqb, ne-eqb}
-use Rattle.season_tables.specs.declared.TablePlace.{TablePlace}
+use Rattle.season_tables.specs.declared.Stage.{Stage}
 use Rattle.season_tables.specs.Tables.{mayEnd, mustEnd}
 use Rattle.season_tables.specs.Inner.{wantsValues}
 
 -- whether a line's fields are looked at
-module _ (upto : ℕ) (p : TablePlace) (k bytes : ℕ) where
+module _ (upto : ℕ) (p : Stage) (k bytes : ℕ) where
   pub wants-unnamed : p .named ≡ false → false ≡ wantsValues upto p k bytes
   unfolding wantsValues
   wants-unnamed e = rw e

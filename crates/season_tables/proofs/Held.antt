@@ -30,7 +30,7 @@ use Rattle.catalog_bytes.proofs.Laws.{none-first, one-more}
 use Rattle.season_lines.specs.declared.Line.{Line}
 use Rattle.season_lines.specs.declared.Line.the-variants.{Sizes, Item as ItemLine, Step as StepLine, Act as ActLine, Refused as RefusedLine}
 use Rattle.season_items.specs.declared.Present.{Present}
-use Rattle.season_tables.specs.declared.TablePlace.{TablePlace}
+use Rattle.season_tables.specs.declared.Stage.{Stage}
 use Rattle.season_tables.specs.declared.Seen.{Seen}
 use Rattle.season_tables.specs.declared.Scanned.{Scanned}
 use Rattle.season_tables.specs.declared.Verdict.the-variants.{Taken, Refused}
@@ -79,8 +79,8 @@ abbrev sized : Seen → ℕ → ℕ → Deduction → Seen
 sized q k h word =
     record { k = k; h = h; rule = word; n = q .n; steps = q .steps; acts = q .acts; last = q .last; present = q .present; earlier = q .earlier }
 
-module _ (q : Seen) (size plan : ℕ) (word : Deduction) (at : ℕ) (r : Scanned) where
-  pub sizes-fit : plan ≤ size → r .verdict ≡ Taken → r .seen ≡ sized q size plan word → LeadsBy q (λ v. takes v (Sizes size plan word) at) r
+module _ (q : Seen) (size plan : ℕ) (word : Deduction) (line : ℕ) (r : Scanned) where
+  pub sizes-fit : plan ≤ size → r .verdict ≡ Taken → r .seen ≡ sized q size plan word → LeadsBy q (λ v. takes v (Sizes size plan word) line) r
   unfolding takes
   sizes-fit e t s catalog calls acts v h =
       rw (le-leb plan size e)
@@ -103,7 +103,7 @@ module _ (q : Seen) (size plan : ℕ) (word : Deduction) (at : ℕ) (r : Scanned
         passed = h .passed;
       }))
 
-  pub sizes-too-large : size < plan → r .verdict ≡ Refused (PlanTooLarge at) → LeadsBy q (λ v. takes v (Sizes size plan word) at) r
+  pub sizes-too-large : size < plan → r .verdict ≡ Refused (PlanTooLarge line) → LeadsBy q (λ v. takes v (Sizes size plan word) line) r
   unfolding takes
   sizes-too-large e t catalog calls acts v h = rw (lt-leb plan size e) t
 
@@ -126,7 +126,7 @@ none-read v e = go (v .steps) e
     go [] e = refl
     go (s ∷ steps) e = absurd (omega (arith, e))
 
-module _ (q : Seen) (catalog : List ℕ) (i b l w at : ℕ) (r : Scanned) where
+module _ (q : Seen) (catalog : List ℕ) (i b l w line : ℕ) (r : Scanned) where
   pub item-next :
       (after : List ℕ) →
       1280 ≤ length catalog →
@@ -136,7 +136,7 @@ module _ (q : Seen) (catalog : List ℕ) (i b l w at : ℕ) (r : Scanned) where
       r .verdict ≡ Taken →
       r .seen ≡ itemized q i →
       after ≡ sets catalog (5 * i) (itemBytes (listed b l w)) →
-      NotesItem q catalog (λ v. takes v (ItemLine i b l w) at) r after
+      NotesItem q catalog (λ v. takes v (ItemLine i b l w) line) r after
   unfolding takes fold
   item-next after long few early e t s put calls acts v h =
       rw (eq-eqb i (length (v .catalog)) (e ∙ h .itemCount))
@@ -196,7 +196,7 @@ module _ (q : Seen) (catalog : List ℕ) (i b l w at : ℕ) (r : Scanned) where
       ∙ stored-past catalog i b l w (omega arith)
       ∙ ap (λ (z : Seen). drop (5 * z .present .n) catalog) (sym s))
 
-  pub item-skipped : (i ≡ q .n → ⊥) → r .verdict ≡ Refused (OutOfSequence at) → NotesItem q catalog (λ v. takes v (ItemLine i b l w) at) r catalog
+  pub item-skipped : (i ≡ q .n → ⊥) → r .verdict ≡ Refused (OutOfSequence line) → NotesItem q catalog (λ v. takes v (ItemLine i b l w) line) r catalog
   unfolding takes
   item-skipped e t calls acts v h = rw (ne-eqb i (length (v .catalog)) (λ f. e (f ∙ count-is q catalog calls acts v h))) t
 
@@ -225,7 +225,7 @@ step-lookable q s catalog calls t =
 pub step-items : (s : Step) (n : Numbers) (catalog : List ℕ) → n ≡ numbersOf s → withArrival (stepOf n) catalog ≡ withArrival s catalog
 step-items s n catalog e = ap (λ (x : Step). withArrival x catalog) (ap stepOf e ∙ same-step s)
 
-module _ (q : Seen) (catalog calls : List ℕ) (s : Step) (at number : ℕ) (e : TellsRefusal (q .k) (q .present) catalog s number) where
+module _ (q : Seen) (catalog calls : List ℕ) (s : Step) (line number : ℕ) (e : TellsRefusal (q .k) (q .present) catalog s number) where
   -- the number is the one that the table gives the step
   same-number : (acts : List ℕ) (v : Tables) → Holds q catalog calls acts v → number ≡ itemRefusal (v .k) (itemsNow v) s
   same-number acts v h = e (itemsNow v) (h .present) (h .stored) ∙ ap (λ (k : ℕ). itemRefusal k (itemsNow v) s) (h .k)
@@ -238,14 +238,14 @@ module _ (q : Seen) (catalog calls : List ℕ) (s : Step) (at number : ℕ) (e :
   pub step-refuses :
       (r : Scanned) (x : Refusal) →
       number ≢ 0 →
-      told x ≡ telling number at (stepItem s) →
+      told x ≡ telling number line (stepItem s) →
       r .verdict ≡ Refused x →
-      NotesStep q catalog calls (λ v. takes v (StepLine s) at) r catalog calls
+      NotesStep q catalog calls (λ v. takes v (StepLine s) line) r catalog calls
   unfolding takes
   step-refuses r x f tells t acts v h =
       let same = same-number acts v h in
       rw (sym same, ne-eqb number 0 f)
-      (t ∙ ap Refused (refusal-one x _ (tells ∙ sym (step-told number f (v .k) (itemsNow v) s same at (stepItem s)))))
+      (t ∙ ap Refused (refusal-one x _ (tells ∙ sym (step-told number f (v .k) (itemsNow v) s same line (stepItem s)))))
 
   -- the step is not refused, and this is known of the items behind it
   module _ (f : number ≡ 0) (ranged : inRange (numbersOf s) ≡ true) (room : 1280 ≤ length catalog)
@@ -271,7 +271,7 @@ module _ (q : Seen) (catalog calls : List ℕ) (s : Step) (at number : ℕ) (e :
           r .seen ≡ stepped q p →
           catalog-after ≡ withArrival s catalog →
           calls-after ≡ putAt calls (7 * q .steps) (callNumbers (s ∷ [])) →
-          NotesStep q catalog calls (λ v. takes v (StepLine s) at) r catalog-after calls-after
+          NotesStep q catalog calls (λ v. takes v (StepLine s) line) r catalog-after calls-after
       unfolding takes
       step-noted r catalog-after calls-after places t y items put acts v h =
           let after = now-stored acts v h in
@@ -393,15 +393,15 @@ module _ (q : Seen) (calls acts : List ℕ) (place : ℕ) (act : Act) (some : pl
     act-in-range t f =
         act-range number f (catalogBefore (t .line .read) place) (actItem act) (act-number (t .catalog) (t .line .read) (t .line .holds))
 
-module _ (q : Seen) (calls acts : List ℕ) (place : ℕ) (act : Act) (at : ℕ) (r : Scanned) where
+module _ (q : Seen) (calls acts : List ℕ) (place : ℕ) (act : Act) (line : ℕ) (r : Scanned) where
   in-turn : (catalog : List ℕ) (v : Tables) → Holds q catalog calls acts v → q .last ≤ place → place < q .steps → leb (lastPlace (v .acts)) place && ltb place (length (v .steps)) ≡ true
   in-turn catalog v h e f = rw (sym (h .last), sym (h .stepCount), le-leb (q .last) place e, lt-ltb place (q .steps) f)
 
-  pub act-early : place < q .last → r .verdict ≡ Refused (ActOutOfOrder at) → NotesAct q calls acts (λ v. takes v (ActLine place act) at) r acts
+  pub act-early : place < q .last → r .verdict ≡ Refused (ActOutOfOrder line) → NotesAct q calls acts (λ v. takes v (ActLine place act) line) r acts
   unfolding takes
   act-early e t catalog v h = rw (sym (h .last), lt-leb (q .last) place e) t
 
-  pub act-late : q .last ≤ place → q .steps ≤ place → r .verdict ≡ Refused (ActOutOfOrder at) → NotesAct q calls acts (λ v. takes v (ActLine place act) at) r acts
+  pub act-late : q .last ≤ place → q .steps ≤ place → r .verdict ≡ Refused (ActOutOfOrder line) → NotesAct q calls acts (λ v. takes v (ActLine place act) line) r acts
   unfolding takes
   act-late e f t catalog v h = rw (sym (h .last), sym (h .stepCount), le-leb (q .last) place e, le-ltb place (q .steps) f) t
 
@@ -409,20 +409,20 @@ module _ (q : Seen) (calls acts : List ℕ) (place : ℕ) (act : Act) (at : ℕ)
   module _ (e : q .last ≤ place) (f : place < q .steps) (p : Present) (caught : CatchesUp (q .earlier) calls (q .last) place p)
       (number : ℕ) (k : TellsKnown p (actItem act) number)
     where
-      told-number : (catalog : List ℕ) (v : Tables) → Holds q catalog calls acts v → number ≡ ifKnown (catalogBefore v place) (actItem act) 0
-      told-number catalog v h = act-number q calls acts place act f p caught number k catalog v h
+      number-is : (catalog : List ℕ) (v : Tables) → Holds q catalog calls acts v → number ≡ ifKnown (catalogBefore v place) (actItem act) 0
+      number-is catalog v h = act-number q calls acts place act f p caught number k catalog v h
 
       pub act-refuses :
           (x : Refusal) →
           number ≢ 0 →
-          told x ≡ telling number at (actItem act) →
+          told x ≡ telling number line (actItem act) →
           r .verdict ≡ Refused x →
-          NotesAct q calls acts (λ v. takes v (ActLine place act) at) r acts
+          NotesAct q calls acts (λ v. takes v (ActLine place act) line) r acts
       unfolding takes
       act-refuses x some tells t catalog v h =
-          let same = told-number catalog v h in
+          let same = number-is catalog v h in
           rw (in-turn catalog v h e f, sym same, ne-eqb number 0 some)
-          (t ∙ ap Refused (refusal-one x _ (tells ∙ sym (act-told number some (catalogBefore v place) (actItem act) same at (actItem act)))))
+          (t ∙ ap Refused (refusal-one x _ (tells ∙ sym (act-told number some (catalogBefore v place) (actItem act) same line (actItem act)))))
 
       pub act-noted :
           (after : List ℕ) →
@@ -431,10 +431,10 @@ module _ (q : Seen) (calls acts : List ℕ) (place : ℕ) (act : Act) (at : ℕ)
           r .verdict ≡ Taken →
           r .seen ≡ acted q place p →
           after ≡ putAt acts (3 * q .acts) (actNoted place act) →
-          NotesAct q calls acts (λ v. takes v (ActLine place act) at) r after
+          NotesAct q calls acts (λ v. takes v (ActLine place act) line) r after
       unfolding takes
       act-noted after none room t s put catalog v h =
-          rw (in-turn catalog v h e f, sym (told-number catalog v h), none)
+          rw (in-turn catalog v h e f, sym (number-is catalog v h), none)
           (goes r (acted q place p) catalog calls after _ t s
           (record {
             k = h .k;
@@ -473,31 +473,31 @@ module _ (q : Seen) (calls acts : List ℕ) (place : ℕ) (act : Act) (at : ℕ)
 
 -- the input's end
 pub end-leads :
-    (upto : ℕ) (p : TablePlace) (q : Seen) (at : ℕ) (r : Scanned) →
-    r .verdict ≡ endVerdict upto p at →
+    (upto : ℕ) (p : Stage) (q : Seen) (line : ℕ) (r : Scanned) →
+    r .verdict ≡ endVerdict upto p line →
     r .seen ≡ q →
-    LeadsBy q (λ v. atEnd upto (record { place = p; read = v }) at) r
-end-leads upto p q at r t s catalog calls acts v h = go (p .named && eqb (p .table) upto) t
+    LeadsBy q (λ v. atEnd upto (record { stage = p; read = v }) line) r
+end-leads upto p q line r t s catalog calls acts v h = go (p .named && eqb (p .table) upto) t
   where
-    go : (b : Bool) → r .verdict ≡ cond b Taken (Refused (Heading at)) → Leads (cond b (gives v) (stops (Heading at))) r catalog calls acts
+    go : (b : Bool) → r .verdict ≡ cond b Taken (Refused (Heading line)) → Leads (cond b (gives v) (stops (Heading line))) r catalog calls acts
     go true e = goes r q catalog calls acts v e s h
     go false e = e
 
 -- A line that is known to say so: the case of a match on it.
 pub line-says :
-    (q : Seen) (line said : Line) (at : ℕ) (r : Scanned) (catalog calls acts catalog-after calls-after acts-after : List ℕ) →
-    line ≡ said →
-    LeadsFrom q catalog calls acts (λ v. takes v said at) r catalog-after calls-after acts-after →
-    LeadsFrom q catalog calls acts (λ v. takes v line at) r catalog-after calls-after acts-after
-line-says q line said at r catalog calls acts catalog-after calls-after acts-after e h = rw e h
+    (q : Seen) (values said : Line) (line : ℕ) (r : Scanned) (catalog calls acts catalog-after calls-after acts-after : List ℕ) →
+    values ≡ said →
+    LeadsFrom q catalog calls acts (λ v. takes v said line) r catalog-after calls-after acts-after →
+    LeadsFrom q catalog calls acts (λ v. takes v values line) r catalog-after calls-after acts-after
+line-says q values said line r catalog calls acts catalog-after calls-after acts-after e h = rw e h
 
 pub line-refused :
-    (q : Seen) (x : Refusal) (at : ℕ) (r : Scanned) (catalog calls acts : List ℕ) →
+    (q : Seen) (x : Refusal) (line : ℕ) (r : Scanned) (catalog calls acts : List ℕ) →
     r .verdict ≡ Refused x →
-    LeadsFrom q catalog calls acts (λ v. takes v (RefusedLine x) at) r catalog calls acts
+    LeadsFrom q catalog calls acts (λ v. takes v (RefusedLine x) line) r catalog calls acts
 unfolding takes
-line-refused q x at r catalog calls acts t v h = t
+line-refused q x line r catalog calls acts t v h = t
 
 -- and is one that may be taken
-pub line-takeable : (q : Seen) (line said : Line) (catalog calls acts : List ℕ) → line ≡ said → Takeable q line catalog calls acts → Takeable q said catalog calls acts
-line-takeable q line said catalog calls acts e h = subst (λ (x : Line). Takeable q x catalog calls acts) e h
+pub line-takeable : (q : Seen) (values said : Line) (catalog calls acts : List ℕ) → values ≡ said → Takeable q values catalog calls acts → Takeable q said catalog calls acts
+line-takeable q values said catalog calls acts e h = subst (λ (x : Line). Takeable q x catalog calls acts) e h

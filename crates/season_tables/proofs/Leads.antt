@@ -18,7 +18,7 @@ use Rattle.line_fields.specs.Fields.{fieldsOf}
 use Rattle.season_lines.specs.Lines.{formOf, lineIn}
 use Rattle.season_lines.proofs.Pieces.{Says, line-says}
 use Rattle.season_lines.proofs.Held.{held-line}
-use Rattle.season_tables.specs.declared.TablePlace.{TablePlace}
+use Rattle.season_tables.specs.declared.Stage.{Stage}
 use Rattle.season_tables.specs.declared.Seen.{Seen}
 use Rattle.season_tables.specs.declared.Scanned.{Scanned}
 use Rattle.season_tables.specs.declared.LineRead.{LineRead}
@@ -61,39 +61,39 @@ must-may upto table k = go (eqb table 0)
 -- where each leads
 module _ (upto : ℕ) (v : Sofar) (l : List ℕ) (n : ℕ) where
   pub leads-names :
-      v .place .named ≡ false →
-      readLine upto v l n ≡ goesOn (namedBy (v .place) (formOf (v .place .table) l) n) (λ q. gives (record { place = q; read = v .read }))
+      v .stage .named ≡ false →
+      readLine upto v l n ≡ goesOn (namedBy (v .stage) (formOf (v .stage .table) l) n) (λ q. gives (record { stage = q; read = v .read }))
   unfolding readLine
-  leads-names e = unnamed (v .place .named) _ _ e
+  leads-names e = unnamed (v .stage .named) _ _ e
 
   pub leads-values :
-      wantsValues upto (v .place) (v .read .k) (length l) ≡ true →
+      wantsValues upto (v .stage) (v .read .k) (length l) ≡ true →
       readLine upto v l n
-      ≡ goesOn (takes (v .read) (lineIn (v .place .table) (v .place .heading) (fieldsOf l) n) n) (λ t. gives (record { place = v .place; read = t }))
+      ≡ goesOn (takes (v .read) (lineIn (v .stage .table) (v .stage .heading) (fieldsOf l) n) n) (λ t. gives (record { stage = v .stage; read = t }))
   unfolding readLine wantsValues
   leads-values e =
-      valued (v .place .named) (cond (eqb (length l) 0) (mayEnd upto (v .place .table) (v .read .k)) false) (mustEnd (v .place .table) (v .read .k)) _ _ _ _ e
+      valued (v .stage .named) (cond (eqb (length l) 0) (mayEnd upto (v .stage .table) (v .read .k)) false) (mustEnd (v .stage .table) (v .read .k)) _ _ _ _ e
 
   pub leads-blank :
-      v .place .named ≡ true →
-      wantsValues upto (v .place) (v .read .k) (length l) ≡ false →
-      readLine upto v l n ≡ goesOn (cond (eqb (length l) 0) (gives (nextTable (v .place))) (stops (Malformed n))) (λ q. gives (record { place = q; read = v .read }))
+      v .stage .named ≡ true →
+      wantsValues upto (v .stage) (v .read .k) (length l) ≡ false →
+      readLine upto v l n ≡ goesOn (cond (eqb (length l) 0) (gives (nextTable (v .stage))) (stops (Malformed n))) (λ q. gives (record { stage = q; read = v .read }))
   unfolding readLine wantsValues
   leads-blank e f =
-      blank (v .place .named) (eqb (length l) 0) (mayEnd upto (v .place .table) (v .read .k)) (mustEnd (v .place .table) (v .read .k)) _ _ _ _
-      (must-may upto (v .place .table) (v .read .k)) e f
+      blank (v .stage .named) (eqb (length l) 0) (mayEnd upto (v .stage .table) (v .read .k)) (mustEnd (v .stage .table) (v .read .k)) _ _ _ _
+      (must-may upto (v .stage .table) (v .read .k)) e f
       ∙ moving (eqb (length l) 0)
     where
       moving :
           (b : Bool) →
-          cond {A = OrRefusal Sofar} b (gives (record { place = nextTable (v .place); read = v .read })) (stops (Malformed n))
-          ≡ goesOn (cond b (gives (nextTable (v .place))) (stops (Malformed n))) (λ (q : TablePlace). gives (record { place = q; read = v .read }))
+          cond {A = OrRefusal Sofar} b (gives (record { stage = nextTable (v .stage); read = v .read })) (stops (Malformed n))
+          ≡ goesOn (cond b (gives (nextTable (v .stage))) (stops (Malformed n))) (λ (q : Stage). gives (record { stage = q; read = v .read }))
       moving true = refl
       moving false = refl
 
 -- a line says what it may here
 pub line-sayable :
-    (p : TablePlace) (q : Seen) (fs : List Field) (n : ℕ) (line : Line) →
+    (p : Stage) (q : Seen) (fs : List Field) (n : ℕ) (line : Line) →
     (p .table ≤ 1 → q .steps ≡ 0) →
     line ≡ lineIn (p .table) (p .heading) fs n →
     Sayable q line
@@ -106,37 +106,37 @@ line-sayable p q fs n line early e = go line (subst (Says (p .table) (length fs)
     go (ActLine place act) s = tt
     go (RefusedLine r) s = tt
 
--- the answer to a line that only moves the place
-module _ (p : TablePlace) (q : Seen) (r : Scanned) where
-  pub moves-on : (to : TablePlace) → r .verdict ≡ Taken → r .seen ≡ q → _≡_ {A = LineRead} (record { place = to; scanned = r }) (moved p q (gives to))
-  moves-on to e f = λ i. record { place = to; scanned = record { verdict = e i; seen = f i } }
+-- the answer to a line that only leads to another stage
+module _ (p : Stage) (q : Seen) (r : Scanned) where
+  pub moves-on : (to : Stage) → r .verdict ≡ Taken → r .seen ≡ q → _≡_ {A = LineRead} (record { stage = to; scanned = r }) (moved p q (gives to))
+  moves-on to e f = λ i. record { stage = to; scanned = record { verdict = e i; seen = f i } }
 
-  pub moves-next : r .verdict ≡ Taken → r .seen ≡ q → _≡_ {A = LineRead} (record { place = record { table = p .table + 1; named = false; heading = 0 }; scanned = r }) (moved p q (gives (nextTable p)))
-  moves-next e f = λ i. record { place = record { table = add-one (p .table) i; named = false; heading = 0 }; scanned = record { verdict = e i; seen = f i } }
+  pub moves-next : r .verdict ≡ Taken → r .seen ≡ q → _≡_ {A = LineRead} (record { stage = record { table = p .table + 1; named = false; heading = 0 }; scanned = r }) (moved p q (gives (nextTable p)))
+  moves-next e f = λ i. record { stage = record { table = add-one (p .table) i; named = false; heading = 0 }; scanned = record { verdict = e i; seen = f i } }
 
-  pub moves-not : (x : Refusal) → r .verdict ≡ Refused x → r .seen ≡ q → _≡_ {A = LineRead} (record { place = p; scanned = r }) (moved p q (stops x))
-  moves-not x e f = λ i. record { place = p; scanned = record { verdict = e i; seen = f i } }
+  pub moves-not : (x : Refusal) → r .verdict ≡ Refused x → r .seen ≡ q → _≡_ {A = LineRead} (record { stage = p; scanned = r }) (moved p q (stops x))
+  moves-not x e f = λ i. record { stage = p; scanned = record { verdict = e i; seen = f i } }
 
 -- and so for the struct
-module _ (upto : ℕ) (p : TablePlace) (q : Seen) (catalog calls acts l : List ℕ) (n : ℕ) (r : LineRead) where
-  -- a line that only moves the place
+module _ (upto : ℕ) (p : Stage) (q : Seen) (catalog calls acts l : List ℕ) (n : ℕ) (r : LineRead) where
+  -- a line that only leads to another stage
   moves :
-      (x : OrRefusal TablePlace) (v : Tables) →
+      (x : OrRefusal Stage) (v : Tables) →
       r ≡ moved p q x →
       Holds q catalog calls acts v →
-      LeadsTo (goesOn x (λ to. gives (record { place = to; read = v }))) r catalog calls acts
+      LeadsTo (goesOn x (λ to. gives (record { stage = to; read = v }))) r catalog calls acts
   moves (gives to) v e h = (
-    ap (λ (z : LineRead). z .place) e,
+    ap (λ (z : LineRead). z .stage) e,
     (ap (λ (z : LineRead). z .scanned .verdict) e, subst (λ (z : LineRead). Holds (z .scanned .seen) catalog calls acts v) (sym e) h),
   )
   moves (stops x) v e h = ap (λ (z : LineRead). z .scanned .verdict) e
 
-  moves-keeps : (x : OrRefusal TablePlace) → r ≡ moved p q x → KeepsLine p q catalog calls acts r catalog calls acts
+  moves-keeps : (x : OrRefusal Stage) → r ≡ moved p q x → KeepsLine p q catalog calls acts r catalog calls acts
   moves-keeps x e = record { kept = keeps-all q catalog calls acts (r .scanned) (λ y t. same x e .0); refused = λ y t. same x e .1 y t }
     where
-      same : (x : OrRefusal TablePlace) → r ≡ moved p q x → (r .scanned .seen ≡ q) × ((y : Refusal) → r .scanned .verdict ≡ Refused y → r .place ≡ p)
+      same : (x : OrRefusal Stage) → r ≡ moved p q x → (r .scanned .seen ≡ q) × ((y : Refusal) → r .scanned .verdict ≡ Refused y → r .stage ≡ p)
       same (gives to) e = (ap (λ (z : LineRead). z .scanned .seen) e, λ y t. absurd (not-refused _ y (ap (λ (z : LineRead). z .scanned .verdict) e) t))
-      same (stops x) e = (ap (λ (z : LineRead). z .scanned .seen) e, λ y t. ap (λ (z : LineRead). z .place) e)
+      same (stops x) e = (ap (λ (z : LineRead). z .scanned .seen) e, λ y t. ap (λ (z : LineRead). z .stage) e)
 
   pub lead-names :
       (names : Names) →
@@ -146,7 +146,7 @@ module _ (upto : ℕ) (p : TablePlace) (q : Seen) (catalog calls acts l : List �
       ReadsLine upto p q catalog calls acts l n r catalog calls acts × KeepsLine p q catalog calls acts r catalog calls acts
   lead-names names e f so = (
     λ v h.
-        subst (λ (x : OrRefusal Sofar). LeadsTo x r catalog calls acts) (sym (leads-names upto (record { place = p; read = v }) l n e))
+        subst (λ (x : OrRefusal Sofar). LeadsTo x r catalog calls acts) (sym (leads-names upto (record { stage = p; read = v }) l n e))
         (moves (namedBy p (formOf (p .table) l) n) v (so ∙ ap (λ (x : Names). moved p q (namedBy p x n)) f) h),
     moves-keeps (namedBy p names n) so,
   )
@@ -159,21 +159,21 @@ module _ (upto : ℕ) (p : TablePlace) (q : Seen) (catalog calls acts l : List �
       wantsValues upto p (q .k) (length l) ≡ true →
       Looked upto p (q .k) l fs →
       line ≡ lineIn (p .table) (p .heading) fs n →
-      r .place ≡ p →
+      r .stage ≡ p →
       LeadsFrom q catalog calls acts (λ v. takes v line n) (r .scanned) catalog-after calls-after acts-after →
       ReadsLine upto p q catalog calls acts l n r catalog-after calls-after acts-after
   lead-values fs line catalog-after calls-after acts-after due looked g stays led v h =
       let same : line ≡ lineIn (p .table) (p .heading) (fieldsOf l) n =
       g ∙ ap (λ (z : List Field). lineIn (p .table) (p .heading) z n) (looked due) ∙ held-line (p .table) (p .heading) (fieldsOf l) n in
       subst (λ (x : OrRefusal Sofar). LeadsTo x r catalog-after calls-after acts-after)
-      (ap (λ (x : Line). goesOn (takes v x n) (λ t. gives (record { place = p; read = t }))) same
-      ∙ sym (leads-values upto (record { place = p; read = v }) l n (same-wants v h ∙ due)))
+      (ap (λ (x : Line). goesOn (takes v x n) (λ t. gives (record { stage = p; read = t }))) same
+      ∙ sym (leads-values upto (record { stage = p; read = v }) l n (same-wants v h ∙ due)))
       (go (takes v line n) (led v h))
     where
       go :
           (x : OrRefusal Tables) →
           Leads x (r .scanned) catalog-after calls-after acts-after →
-          LeadsTo (goesOn x (λ t. gives (record { place = p; read = t }))) r catalog-after calls-after acts-after
+          LeadsTo (goesOn x (λ t. gives (record { stage = p; read = t }))) r catalog-after calls-after acts-after
       go (gives w) k = (stays, k)
       go (stops x) k = k
 
@@ -184,7 +184,7 @@ module _ (upto : ℕ) (p : TablePlace) (q : Seen) (catalog calls acts l : List �
       ReadsLine upto p q catalog calls acts l n r catalog calls acts × KeepsLine p q catalog calls acts r catalog calls acts
   lead-blank e none so = (
     λ v h.
-        subst (λ (x : OrRefusal Sofar). LeadsTo x r catalog calls acts) (sym (leads-blank upto (record { place = p; read = v }) l n e (same-wants v h ∙ none)))
+        subst (λ (x : OrRefusal Sofar). LeadsTo x r catalog calls acts) (sym (leads-blank upto (record { stage = p; read = v }) l n e (same-wants v h ∙ none)))
         (moves (cond (eqb (length l) 0) (gives (nextTable p)) (stops (Malformed n))) v so h),
     moves-keeps (cond (eqb (length l) 0) (gives (nextTable p)) (stops (Malformed n))) so,
   )

@@ -43,7 +43,7 @@ valueLines v = length (v .catalog) + length (v .steps) + length (v .acts)
 
 -- the lines that it takes, at least, to have read this much
 abbrev linesRead : Sofar → ℕ
-linesRead v = linesAbove (v .place .table) (v .read .k) + oneIf (v .place .named) + valueLines (v .read)
+linesRead v = linesAbove (v .stage .table) (v .read .k) + oneIf (v .stage .named) + valueLines (v .read)
 
 -- other sizes are one line more at most
 above-sizes : (t k j : ℕ) → linesAbove t j ≤ linesAbove t k + 1
@@ -65,25 +65,25 @@ ByLine count n (stops r) = refusalLine r ≡ n
 
 -- a line that is refused by its item names itself
 unless-by : (count : Tables → ℕ) (n number item : ℕ) (w : Tables) → count w ≤ n → ByLine count n (unlessRefused number n item w)
-unless-by count n number item w l = either (ByLine count n) (eqb number 0) _ _ (λ e. l) (λ e. told)
+unless-by count n number item w l = either (ByLine count n) (eqb number 0) _ _ (λ e. l) (λ e. itself)
   where
     Q : Refusal → Type 0
     Q r = refusalLine r ≡ n
 
-    told : Q (itemRefused number n item)
-    told =
+    itself : Q (itemRefused number n item)
+    itself =
         either Q (eqb number 6) _ _ (λ f. refl)
         (λ f. either Q (eqb number 7) _ _ (λ g. refl) (λ g. either Q (eqb number 19) _ _ (λ h. refl) (λ h. refl)))
 
 -- any value line, and any line
 module _ (n : ℕ) (v : Sofar) (few : linesRead v < n) where
   abbrev still : Tables → ℕ
-  still w = linesRead (record { place = v .place; read = w })
+  still w = linesRead (record { stage = v .stage; read = w })
 
   takes-by : (table fields : ℕ) (x : Line) → Says table fields n x → ByLine still n (takes (v .read) x n)
   unfolding takes
   takes-by table fields (Sizes k h r) o =
-      either (ByLine still n) (leb h k) _ _ (λ e. omega (arith, above-sizes (v .place .table) (v .read .k) k)) (λ e. refl)
+      either (ByLine still n) (leb h k) _ _ (λ e. omega (arith, above-sizes (v .stage .table) (v .read .k) k)) (λ e. refl)
   takes-by table fields (ItemLine i b c w) o =
       either (ByLine still n) (eqb i (length (v .read .catalog))) _ _
       (λ e. omega (arith, length-append (v .read .catalog) (listed b c w ∷ []))) (λ e. refl)
@@ -100,21 +100,21 @@ module _ (n : ℕ) (v : Sofar) (few : linesRead v < n) where
   line-by : (upto : ℕ) (l : List ℕ) → ByLine linesRead n (readLine upto v l n)
   unfolding readLine
   line-by upto l =
-      either Q (v .place .named) _ _
-      (λ e. either Q (cond (isBlank l) (mayEnd upto (v .place .table) (v .read .k)) false) _ _
-      (λ b. omega (arith, above-next (isBlank l) upto (v .place .table) (v .read .k) b, ap oneIf e))
-      (λ b. either Q (mustEnd (v .place .table) (v .read .k)) _ _ (λ m. refl)
-      (λ m. values (takes (v .read) _ n) (takes-by (v .place .table) (length (fieldsOf l)) _ (line-says (v .place .table) (v .place .heading) (fieldsOf l) n)))))
-      (λ e. names (formOf (v .place .table) l))
+      either Q (v .stage .named) _ _
+      (λ e. either Q (cond (isBlank l) (mayEnd upto (v .stage .table) (v .read .k)) false) _ _
+      (λ b. omega (arith, above-next (isBlank l) upto (v .stage .table) (v .read .k) b, ap oneIf e))
+      (λ b. either Q (mustEnd (v .stage .table) (v .read .k)) _ _ (λ m. refl)
+      (λ m. values (takes (v .read) _ n) (takes-by (v .stage .table) (length (fieldsOf l)) _ (line-says (v .stage .table) (v .stage .heading) (fieldsOf l) n)))))
+      (λ e. names (formOf (v .stage .table) l))
     where
       Q : OrRefusal Sofar → Type 0
       Q = ByLine linesRead n
 
-      values : (x : OrRefusal Tables) → ByLine still n x → Q (goesOn x (λ w. gives (record { place = v .place; read = w })))
+      values : (x : OrRefusal Tables) → ByLine still n x → Q (goesOn x (λ w. gives (record { stage = v .stage; read = w })))
       values (gives w) h = h
       values (stops r) h = h
 
-      names : (x : Names) → Q (goesOn (namedBy (v .place) x n) (λ p. gives (record { place = p; read = v .read })))
+      names : (x : Names) → Q (goesOn (namedBy (v .stage) x n) (λ p. gives (record { stage = p; read = v .read })))
       names (Form f) = omega arith
       names Unknown = refl
 
@@ -128,9 +128,9 @@ Within upto b (stops r) = refusalLine r ≤ b + 1
 
 end-within : (upto b n : ℕ) (v : Sofar) → linesRead v < n → n ≤ b + 1 → Within upto b (atEnd upto v n)
 end-within upto b n v few l =
-    either (Within upto b) (v .place .named && eqb (v .place .table) upto) _ _
-    (λ e. let ends = and-parts (v .place .named) (eqb (v .place .table) upto) e in
-    omega (arith, ap oneIf (ends .0), ap (λ t. linesAbove t (v .read .k)) (eqb-true (v .place .table) upto (ends .1)))) (λ e. l)
+    either (Within upto b) (v .stage .named && eqb (v .stage .table) upto) _ _
+    (λ e. let ends = and-parts (v .stage .named) (eqb (v .stage .table) upto) e in
+    omega (arith, ap oneIf (ends .0), ap (λ t. linesAbove t (v .read .k)) (eqb-true (v .stage .table) upto (ends .1)))) (λ e. l)
 
 then-within :
     (upto b n : ℕ) (x : OrRefusal Sofar) (next : Sofar → OrRefusal Tables) →

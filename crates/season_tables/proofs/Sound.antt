@@ -72,10 +72,10 @@ record Fits (v : Tables) : Type 0 where
 record After (u i : ℕ) (v : Sofar) : Type 0 where
   few : length (v .read .steps) + length (v .read .acts) ≤ i
   low : 1 ≤ u
-  tables : v .place .table ≤ u
-  sized : 1 ≤ v .place .table → 1 ≤ v .read .k
-  noSteps : v .place .table ≤ 1 → length (v .read .steps) ≡ 0
-  noActs : v .place .table ≤ 2 → length (v .read .acts) ≡ 0
+  tables : v .stage .table ≤ u
+  sized : 1 ≤ v .stage .table → 1 ≤ v .read .k
+  noSteps : v .stage .table ≤ 1 → length (v .read .steps) ≡ 0
+  noActs : v .stage .table ≤ 2 → length (v .read .acts) ≡ 0
   fits : Fits (v .read)
 
 -- a list of length 0 has no place j
@@ -142,7 +142,7 @@ act-fits v w a c s p f =
 -- ## Each line that leads on keeps it
 
 -- the line of names
-named-after : (u i : ℕ) (v : Sofar) (f : ℕ) → After u i v → After u (suc i) (record { place = record { table = v .place .table; named = true; heading = f }; read = v .read })
+named-after : (u i : ℕ) (v : Sofar) (f : ℕ) → After u i v → After u (suc i) (record { stage = record { table = v .stage .table; named = true; heading = f }; read = v .read })
 named-after u i v f p =
     record { few = omega (arith, p .few); low = p .low; tables = p .tables; sized = p .sized; noSteps = p .noSteps; noActs = p .noActs; fits = p .fits }
 
@@ -155,20 +155,20 @@ may-end upto table k low e = go (eqb table 0) refl e
     go false z e = (ltb-true table upto e, λ q. absurd (eqb-false table 0 z q))
 
 -- the blank line
-next-after : (u i : ℕ) (v : Sofar) → After u i v → mayEnd u (v .place .table) (v .read .k) ≡ true → After u (suc i) (record { place = nextTable (v .place); read = v .read })
+next-after : (u i : ℕ) (v : Sofar) → After u i v → mayEnd u (v .stage .table) (v .read .k) ≡ true → After u (suc i) (record { stage = nextTable (v .stage); read = v .read })
 next-after u i v p e =
     record {
       few = omega (arith, p .few);
       low = p .low;
-      tables = may-end u (v .place .table) (v .read .k) (p .low) e .0;
-      sized = λ l. sized (ℕ-discrete (v .place .table) 0);
+      tables = may-end u (v .stage .table) (v .read .k) (p .low) e .0;
+      sized = λ l. sized (ℕ-discrete (v .stage .table) 0);
       noSteps = λ l. p .noSteps (omega arith);
       noActs = λ l. p .noActs (omega arith);
       fits = p .fits;
     }
   where
-    sized : Dec (v .place .table ≡ 0) → 1 ≤ v .read .k
-    sized (yes z) = may-end u (v .place .table) (v .read .k) (p .low) e .1 z
+    sized : Dec (v .stage .table ≡ 0) → 1 ≤ v .read .k
+    sized (yes z) = may-end u (v .stage .table) (v .read .k) (p .low) e .1 z
     sized (no z) = p .sized (omega arith)
 
 -- the last place is that of the act just read
@@ -179,11 +179,11 @@ last-more acts a = fold-append (λ (p : ℕ) (a : Placed). a .place) 0 acts (a �
 -- ## A value line of each table: what stands in the later tables is not read yet
 
 module _ (u i fields n : ℕ) (v : Sofar) (p : After u i v) where
-  -- the place is where it was
+  -- the stage stays
   abbrev Still : Tables → Type 0
-  Still w = After u (suc i) (record { place = v .place; read = w })
+  Still w = After u (suc i) (record { stage = v .stage; read = w })
 
-  sizes-after : (k h : ℕ) (r : Deduction) → Says (v .place .table) fields n (Sizes k h r) → h ≤ k → Still (withSizes (v .read) k h r)
+  sizes-after : (k h : ℕ) (r : Deduction) → Says (v .stage .table) fields n (Sizes k h r) → h ≤ k → Still (withSizes (v .read) k h r)
   sizes-after k h r s l =
       let noSteps : length (v .read .steps) ≡ 0 = p .noSteps (omega arith) in
       let noActs : length (v .read .acts) ≡ 0 = p .noActs (omega arith) in
@@ -207,7 +207,7 @@ module _ (u i fields n : ℕ) (v : Sofar) (p : After u i v) where
 
   item-after :
       (number b l w : ℕ) →
-      Says (v .place .table) fields n (ItemLine number b l w) →
+      Says (v .stage .table) fields n (ItemLine number b l w) →
       number ≡ length (v .read .catalog) →
       Still (withItem (v .read) b l w)
   item-after number b l w s e =
@@ -238,7 +238,7 @@ module _ (u i fields n : ℕ) (v : Sofar) (p : After u i v) where
 
   step-after :
       (s : Step) →
-      Says (v .place .table) fields n (StepLine s) →
+      Says (v .stage .table) fields n (StepLine s) →
       itemRefusal (v .read .k) (catalogAfter (v .read .catalog) (v .read .steps)) s ≡ 0 →
       Still (withStep (v .read) s)
   step-after s r e =
@@ -274,7 +274,7 @@ module _ (u i fields n : ℕ) (v : Sofar) (p : After u i v) where
 
   act-after :
       (place : ℕ) (act : Act) →
-      3 ≤ v .place .table →
+      3 ≤ v .stage .table →
       inTurn (v .read) place ≡ true →
       ifKnown (catalogBefore (v .read) place) (actItem act) 0 ≡ 0 →
       Still (withAct (v .read) place act)
@@ -329,7 +329,7 @@ module _ (u i fields n : ℕ) (v : Sofar) (p : After u i v) where
           rw (List·getD-append (t .acts) (a ∷ []) _ i c, List·getD-append (t .acts) (a ∷ []) _ j b) (p .fits .inOrder i j m b)
 
   -- any value line
-  takes-after : (x : Line) → Says (v .place .table) fields n x → Leading Still (takes (v .read) x n)
+  takes-after : (x : Line) → Says (v .stage .table) fields n x → Leading Still (takes (v .read) x n)
   unfolding takes
   takes-after (Sizes k h r) s = either (Leading Still) (leb h k) _ _ (λ e. sizes-after k h r s (leb-true h k e)) (λ e. tt)
   takes-after (ItemLine number b l w) s =
@@ -362,18 +362,18 @@ blank false b e = absurd (false≢true e)
 line-after : (u i n : ℕ) (v : Sofar) (l : List ℕ) → After u i v → Leading (After u (suc i)) (readLine u v l n)
 unfolding readLine
 line-after u i n v l p =
-    either Q (v .place .named) _ _
-    (λ e. either Q (cond (isBlank l) (mayEnd u (v .place .table) (v .read .k)) false) _ _
-    (λ b. next-after u i v p (blank (isBlank l) (mayEnd u (v .place .table) (v .read .k)) b))
-    (λ b. either Q (mustEnd (v .place .table) (v .read .k)) _ _ (λ m. tt)
+    either Q (v .stage .named) _ _
+    (λ e. either Q (cond (isBlank l) (mayEnd u (v .stage .table) (v .read .k)) false) _ _
+    (λ b. next-after u i v p (blank (isBlank l) (mayEnd u (v .stage .table) (v .read .k)) b))
+    (λ b. either Q (mustEnd (v .stage .table) (v .read .k)) _ _ (λ m. tt)
     (λ m. goes-on _ (After u (suc i)) (takes (v .read) _ n) _
-    (takes-after u i (length (fieldsOf l)) n v p _ (line-says (v .place .table) (v .place .heading) (fieldsOf l) n)) (λ w q. q))))
-    (λ e. names (formOf (v .place .table) l))
+    (takes-after u i (length (fieldsOf l)) n v p _ (line-says (v .stage .table) (v .stage .heading) (fieldsOf l) n)) (λ w q. q))))
+    (λ e. names (formOf (v .stage .table) l))
   where
     Q : OrRefusal Sofar → Type 0
     Q = Leading (After u (suc i))
 
-    names : (x : Names) → Q (goesOn (namedBy (v .place) x n) (λ q. gives (record { place = q; read = v .read })))
+    names : (x : Names) → Q (goesOn (namedBy (v .stage) x n) (λ q. gives (record { stage = q; read = v .read })))
     names (Form f) = named-after u i v f p
     names Unknown = tt
 
@@ -387,10 +387,10 @@ record Ended (b : ℕ) (v : Tables) : Type 0 where
 
 end-after : (u i b n : ℕ) (v : Sofar) → i ≤ b → After u i v → Leading (Ended b) (atEnd u v n)
 end-after u i b n v l p =
-    either (Leading (Ended b)) (v .place .named && eqb (v .place .table) u) _ _
-    (λ e. done (eqb-true (v .place .table) u (and-parts (v .place .named) (eqb (v .place .table) u) e .1))) (λ e. tt)
+    either (Leading (Ended b)) (v .stage .named && eqb (v .stage .table) u) _ _
+    (λ e. done (eqb-true (v .stage .table) u (and-parts (v .stage .named) (eqb (v .stage .table) u) e .1))) (λ e. tt)
   where
-    done : v .place .table ≡ u → Ended b (v .read)
+    done : v .stage .table ≡ u → Ended b (v .read)
     done e = record { few = omega (arith, p .few); sized = p .sized (omega (arith, p .low)); fits = p .fits }
 
 read-after :

@@ -1,11 +1,11 @@
 -- How the program holds what has been read: the sizes and counts in a struct, with what is known of the items; the items as bytes in one
--- lent slice, the steps and acts as numbers in two; and what a line leaves of them as it was. The place in the reading it holds as it is.
+-- lent slice, the steps and acts as numbers in two; and what a line leaves of them as it was. The stage of the reading it holds as it is.
 -- Assumes nothing.
 use lib.{ListN.{length, take, drop}, Dec.{eqb, leb}}
 use Rattle.types.specs.{declared.{Step.Step, Act.Act, Deduction.the-variants.WriteFirst, Refusal.{Refusal, the-variants.Heading}}, Types.{numbersOf, actKind, actItem}}
 use Rattle.landlord.specs.{Fold.fold, Catalog.catalogAfter, Calls.inRange}
 use mathlib.Core.{Bool.{Bool, true, false, cond, not, _&&_}, List.{List, [], _∷_, map}, Path._≡_}
-use Rattle.season_tables.specs.declared.{TablePlace.TablePlace, Seen.Seen, Scanned.Scanned, LineRead.LineRead, Verdict.{Verdict, the-variants.{Taken, Refused}}}
+use Rattle.season_tables.specs.declared.{Stage.Stage, Seen.Seen, Scanned.Scanned, LineRead.LineRead, Verdict.{Verdict, the-variants.{Taken, Refused}}}
 use Rattle.season_tables.specs.Tables.{Placed, Tables, Sofar, OrRefusal, gives, stops, mayEnd, mustEnd, readLine}
 use Prim.Native.Nat.{ℕ, _*_, _≤_}
 use Rattle.catalog_bytes.specs.Inner.{catalogOfFirst}
@@ -56,7 +56,7 @@ nothingRead =
     record { k = 0; h = 0; rule = WriteFirst; n = 0; steps = 0; acts = 0; last = 0; present = nonePresent; earlier = nonePresent }
 
 -- the verdict at the end of an input whose last table is the one numbered `upto`, on line n
-abbrev pub endVerdict : ℕ → TablePlace → ℕ → Verdict
+abbrev pub endVerdict : ℕ → Stage → ℕ → Verdict
 endVerdict upto p n = cond (p .named && eqb (p .table) upto) Taken (Refused (Heading n))
 
 -- the answer to a value line, or to all lines: taken, with what has been read then; or the refusal
@@ -113,37 +113,37 @@ pub record Keeps (q : Seen) (catalog calls acts : List ℕ) (r : Scanned) (catal
   pub past : Untouched (r .seen) catalog calls acts catalog-after calls-after acts-after
   pub refused : (x : Refusal) → r .verdict ≡ Refused x → Unchanged q catalog calls acts (r .seen) catalog-after calls-after acts-after
 
--- ## Any line, with its place
+-- ## Any line, with the stage of the reading
 
--- the answer to a line that only moves the place, or is refused
-abbrev pub moved : TablePlace → Seen → OrRefusal TablePlace → LineRead
-moved p q (gives to) = record { place = to; scanned = record { verdict = Taken; seen = q } }
-moved p q (stops x) = record { place = p; scanned = record { verdict = Refused x; seen = q } }
+-- the answer to a line that only leads to another stage, or is refused
+abbrev pub moved : Stage → Seen → OrRefusal Stage → LineRead
+moved p q (gives to) = record { stage = to; scanned = record { verdict = Taken; seen = q } }
+moved p q (stops x) = record { stage = p; scanned = record { verdict = Refused x; seen = q } }
 
--- the answer to any line: taken, with the place and what has been read then; or the refusal
+-- the answer to any line: taken, with the stage and what has been read then; or the refusal
 abbrev pub LeadsTo : OrRefusal Sofar → LineRead → List ℕ → List ℕ → List ℕ → Type 0
-LeadsTo (gives v) r catalog calls acts = (r .place ≡ v .place) × Leads (gives (v .read)) (r .scanned) catalog calls acts
+LeadsTo (gives v) r catalog calls acts = (r .stage ≡ v .stage) × Leads (gives (v .read)) (r .scanned) catalog calls acts
 LeadsTo (stops x) r catalog calls acts = r .scanned .verdict ≡ Refused x
 
--- and so from a place, for line l, the n-th, of a text whose last table is the one numbered `upto`
-abbrev pub ReadsLine : ℕ → TablePlace → Seen → List ℕ → List ℕ → List ℕ → List ℕ → ℕ → LineRead → List ℕ → List ℕ → List ℕ → Type 0
+-- and so from a stage, for line l, the n-th, of a text whose last table is the one numbered `upto`
+abbrev pub ReadsLine : ℕ → Stage → Seen → List ℕ → List ℕ → List ℕ → List ℕ → ℕ → LineRead → List ℕ → List ℕ → List ℕ → Type 0
 ReadsLine upto p q catalog calls acts l n r catalog-after calls-after acts-after =
     (v : Tables) →
     Holds q catalog calls acts v →
-    LeadsTo (readLine upto (record { place = p; read = v }) l n) r catalog-after calls-after acts-after
+    LeadsTo (readLine upto (record { stage = p; read = v }) l n) r catalog-after calls-after acts-after
 
--- What it leaves as it was; after a refusal the place too.
-pub record KeepsLine (p : TablePlace) (q : Seen) (catalog calls acts : List ℕ) (r : LineRead) (catalog-after calls-after acts-after : List ℕ) : Type 0 where
+-- What it leaves as it was; after a refusal the stage too.
+pub record KeepsLine (p : Stage) (q : Seen) (catalog calls acts : List ℕ) (r : LineRead) (catalog-after calls-after acts-after : List ℕ) : Type 0 where
   pub kept : Keeps q catalog calls acts (r .scanned) catalog-after calls-after acts-after
-  pub refused : (x : Refusal) → r .scanned .verdict ≡ Refused x → r .place ≡ p
+  pub refused : (x : Refusal) → r .scanned .verdict ≡ Refused x → r .stage ≡ p
 
 -- whether the fields of a line of so many bytes are looked at: a value line is due, and this is not the blank line
-unfoldable pub wantsValues : ℕ → TablePlace → ℕ → ℕ → Bool
+unfoldable pub wantsValues : ℕ → Stage → ℕ → ℕ → Bool
 wantsValues upto p k bytes =
     cond (p .named) (cond (cond (eqb bytes 0) (mayEnd upto (p .table) k) false) false (not (mustEnd (p .table) k))) false
 
 -- if a line is one with values, these are its fields, as the program holds them
-abbrev pub Looked : ℕ → TablePlace → ℕ → List ℕ → List Field → Type 0
+abbrev pub Looked : ℕ → Stage → ℕ → List ℕ → List Field → Type 0
 Looked upto p k l fs = wantsValues upto p k (length l) ≡ true → fs ≡ map heldField (fieldsOf l)
 
 -- ## What is asked
@@ -187,7 +187,7 @@ pub record ActTakeable (q : Seen) (place : ℕ) (act : Act) (calls acts : List �
   pub line : Takeable q (ActLine place act) catalog calls acts
 
 -- what a line asks: the struct and the slices hold what has been read, no step before the end of the catalog, and its fields were looked at
-pub record LineReadable (upto : ℕ) (p : TablePlace) (q : Seen) (l : List ℕ) (fields : List Field) (count : ℕ) (catalog calls acts : List ℕ) : Type 0 where
+pub record LineReadable (upto : ℕ) (p : Stage) (q : Seen) (l : List ℕ) (fields : List Field) (count : ℕ) (catalog calls acts : List ℕ) : Type 0 where
   pub room : Room q catalog calls acts
   pub judgeable : Judgeable fields count
   pub table : p .table ≤ 3

@@ -9,7 +9,7 @@ use Rattle.landlord.specs.{Fold.fold, Catalog.{Catalog, listed, catalogAfter}, 
 use Rattle.season_lines.specs.declared.{Names.{Names, the-variants.{Form, Unknown}}, Line.{Line, the-variants.{Sizes, Item as ItemLine, Step as StepLine, Act as ActLine, Refused}}}
 use Rattle.line_fields.specs.Fields.{split, fieldsOf}
 use Rattle.season_lines.specs.Lines.{formOf, lineIn}
-use Rattle.season_tables.specs.declared.TablePlace.{TablePlace}
+use Rattle.season_tables.specs.declared.Stage.{Stage}
 
 -- an act of the text: the 0-based step before which it stands, and what it does
 pub record Placed : Type 0 where
@@ -26,16 +26,16 @@ pub record Tables : Type 0 where
   pub steps : List Step
   pub acts : List Placed
 
--- What has been read, and the place where the reading is: in which table, the tables counted from 0; whether behind the table's line of
+-- What has been read, and the stage of the reading: in which table, the tables counted from 0; whether behind the table's line of
 -- names; and which of its headings that was, 0 before it.
 pub record Sofar : Type 0 where
-  pub place : TablePlace
+  pub stage : Stage
   pub read : Tables
 
 -- before the first line
 abbrev pub atStart : Sofar
 atStart =
-    record { place = record { table = 0; named = false; heading = 0 }; read = record { k = 0; h = 0; rule = WriteFirst; catalog = []; steps = []; acts = [] } }
+    record { stage = record { table = 0; named = false; heading = 0 }; read = record { k = 0; h = 0; rule = WriteFirst; catalog = []; steps = []; acts = [] } }
 
 -- what a line or a text gives, or the refusal that stops the reading there
 pub data OrRefusal (A : Type 0) : Type 0 where
@@ -104,28 +104,28 @@ abbrev pub mustEnd : ℕ → ℕ → Bool
 mustEnd table k = cond (eqb table 0) (leb 1 k) false
 
 -- the blank line is read: the next table's names are due
-abbrev pub nextTable : TablePlace → TablePlace
+abbrev pub nextTable : Stage → Stage
 nextTable p = record { table = suc (p .table); named = false; heading = 0 }
 
 -- the line of names, on line n: a heading of its table, or 2
-abbrev pub namedBy : TablePlace → Names → ℕ → OrRefusal TablePlace
+abbrev pub namedBy : Stage → Names → ℕ → OrRefusal Stage
 namedBy p (Form f) n = gives (record { table = p .table; named = true; heading = f })
 namedBy p Unknown n = stops (Heading n)
 
 -- a line l, ended by its line feed, on line n of a text whose last table is the one numbered `upto`
 unfoldable pub readLine : ℕ → Sofar → List ℕ → ℕ → OrRefusal Sofar
 readLine upto v l n =
-    let p = v .place in
+    let p = v .stage in
     let t = v .read in
     cond (p .named)
-    (cond (cond (eqb (length l) 0) (mayEnd upto (p .table) (t .k)) false) (gives (record { place = nextTable p; read = t }))
+    (cond (cond (eqb (length l) 0) (mayEnd upto (p .table) (t .k)) false) (gives (record { stage = nextTable p; read = t }))
     (cond (mustEnd (p .table) (t .k)) (stops (Malformed n))
-    (goesOn (takes t (lineIn (p .table) (p .heading) (fieldsOf l) n) n) (λ u. gives (record { place = p; read = u })))))
-    (goesOn (namedBy p (formOf (p .table) l) n) (λ q. gives (record { place = q; read = t })))
+    (goesOn (takes t (lineIn (p .table) (p .heading) (fieldsOf l) n) n) (λ u. gives (record { stage = p; read = u })))))
+    (goesOn (namedBy p (formOf (p .table) l) n) (λ q. gives (record { stage = q; read = t })))
 
 -- The input's end, on line n: all is read behind the names of the last table, else "the input ends where a line is due".
 abbrev pub atEnd : ℕ → Sofar → ℕ → OrRefusal Tables
-atEnd upto v n = cond (v .place .named && eqb (v .place .table) upto) (gives (v .read)) (stops (Heading n))
+atEnd upto v n = cond (v .stage .named && eqb (v .stage .table) upto) (gives (v .read)) (stops (Heading n))
 
 -- The lines from line n on. The last piece is what stands behind the last line feed: bytes there are a line without one.
 unfoldable pub readFrom : ℕ → ℕ → List (List ℕ) → Sofar → OrRefusal Tables

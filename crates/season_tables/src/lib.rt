@@ -18,9 +18,9 @@ use types::Deduction;
 use types::Refusal;
 use types::Step;
 
-// The place in the reading: in which table, the tables counted from 0; whether behind its line of names; and which of its headings that
+// The stage of the reading: in which table, the tables counted from 0; whether behind its line of names; and which of its headings that
 // was, 0 before it.
-pub struct TablePlace {
+pub struct Stage {
     pub table: u32,
     pub named: bool,
     pub heading: u32,
@@ -52,9 +52,9 @@ pub struct Scanned {
     pub seen: Seen,
 }
 
-// The answer to any line, with the place then.
+// The answer to any line, with the stage then.
 pub struct LineRead {
-    pub place: TablePlace,
+    pub stage: Stage,
     pub scanned: Scanned,
 }
 
@@ -79,25 +79,25 @@ fn must_end(table: u32, k: u32) -> bool
 }
 
 // Whether the fields of a line of so many bytes are looked at: a value line is due, and this is not the blank line.
-pub fn wants_values(upto: u32, place: TablePlace, k: u32, bytes: usize) -> bool
-    ensures { λ r. ⌜ r ≡ wantsValues upto place k bytes ⌝ }
+pub fn wants_values(upto: u32, stage: Stage, k: u32, bytes: usize) -> bool
+    ensures { λ r. ⌜ r ≡ wantsValues upto stage k bytes ⌝ }
 {
-    if !place.named {
+    if !stage.named {
         return false;
     }
     if bytes == 0 {
-        if may_end(upto, place.table, k) {
+        if may_end(upto, stage.table, k) {
             return false;
         }
     }
-    !must_end(place.table, k)
+    !must_end(stage.table, k)
 }
 
-// The place of the first line.
-pub fn at_start() -> TablePlace
-    ensures { λ r. ⌜ r ≡ atStart .place ⌝ }
+// The stage before the first line.
+pub fn at_start() -> Stage
+    ensures { λ r. ⌜ r ≡ atStart .stage ⌝ }
 {
-    TablePlace {
+    Stage {
         table: 0,
         named: false,
         heading: 0,
@@ -141,54 +141,54 @@ pub fn stopped(seen: Seen, r: Refusal) -> Scanned
 }
 
 // The line of names, a heading of its table or not.
-fn take_names(place: TablePlace, seen: Seen, names: Names, at: u32) -> LineRead
-    ensures { λ r. ⌜ r ≡ moved place seen (namedBy place names at) ⌝ }
+fn take_names(stage: Stage, seen: Seen, names: Names, line: u32) -> LineRead
+    ensures { λ r. ⌜ r ≡ moved stage seen (namedBy stage names line) ⌝ }
 {
     match names {
         Names::Form(heading) => {
-            let mut next = place;
+            let mut next = stage;
             next.named = true;
             next.heading = heading;
             LineRead {
-                place: next,
+                stage: next,
                 scanned: taken(seen),
             }
         }
         Names::Unknown => LineRead {
-            place: place,
-            scanned: stopped(seen, Refusal::Heading { line: at }),
+            stage: stage,
+            scanned: stopped(seen, Refusal::Heading { line: line }),
         },
     }
 }
 
 // The blank line between two tables, or what stands in its place.
-fn take_blank(place: TablePlace, seen: Seen, bytes: usize, at: u32) -> LineRead
-    requires { ⌜ place .table ≤ 3 ⌝ }
-    ensures { λ r. ⌜ r ≡ moved place seen (cond (eqb bytes 0) (gives (nextTable place)) (stops (Malformed at))) ⌝ }
+fn take_blank(stage: Stage, seen: Seen, bytes: usize, line: u32) -> LineRead
+    requires { ⌜ stage .table ≤ 3 ⌝ }
+    ensures { λ r. ⌜ r ≡ moved stage seen (cond (eqb bytes 0) (gives (nextTable stage)) (stops (Malformed line))) ⌝ }
 {
     if bytes != 0 {
         return LineRead {
-            place: place,
-            scanned: stopped(seen, Refusal::Malformed { line: at }),
+            stage: stage,
+            scanned: stopped(seen, Refusal::Malformed { line: line }),
         };
     }
-    let next = TablePlace {
-        table: place.table + 1,
+    let next = Stage {
+        table: stage.table + 1,
         named: false,
         heading: 0,
     };
     LineRead {
-        place: next,
+        stage: next,
         scanned: taken(seen),
     }
 }
 
-fn take_sizes(seen: Seen, k: u32, h: u32, rule: Deduction, at: u32) -> Scanned
-    ensures { λ r. ⌜ LeadsBy seen (λ v. takes v (Sizes k h rule) at) r ⌝ }
+fn take_sizes(seen: Seen, k: u32, h: u32, rule: Deduction, line: u32) -> Scanned
+    ensures { λ r. ⌜ LeadsBy seen (λ v. takes v (Sizes k h rule) line) r ⌝ }
     ensures { λ r. ⌜ KeepsSeen seen r ⌝ }
 {
     if k < h {
-        return stopped(seen, Refusal::PlanTooLarge { line: at });
+        return stopped(seen, Refusal::PlanTooLarge { line: line });
     }
     let present = seen.present;
     let earlier = seen.earlier;
@@ -211,16 +211,16 @@ fn take_item(
     blocks: u8,
     load: u16,
     write: u16,
-    at: u32,
+    line: u32,
     catalog: &mut [u8],
 ) -> Scanned
     requires { ⌜ (number ≤ 255) × (seen .steps ≡ 0) × (1280 ≤ length (now catalog)) ⌝ }
-    ensures { λ r. ⌜ NotesItem seen (now (catalog .entry)) (λ v. takes v (ItemLine number blocks load write) at) r (now (catalog .exit)) ⌝ }
+    ensures { λ r. ⌜ NotesItem seen (now (catalog .entry)) (λ v. takes v (ItemLine number blocks load write) line) r (now (catalog .exit)) ⌝ }
     ensures { λ r. ⌜ KeepsPast (5 * r .seen .present .n) seen (now (catalog .entry)) r (now (catalog .exit)) ⌝ }
 {
     let i = number as usize;
     if i != seen.n {
-        return stopped(seen, Refusal::OutOfSequence { line: at });
+        return stopped(seen, Refusal::OutOfSequence { line: line });
     }
     catalog_bytes::put(catalog, i, blocks, load, write);
     let mut q = seen;
@@ -231,15 +231,15 @@ fn take_item(
     taken(q)
 }
 
-fn take_step(seen: Seen, step: Step, at: u32, catalog: &mut [u8], calls: &mut [u32]) -> Scanned
+fn take_step(seen: Seen, step: Step, line: u32, catalog: &mut [u8], calls: &mut [u32]) -> Scanned
     requires { ⌜ StepTakeable seen step (now catalog) (now calls) ⌝ }
-    ensures { λ r. ⌜ NotesStep seen (now (catalog .entry)) (now (calls .entry)) (λ v. takes v (StepLine step) at) r (now (catalog .exit)) (now (calls .exit)) ⌝ }
+    ensures { λ r. ⌜ NotesStep seen (now (catalog .entry)) (now (calls .entry)) (λ v. takes v (StepLine step) line) r (now (catalog .exit)) (now (calls .exit)) ⌝ }
     ensures { λ r. ⌜ KeepsPast (5 * r .seen .present .n) seen (now (catalog .entry)) r (now (catalog .exit)) ⌝ }
     ensures { λ r. ⌜ KeepsPast (7 * r .seen .steps) seen (now (calls .entry)) r (now (calls .exit)) ⌝ }
 {
     let number = season_items::step_refused(seen.k, seen.present, catalog, step);
     if number != 0 {
-        return stopped(seen, types::refusal_of(number, at, step.item()));
+        return stopped(seen, types::refusal_of(number, line, step.item()));
     }
     let steps = seen.steps;
     let numbers = step.numbers();
@@ -252,20 +252,20 @@ fn take_step(seen: Seen, step: Step, at: u32, catalog: &mut [u8], calls: &mut [u
     taken(q)
 }
 
-fn take_act(seen: Seen, place: u32, act: Act, at: u32, calls: &[u32], acts: &mut [u32]) -> Scanned
+fn take_act(seen: Seen, place: u32, act: Act, line: u32, calls: &[u32], acts: &mut [u32]) -> Scanned
     requires { ⌜ ActTakeable seen place act (now calls) (now acts) ⌝ }
-    ensures { λ r. ⌜ NotesAct seen (now (calls .entry)) (now (acts .entry)) (λ v. takes v (ActLine place act) at) r (now (acts .exit)) ⌝ }
+    ensures { λ r. ⌜ NotesAct seen (now (calls .entry)) (now (acts .entry)) (λ v. takes v (ActLine place act) line) r (now (acts .exit)) ⌝ }
     ensures { λ r. ⌜ KeepsPast (3 * r .seen .acts) seen (now (acts .entry)) r (now (acts .exit)) ⌝ }
 {
     let item = act.item();
     // It may not fall, and there is such a step.
     if place < seen.last || seen.steps <= place as usize {
-        return stopped(seen, Refusal::ActOutOfOrder { line: at });
+        return stopped(seen, Refusal::ActOutOfOrder { line: line });
     }
     let earlier = season_items::caught_up(seen.earlier, calls, seen.last as usize, place as usize);
     let number = season_items::known(earlier, item);
     if number != 0 {
-        return stopped(seen, types::refusal_of(number, at, item));
+        return stopped(seen, types::refusal_of(number, line, item));
     }
     let count = seen.acts;
     season_items::put_act(acts, 3 * count, place, act);
@@ -279,26 +279,26 @@ fn take_act(seen: Seen, place: u32, act: Act, at: u32, calls: &[u32], acts: &mut
 // A value line that is shaped and in range.
 fn take_line(
     seen: Seen,
-    line: Line,
-    at: u32,
+    values: Line,
+    line: u32,
     catalog: &mut [u8],
     calls: &mut [u32],
     acts: &mut [u32],
 ) -> Scanned
-    requires { ⌜ Takeable seen line (now catalog) (now calls) (now acts) ⌝ }
-    ensures { λ r. ⌜ LeadsFrom seen (now (catalog .entry)) (now (calls .entry)) (now (acts .entry)) (λ v. takes v line at) r (now (catalog .exit)) (now (calls .exit)) (now (acts .exit)) ⌝ }
+    requires { ⌜ Takeable seen values (now catalog) (now calls) (now acts) ⌝ }
+    ensures { λ r. ⌜ LeadsFrom seen (now (catalog .entry)) (now (calls .entry)) (now (acts .entry)) (λ v. takes v values line) r (now (catalog .exit)) (now (calls .exit)) (now (acts .exit)) ⌝ }
     ensures { λ r. ⌜ Keeps seen (now (catalog .entry)) (now (calls .entry)) (now (acts .entry)) r (now (catalog .exit)) (now (calls .exit)) (now (acts .exit)) ⌝ }
 {
-    match line {
-        Line::Sizes { k, h, rule } => take_sizes(seen, k, h, rule, at),
+    match values {
+        Line::Sizes { k, h, rule } => take_sizes(seen, k, h, rule, line),
         Line::Item {
             number,
             blocks,
             load,
             write,
-        } => take_item(seen, number, blocks, load, write, at, catalog),
-        Line::Step(step) => take_step(seen, step, at, catalog, calls),
-        Line::Act { place, act } => take_act(seen, place, act, at, calls, acts),
+        } => take_item(seen, number, blocks, load, write, line, catalog),
+        Line::Step(step) => take_step(seen, step, line, catalog, calls),
+        Line::Act { place, act } => take_act(seen, place, act, line, calls, acts),
         Line::Refused(r) => stopped(seen, r),
     }
 }
@@ -307,42 +307,42 @@ fn take_line(
 // values.
 pub fn read_line(
     upto: u32,
-    place: TablePlace,
+    stage: Stage,
     seen: Seen,
     text: &[u8],
     fields: [Field; 6],
     count: usize,
-    at: u32,
+    line: u32,
     catalog: &mut [u8],
     calls: &mut [u32],
     acts: &mut [u32],
 ) -> LineRead
-    requires { ⌜ LineReadable upto place seen (now text) fields count (now catalog) (now calls) (now acts) ⌝ }
-    ensures { λ r. ⌜ ReadsLine upto place seen (now (catalog .entry)) (now (calls .entry)) (now (acts .entry)) (now (text .entry)) at r (now (catalog .exit)) (now (calls .exit)) (now (acts .exit)) ⌝ }
-    ensures { λ r. ⌜ KeepsLine place seen (now (catalog .entry)) (now (calls .entry)) (now (acts .entry)) r (now (catalog .exit)) (now (calls .exit)) (now (acts .exit)) ⌝ }
+    requires { ⌜ LineReadable upto stage seen (now text) fields count (now catalog) (now calls) (now acts) ⌝ }
+    ensures { λ r. ⌜ ReadsLine upto stage seen (now (catalog .entry)) (now (calls .entry)) (now (acts .entry)) (now (text .entry)) line r (now (catalog .exit)) (now (calls .exit)) (now (acts .exit)) ⌝ }
+    ensures { λ r. ⌜ KeepsLine stage seen (now (catalog .entry)) (now (calls .entry)) (now (acts .entry)) r (now (catalog .exit)) (now (calls .exit)) (now (acts .exit)) ⌝ }
 {
-    if !place.named {
-        return take_names(place, seen, season_lines::form_of(place.table, text), at);
+    if !stage.named {
+        return take_names(stage, seen, season_lines::form_of(stage.table, text), line);
     }
-    if wants_values(upto, place, seen.k, text.len()) {
-        let line = season_lines::line_in(place.table, place.heading, fields, count, at);
+    if wants_values(upto, stage, seen.k, text.len()) {
+        let values = season_lines::line_in(stage.table, stage.heading, fields, count, line);
         return LineRead {
-            place: place,
-            scanned: take_line(seen, line, at, catalog, calls, acts),
+            stage: stage,
+            scanned: take_line(seen, values, line, catalog, calls, acts),
         };
     }
-    take_blank(place, seen, text.len(), at)
+    take_blank(stage, seen, text.len(), line)
 }
 
 // The end of an input whose last table is the one numbered `upto`: all is read behind its names.
-pub fn ended(upto: u32, place: TablePlace, seen: Seen, at: u32) -> Scanned
-    ensures { λ r. ⌜ (r .verdict ≡ endVerdict upto place at) × (r .seen ≡ seen) ⌝ }
-    ensures { λ r. ⌜ LeadsBy seen (λ v. atEnd upto (record { place = place; read = v }) at) r ⌝ }
+pub fn ended(upto: u32, stage: Stage, seen: Seen, line: u32) -> Scanned
+    ensures { λ r. ⌜ (r .verdict ≡ endVerdict upto stage line) × (r .seen ≡ seen) ⌝ }
+    ensures { λ r. ⌜ LeadsBy seen (λ v. atEnd upto (record { stage = stage; read = v }) line) r ⌝ }
 {
-    if place.named {
-        if place.table == upto {
+    if stage.named {
+        if stage.table == upto {
             return taken(seen);
         }
     }
-    stopped(seen, Refusal::Heading { line: at })
+    stopped(seen, Refusal::Heading { line: line })
 }

@@ -40,18 +40,18 @@ report-accepted s t e =
     read (readingOf s) refl (leb-true (length s) 65536 (fits .0)) (fits .1)
   where
     price : (v : Tables) → readingOf s ≡ gives v → length s ≤ 65536 → (p : Priced) → priceOf v ≡ p → priced v p ≡ prints t → Accepted s t
-    price v is few (costs c) at h =
+    price v is few (costs c) same h =
         let ok = accepted-sound s v few is in
         record {
           text = v;
           cost = c;
           reads = is;
-          price = at;
+          price = same;
           report = sym (ap textOf h);
           calls = calls-accepted v ok;
-          compared = text-compared v c ok at;
+          compared = text-compared v c ok same;
         }
-    price v is few (fault f) at h = absurd (not-refused _ t h)
+    price v is few (fault f) same h = absurd (not-refused _ t h)
 
     read : (led : OrRefusal Tables) → readingOf s ≡ led → length s ≤ 65536 → readingOutcome led ≡ prints t → Accepted s t
     read (gives v) is few h = price v is few (priceOf v) refl h

@@ -179,7 +179,7 @@ pub plan-refused :
     PricedAs x xs calls acts p →
     p ≡ Faulty y →
     Tells s page (Refused y) page
-plan-refused {s = s} page y short r h told = go (priceOf (r .text)) refl (priced-as r h told)
+plan-refused {s = s} page y short r h answered = go (priceOf (r .text)) refl (priced-as r h answered)
   where
     go : (p : Priced) → priceOf (r .text) ≡ p → PricedBy (r .text) p (Faulty y) → Tells s page (Refused y) page
     go (costs c) is by = absurd (refused-some y (ap (λ (t : Told). t .number) (by .0)))
@@ -195,8 +195,8 @@ pub season-reported :
     p ≡ Cost cost →
     Reports x xs calls cost before w after →
     Tells s before w after
-season-reported {s = s} {before = before} {acts = acts} {cost = cost} {w = w} {after = after} short r h told put =
-    go (priceOf (r .text)) refl (priced-as r h told)
+season-reported {s = s} {before = before} {acts = acts} {cost = cost} {w = w} {after = after} short r h answered put =
+    go (priceOf (r .text)) refl (priced-as r h answered)
   where
     go : (p : Priced) → priceOf (r .text) ≡ p → PricedBy (r .text) p (Cost cost) → Tells s before w after
     go (costs c) is by =

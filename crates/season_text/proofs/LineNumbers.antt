@@ -25,8 +25,8 @@ unfolding outcomeOf
 lines-few s = whole (leb (length s) 65536) (readingOutcome (readingOf s)) (reading (readingOf s) refl)
   where
     price : (v : Tables) → readingOf s ≡ gives v → (p : Priced) → priceOf v ≡ p → outcomeLine (priced v p) ≤ length s + 1
-    price v is (costs c) at = omega arith
-    price v is (fault f) at = subst (λ (n : ℕ). n ≤ length s + 1) (ap (λ (t : Told). t .line) (sym (fault-tells f (faultLine v f)))) (fault-line s v f is at)
+    price v is (costs c) same = omega arith
+    price v is (fault f) same = subst (λ (n : ℕ). n ≤ length s + 1) (ap (λ (t : Told). t .line) (sym (fault-tells f (faultLine v f)))) (fault-line s v f is same)
 
     reading : (led : OrRefusal Tables) → readingOf s ≡ led → outcomeLine (readingOutcome led) ≤ length s + 1
     reading (gives v) is = price v is (priceOf v) refl

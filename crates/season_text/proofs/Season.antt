@@ -52,10 +52,10 @@ calls-before (s ∷ steps) (suc i) l = ap (λ (z : List Call). callOf s ∷ z) (
 
 -- the first of the steps that the table lets through
 allowed-first : (k : ℕ) (cat : Catalog) (steps : List Step) (i : ℕ) → i ≤ length steps → AllowedLog k cat steps → AllowedLog k cat (take i steps)
-allowed-first k cat steps i l a = record { each = λ j b. at j (omega (arith, length-take-le i steps l)) }
+allowed-first k cat steps i l a = record { each = λ j b. through j (omega (arith, length-take-le i steps l)) }
   where
-    at : (j : ℕ) → j < i → refusalAt k (catalogAfter cat (take j (take i steps))) j false (callOf (getD (take i steps) j Flush)) ≡ 0
-    at j b =
+    through : (j : ℕ) → j < i → refusalAt k (catalogAfter cat (take j (take i steps))) j false (callOf (getD (take i steps) j Flush)) ≡ 0
+    through j b =
         (λ z. refusalAt k (catalogAfter cat (take-take j i steps (omega arith) z)) j false (callOf (getD-take i steps j Flush b z)))
         ∙ a .each j (omega arith)
 
@@ -102,7 +102,7 @@ module _ (v : Tables) (ok : Sound v) where
   calls-accepted =
       record {
         opening = text-opens;
-        each = λ i l. at i (ℕ-discrete i (length (v .steps))) (omega (arith, length-append (map callOf (v .steps)) (close ∷ []), length-map (v .steps) callOf));
+        each = λ i l. asked-at i (ℕ-discrete i (length (v .steps))) (omega (arith, length-append (map callOf (v .steps)) (close ∷ []), length-map (v .steps) callOf));
       }
     where
       asked :
@@ -113,9 +113,9 @@ module _ (v : Tables) (ok : Sound v) where
           ap (λ (z : Log). refusalIn (v .k) (v .catalog) z call) (log-before i l)
           ∙ ap (λ (t : ℕ). refusalAt (v .k) (catalogAfter (v .catalog) (take i (v .steps))) t false call) (length-take-le i (v .steps) l)
 
-      at : (i : ℕ) → Dec (i ≡ length (v .steps)) → i ≤ length (v .steps) → refusal (v .k) (v .catalog) (take i (callsIn v)) (getD (callsIn v) i close) ≡ 0
-      at i (yes e) l = unfold refusalAt in rw (asked i, getD-at (map callOf (v .steps)) close [] close i (length-map (v .steps) callOf ∙ (omega arith)))
-      at i (no e) l =
+      asked-at : (i : ℕ) → Dec (i ≡ length (v .steps)) → i ≤ length (v .steps) → refusal (v .k) (v .catalog) (take i (callsIn v)) (getD (callsIn v) i close) ≡ 0
+      asked-at i (yes e) l = unfold refusalAt in rw (asked i, getD-at (map callOf (v .steps)) close [] close i (length-map (v .steps) callOf ∙ (omega arith)))
+      asked-at i (no e) l =
           let b : i < length (v .steps) = omega arith in
           rw (asked i, call-at-step (v .steps) i b) (ok .allowed .each i b)
 

@@ -241,67 +241,67 @@ module _ (n : ℕ) (l : List ℕ) (rest : List (List ℕ)) where
 record Kept (x : Logged) (ls : List (List ℕ)) (v : Sofar) : Type 0 where
   line : ℕ
   form : ℕ
-  its : v .place .table ≡ 2 → v .place .named ≡ true → form ≡ v .place .heading
-  says : onward (v .read .steps) (due (v .place .table) (v .place .named) form line ls) ≡ x
+  its : v .stage .table ≡ 2 → v .stage .named ≡ true → form ≡ v .stage .heading
+  says : onward (v .read .steps) (due (v .stage .table) (v .stage .named) form line ls) ≡ x
 
 module _ (x : Logged) (l : List ℕ) (rest : List (List ℕ)) (h : lacks 10 l ≡ true) (v : Sofar) (q : Kept x (l ∷ rest) v) where
   -- which is said here, behind the table's names or before them
-  here : (named : Bool) → v .place .named ≡ named → onward (v .read .steps) (due (v .place .table) named (q .form) (q .line) (l ∷ rest)) ≡ x
-  here named b = ap (λ (z : Bool). onward (v .read .steps) (due (v .place .table) z (q .form) (q .line) (l ∷ rest))) (sym b) ∙ q .says
+  here : (named : Bool) → v .stage .named ≡ named → onward (v .read .steps) (due (v .stage .table) named (q .form) (q .line) (l ∷ rest)) ≡ x
+  here named b = ap (λ (z : Bool). onward (v .read .steps) (due (v .stage .table) z (q .form) (q .line) (l ∷ rest))) (sym b) ∙ q .says
 
   -- the line of names, or the blank line
-  names-kept : (f : ℕ) → v .place .named ≡ false → formOf (v .place .table) l ≡ Form f → Kept x rest (record { place = record { table = v .place .table; named = true; heading = f }; read = v .read })
+  names-kept : (f : ℕ) → v .stage .named ≡ false → formOf (v .stage .table) l ≡ Form f → Kept x rest (record { stage = record { table = v .stage .table; named = true; heading = f }; read = v .read })
   names-kept f b e =
       record {
         line = 2;
-        form = headingBehind (v .place .table) (q .form) f;
+        form = headingBehind (v .stage .table) (q .form) f;
         its = λ t z. ap (λ (table : ℕ). headingBehind table (q .form) f) t;
-        says = ap (onward (v .read .steps)) (due-names (q .line) l rest (v .place .table) (q .form) f e h) ∙ here false b;
+        says = ap (onward (v .read .steps)) (due-names (q .line) l rest (v .stage .table) (q .form) f e h) ∙ here false b;
       }
 
-  blank-kept : v .place .named ≡ true → length l ≡ 0 → Kept x rest (record { place = nextTable (v .place); read = v .read })
+  blank-kept : v .stage .named ≡ true → length l ≡ 0 → Kept x rest (record { stage = nextTable (v .stage); read = v .read })
   blank-kept b e =
       record {
         line = q .line;
         form = q .form;
         its = λ t z. absurd (false≢true z);
-        says = ap (onward (v .read .steps)) (due-blank (q .line) l rest (q .form) (v .place .table) e) ∙ here true b;
+        says = ap (onward (v .read .steps)) (due-blank (q .line) l rest (q .form) (v .stage .table) e) ∙ here true b;
       }
 
   -- a value line stays in its table
   abbrev Still : Tables → Type 0
-  Still w = Kept x rest (record { place = v .place; read = w })
+  Still w = Kept x rest (record { stage = v .stage; read = w })
 
   -- one that is not blank
-  module _ (b : v .place .named ≡ true) (some : length l ≡ 0 → ⊥) where
+  module _ (b : v .stage .named ≡ true) (some : length l ≡ 0 → ⊥) where
     -- of another table
-    other : (v .place .table ≡ 2 → ⊥) → onward (v .read .steps) (due (v .place .table) (v .place .named) (q .form) (q .line) rest) ≡ x
+    other : (v .stage .table ≡ 2 → ⊥) → onward (v .read .steps) (due (v .stage .table) (v .stage .named) (q .form) (q .line) rest) ≡ x
     other t =
-        ap (λ (z : Bool). onward (v .read .steps) (due (v .place .table) z (q .form) (q .line) rest)) b
-        ∙ ap (onward (v .read .steps)) (due-value (q .line) l rest (q .form) (v .place .table) t some)
+        ap (λ (z : Bool). onward (v .read .steps) (due (v .stage .table) z (q .form) (q .line) rest)) b
+        ∙ ap (onward (v .read .steps)) (due-value (q .line) l rest (q .form) (v .stage .table) t some)
         ∙ here true b
 
     -- or of the third
-    step-kept : (n : ℕ) (s : Step) → v .place .table ≡ 2 → lineIn (v .place .table) (v .place .heading) (fieldsOf l) n ≡ StepLine s → Still (withStep (v .read) s)
+    step-kept : (n : ℕ) (s : Step) → v .stage .table ≡ 2 → lineIn (v .stage .table) (v .stage .heading) (fieldsOf l) n ≡ StepLine s → Still (withStep (v .read) s)
     step-kept n s t e =
-        let judged : lineIn (v .place .table) (q .form) (fieldsOf l) n ≡ StepLine s =
-        ap (λ (form : ℕ). lineIn (v .place .table) form (fieldsOf l) n) (q .its t b) ∙ e
+        let judged : lineIn (v .stage .table) (q .form) (fieldsOf l) n ≡ StepLine s =
+        ap (λ (form : ℕ). lineIn (v .stage .table) form (fieldsOf l) n) (q .its t b) ∙ e
         in
         record {
           line = suc (q .line);
           form = q .form;
           its = q .its;
           says =
-              onward-more (v .read .steps) s (due (v .place .table) (v .place .named) (q .form) (suc (q .line)) rest)
-              ∙ ap (λ (z : Bool). onward (v .read .steps) (ahead s (due (v .place .table) z (q .form) (suc (q .line)) rest))) b
-              ∙ ap (onward (v .read .steps)) (due-step (q .line) l rest (q .form) (v .place .table) n s t judged h some)
+              onward-more (v .read .steps) s (due (v .stage .table) (v .stage .named) (q .form) (suc (q .line)) rest)
+              ∙ ap (λ (z : Bool). onward (v .read .steps) (ahead s (due (v .stage .table) z (q .form) (suc (q .line)) rest))) b
+              ∙ ap (onward (v .read .steps)) (due-step (q .line) l rest (q .form) (v .stage .table) n s t judged h some)
               ∙ here true b;
         }
 
     takes-kept :
         (n : ℕ) (y : Line) →
-        lineIn (v .place .table) (v .place .heading) (fieldsOf l) n ≡ y →
-        Says (v .place .table) (length (fieldsOf l)) n y →
+        lineIn (v .stage .table) (v .stage .heading) (fieldsOf l) n ≡ y →
+        Says (v .stage .table) (length (fieldsOf l)) n y →
         Leading Still (takes (v .read) y n)
     unfolding takes
     takes-kept n (Sizes k j r) e s =
@@ -319,27 +319,27 @@ module _ (x : Logged) (l : List ℕ) (rest : List (List ℕ)) (h : lacks 10 l �
         (λ _. tt)
     takes-kept n (Refused r) e s = tt
 
-  values-kept : (n : ℕ) → v .place .named ≡ true → Leading Still (takes (v .read) (lineIn (v .place .table) (v .place .heading) (fieldsOf l) n) n)
+  values-kept : (n : ℕ) → v .stage .named ≡ true → Leading Still (takes (v .read) (lineIn (v .stage .table) (v .stage .heading) (fieldsOf l) n) n)
   unfolding takes
   values-kept n b = go (isBlank l) refl
     where
       line : Line
-      line = lineIn (v .place .table) (v .place .heading) (fieldsOf l) n
+      line = lineIn (v .stage .table) (v .stage .heading) (fieldsOf l) n
 
       go : (t : Bool) → isBlank l ≡ t → Leading Still (takes (v .read) line n)
       go true e =
-          subst (λ (y : Line). Leading Still (takes (v .read) y n)) (sym (blank-refused (v .place .table) (v .place .heading) l n (eqb-true (length l) 0 e))) tt
-      go false e = takes-kept b (eqb-false (length l) 0 e) n line refl (line-says (v .place .table) (v .place .heading) (fieldsOf l) n)
+          subst (λ (y : Line). Leading Still (takes (v .read) y n)) (sym (blank-refused (v .stage .table) (v .stage .heading) l n (eqb-true (length l) 0 e))) tt
+      go false e = takes-kept b (eqb-false (length l) 0 e) n line refl (line-says (v .stage .table) (v .stage .heading) (fieldsOf l) n)
 
   -- any line
   line-kept : (n : ℕ) → Leading (Kept x rest) (readLine 3 v l n)
   unfolding readLine
   line-kept n =
-      either Q (v .place .named) _ _
-      (λ b. either Q (cond (isBlank l) (mayEnd 3 (v .place .table) (v .read .k)) false) _ _
-      (λ e. blank-kept b (eqb-true (length l) 0 (first (isBlank l) (mayEnd 3 (v .place .table) (v .read .k)) e)))
-      (λ e. either Q (mustEnd (v .place .table) (v .read .k)) _ _ (λ m. tt) (λ m. goes-on Still (Kept x rest) (takes (v .read) _ n) _ (values-kept n b) (λ w k. k))))
-      (λ b. names (formOf (v .place .table) l) refl b)
+      either Q (v .stage .named) _ _
+      (λ b. either Q (cond (isBlank l) (mayEnd 3 (v .stage .table) (v .read .k)) false) _ _
+      (λ e. blank-kept b (eqb-true (length l) 0 (first (isBlank l) (mayEnd 3 (v .stage .table) (v .read .k)) e)))
+      (λ e. either Q (mustEnd (v .stage .table) (v .read .k)) _ _ (λ m. tt) (λ m. goes-on Still (Kept x rest) (takes (v .read) _ n) _ (values-kept n b) (λ w k. k))))
+      (λ b. names (formOf (v .stage .table) l) refl b)
     where
       Q : OrRefusal Sofar → Type 0
       Q = Leading (Kept x rest)
@@ -348,7 +348,7 @@ module _ (x : Logged) (l : List ℕ) (rest : List (List ℕ)) (h : lacks 10 l �
       first true q e = refl
       first false q e = absurd (false≢true e)
 
-      names : (z : Names) → formOf (v .place .table) l ≡ z → v .place .named ≡ false → Q (goesOn (namedBy (v .place) z n) (λ p. gives (record { place = p; read = v .read })))
+      names : (z : Names) → formOf (v .stage .table) l ≡ z → v .stage .named ≡ false → Q (goesOn (namedBy (v .stage) z n) (λ p. gives (record { stage = p; read = v .read })))
       names (Form f) e b = names-kept f b e
       names Unknown e b = tt
 
@@ -361,17 +361,17 @@ record Agrees (x : Logged) (v : Tables) : Type 0 where
 
 end-agrees : (x : Logged) (n : ℕ) (ls : List (List ℕ)) (v : Sofar) → Kept x ls v → Leading (Agrees x) (atEnd 3 v n)
 end-agrees x n ls v q =
-    either (Leading (Agrees x)) (v .place .named && eqb (v .place .table) 3) _ _
-    (λ e. done (and-parts (v .place .named) (eqb (v .place .table) 3) e .1)) (λ e. tt)
+    either (Leading (Agrees x)) (v .stage .named && eqb (v .stage .table) 3) _ _
+    (λ e. done (and-parts (v .stage .named) (eqb (v .stage .table) 3) e .1)) (λ e. tt)
   where
-    done : eqb (v .place .table) 3 ≡ true → Agrees x (v .read)
+    done : eqb (v .stage .table) 3 ≡ true → Agrees x (v .read)
     done e =
-        let t : v .place .table ≡ 3 = eqb-true (v .place .table) 3 e in
+        let t : v .stage .table ≡ 3 = eqb-true (v .stage .table) 3 e in
         record {
           form = q .form;
           says =
               sym (q .says)
-              ∙ ap (λ (table : ℕ). onward (v .read .steps) (due table (v .place .named) (q .form) (q .line) ls)) t
+              ∙ ap (λ (table : ℕ). onward (v .read .steps) (due table (v .stage .named) (q .form) (q .line) ls)) t
               ∙ ap (steps (q .form)) (append-nil (v .read .steps));
         }
 

@@ -65,7 +65,7 @@ returns c =
     let s = c .before .before .before .before .before .before .before .before .before .before .before .before in
     let l = c .before .before .before .before .before .before .before .before .before .loop in (
       acting-fails (s .args .seen) (s .args .catalog .now) (s .args .acts .now) (s .args .p) (s .args .first) (s .args .step) (s .pre) (l .q) (l .a) (l .inv) (omega arith) (c .before .before .before .before .before .if2 .left) (c .before .before .act .result) (c .before .before .act .ensures) _ (c .if3 .taken) refl refl,
-      record { next = omega arith; fault = λ e. omega arith; paid = λ e. absurd (c .if3 .taken e) },
+      record { next = omega arith; inside = λ e. omega arith; paid = λ e. absurd (c .if3 .taken e) },
     )
 
 add-a : tie.Need-add-a Inv-loop μ-loop
@@ -85,7 +85,7 @@ returns-2 c =
     let s = c .before .before .before .before .before in
     let l = c .before .before .loop in (
       acting-ends (s .args .seen) (s .args .catalog .now) (s .args .acts .now) (s .args .p) (s .args .first) (s .args .step) (s .pre) (l .q) (l .a) (l .inv) _ refl refl refl (omega arith),
-      record { next = l .inv .within; fault = λ e. absurd (e refl); paid = λ e. l .inv .low },
+      record { next = l .inv .within; inside = λ e. absurd (e refl); paid = λ e. l .inv .low },
     )
 
 returns-3 : tie.Need-returns-3 Inv-loop μ-loop
@@ -93,7 +93,7 @@ returns-3 c =
     let s = c .before .before .before .before .before .before .before in
     let l = c .before .before .before .before .loop in (
       acting-stops (s .args .seen) (s .args .catalog .now) (s .args .acts .now) (s .args .p) (s .args .first) (s .args .step) (s .pre) (l .q) (l .a) (l .inv) _ refl refl refl (omega arith) (c .if2 .taken),
-      record { next = l .inv .within; fault = λ e. absurd (e refl); paid = λ e. l .inv .low },
+      record { next = l .inv .within; inside = λ e. absurd (e refl); paid = λ e. l .inv .low },
     )
 
 pub acts-before-spec : {M : Type 1} → statement M

@@ -19,16 +19,16 @@ use Rattle.season_scan.proofs.scan.Statement.{statement}
 use Rattle.season_scan.proofs.scan.Tie as tie
 
 abbrev Inv-loop : tie.InvT-loop
-Inv-loop s upto catalog calls acts place seen at line end names fields₀ count₀ i₀ more₀ fields count i more = Fielded upto s place seen at end names fields count i more
+Inv-loop s upto catalog calls acts stage seen at line end names fields₀ count₀ i₀ more₀ fields count i more = Fielded upto s stage seen at end names fields count i more
 
 abbrev μ-loop : tie.MeasureT-loop
-μ-loop s upto catalog calls acts place seen at line end names fields₀ count₀ i₀ more₀ fields count i more = end + 1 - i
+μ-loop s upto catalog calls acts stage seen at line end names fields₀ count₀ i₀ more₀ fields count i more = end + 1 - i
 
 abbrev Inv-lines : tie.InvT-lines
-Inv-lines s upto catalog₀ calls₀ acts₀ place₀ seen₀ at₀ line₀ catalog calls acts place seen at line = Lined upto s catalog₀ calls₀ acts₀ catalog calls acts place seen at line
+Inv-lines s upto catalog₀ calls₀ acts₀ stage₀ seen₀ at₀ line₀ catalog calls acts stage seen at line = Lined upto s catalog₀ calls₀ acts₀ catalog calls acts stage seen at line
 
 abbrev μ-lines : tie.MeasureT-lines
-μ-lines s upto catalog₀ calls₀ acts₀ place₀ seen₀ at₀ line₀ catalog calls acts place seen at line = length s - at
+μ-lines s upto catalog₀ calls₀ acts₀ stage₀ seen₀ at₀ line₀ catalog calls acts stage seen at line = length s - at
 
 -- the slices are as long as they were
 same-items :
@@ -73,7 +73,7 @@ fielded :
     c .loop .more ≡ t →
     (let a = c .before .before .before .before in
     let l = c .loop in
-    Fielded (a .before .before .before .before .before .before .before .before .before .before .args .upto) (text a) (a .before .before .before .lines .place) (a .before .before .before .lines .seen) (from a) (to a) (c .before .before .names-in .result) (l .fields) (l .count) (l .i) t)
+    Fielded (a .before .before .before .before .before .before .before .before .before .before .args .upto) (text a) (a .before .before .before .lines .stage) (a .before .before .before .lines .seen) (from a) (to a) (c .before .before .names-in .result) (l .fields) (l .count) (l .i) t)
 fielded c t e = rw e at (c .loop .inv)
 
 -- where the field ends, and what it is

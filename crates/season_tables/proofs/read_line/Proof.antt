@@ -25,7 +25,7 @@ returns : tie.Need-returns
 returns c =
     let a = (c .before .before .before .before .before .before .before .before .args) in
     let r = (c .take-names) in
-    lead-names (a .upto) (a .place) (a .seen) (a .catalog .now) (a .calls .now) (a .acts .now) (a .text .now) (a .at) (r .result) (c .before .form-of .result) (not-true _ (c .before .before .if1 .taken)) (c .before .form-of .ensures) (r .ensures)
+    lead-names (a .upto) (a .stage) (a .seen) (a .catalog .now) (a .calls .now) (a .acts .now) (a .text .now) (a .line) (r .result) (c .before .form-of .result) (not-true _ (c .before .before .if1 .taken)) (c .before .form-of .ensures) (r .ensures)
 
 wants-values-requires : tie.Need-wants-values-requires
 wants-values-requires c κs = search needs
@@ -38,7 +38,7 @@ take-line-requires c κs =
     let a = (c .before .before .before .before .before .before .before .before .before .before .before .before .args) in
     let p = (c .before .before .before .before .before .before .before .before .before .before .before .before .pre) in
     let line = (c .before .before .before .line-in) in
-    record { room = p .room; read = p .read; holds = p .holds; sayable = line-sayable (a .place) (a .seen) (take (a .count) (a .fields)) (a .at) (line .result) (p .unstepped) (line .ensures) }
+    record { room = p .room; read = p .read; holds = p .holds; sayable = line-sayable (a .stage) (a .seen) (take (a .count) (a .fields)) (a .line) (line .result) (p .unstepped) (line .ensures) }
 
 same-length : tie.Need-same-length
 same-length c = search needs
@@ -54,7 +54,7 @@ returns-2 c =
     let a = (c .before .before .before .before .before .before .before .before .before .before .before .before .before .before .before .before .before .before .before .args) in
     let p = (c .before .before .before .before .before .before .take-line) in
     let line = (c .before .before .before .before .before .before .before .before .before .before .line-in) in (
-      lead-values (a .upto) (a .place) (a .seen) (a .catalog .now) (a .calls .now) (a .acts .now) (a .text .now) (a .at) _ (take (a .count) (a .fields)) (line .result) (p .last .1 .1 .1 .0) (p .last .1 .1 .1 .1 .0) (p .last .1 .1 .1 .1 .1 .0) (sym (c .before .before .before .before .before .before .before .before .before .before .before .before .wants-values .ensures) ∙ (c .before .before .before .before .before .before .before .before .before .before .before .if2) .taken) (c .before .before .before .before .before .before .before .before .before .before .before .before .before .before .before .before .before .before .before .pre .looked) (line .ensures) refl (p .ensures .0),
+      lead-values (a .upto) (a .stage) (a .seen) (a .catalog .now) (a .calls .now) (a .acts .now) (a .text .now) (a .line) _ (take (a .count) (a .fields)) (line .result) (p .last .1 .1 .1 .0) (p .last .1 .1 .1 .1 .0) (p .last .1 .1 .1 .1 .1 .0) (sym (c .before .before .before .before .before .before .before .before .before .before .before .before .wants-values .ensures) ∙ (c .before .before .before .before .before .before .before .before .before .before .before .if2) .taken) (c .before .before .before .before .before .before .before .before .before .before .before .before .before .before .before .before .before .before .before .pre .looked) (line .ensures) refl (p .ensures .0),
       record { kept = p .ensures .1; refused = λ x t. refl },
     )
 
@@ -65,7 +65,7 @@ returns-3 : tie.Need-returns-3
 returns-3 c =
     let a = (c .before .before .before .before .before .before .before .before .before .args) in
     let r = (c .take-blank) in
-    lead-blank (a .upto) (a .place) (a .seen) (a .catalog .now) (a .calls .now) (a .acts .now) (a .text .now) (a .at) (r .result) (not-false _ (c .before .before .before .if1 .left)) (sym (c .before .before .wants-values .ensures) ∙ (c .before .if2) .left) (r .ensures)
+    lead-blank (a .upto) (a .stage) (a .seen) (a .catalog .now) (a .calls .now) (a .acts .now) (a .text .now) (a .line) (r .result) (not-false _ (c .before .before .before .if1 .left)) (sym (c .before .before .wants-values .ensures) ∙ (c .before .if2) .left) (r .ensures)
 
 pub read-line-spec : {M : Type 1} → statement M
 read-line-spec =

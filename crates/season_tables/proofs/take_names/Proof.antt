@@ -27,14 +27,14 @@ stopped-requires c κs = search needs
 returns : tie.Need-returns
 returns c =
     let a = (c .before .before .before .before .args) in
-    moves-on (a .place) (a .seen) (c .taken .result) _ (c .taken .ensures .0) (c .taken .ensures .1)
-    ∙ ap (λ (x : Names). moved (a .place) (a .seen) (namedBy (a .place) x (a .at))) (sym (c .before .before .names .given .1))
+    moves-on (a .stage) (a .seen) (c .taken .result) _ (c .taken .ensures .0) (c .taken .ensures .1)
+    ∙ ap (λ (x : Names). moved (a .stage) (a .seen) (namedBy (a .stage) x (a .line))) (sym (c .before .before .names .given .1))
 
 returns-2 : tie.Need-returns-2
 returns-2 c =
     let a = (c .before .before .before .args) in
-    moves-not (a .place) (a .seen) (c .stopped .result) _ (c .stopped .ensures .0) (c .stopped .ensures .1)
-    ∙ ap (λ (x : Names). moved (a .place) (a .seen) (namedBy (a .place) x (a .at))) (sym (c .before .enum-told .given .1))
+    moves-not (a .stage) (a .seen) (c .stopped .result) _ (c .stopped .ensures .0) (c .stopped .ensures .1)
+    ∙ ap (λ (x : Names). moved (a .stage) (a .seen) (namedBy (a .stage) x (a .line))) (sym (c .before .enum-told .given .1))
 
 pub take-names-spec : {M : Type 1} → statement M
 take-names-spec =

@@ -30,7 +30,7 @@ refusal-of-requires : tie.Need-refusal-of-requires
 refusal-of-requires c κs =
     let a = c .before .before .before .before .before .before .args in
     let number = c .before .before .step-refused in
-    step-in-range (a .seen) (a .catalog .now) (a .calls .now) (a .step) (a .at) (number .result) (number .ensures) (c .before .before .before .before .before .before .pre) (c .before .if1 .taken)
+    step-in-range (a .seen) (a .catalog .now) (a .calls .now) (a .step) (a .line) (number .result) (number .ensures) (c .before .before .before .before .before .before .pre) (c .before .if1 .taken)
 
 stopped-requires : tie.Need-stopped-requires
 stopped-requires c κs = search needs
@@ -42,8 +42,8 @@ returns : tie.Need-returns
 returns c =
     let a = c .before .before .before .before .before .before .before .before .args in
     let number = c .before .before .before .before .step-refused in
-    let told = c .before .refusal-of .ensures ∙ ap (telling (number .result) (a .at)) (c .before .before .item .ensures) in (
-      step-refuses (a .seen) (a .catalog .now) (a .calls .now) (a .step) (a .at) (number .result) (number .ensures) (c .stopped .result) _ (c .before .before .before .if1 .taken) told (c .stopped .ensures .0),
+    let told = c .before .refusal-of .ensures ∙ ap (telling (number .result) (a .line)) (c .before .before .item .ensures) in (
+      step-refuses (a .seen) (a .catalog .now) (a .calls .now) (a .step) (a .line) (number .result) (number .ensures) (c .stopped .result) _ (c .before .before .before .if1 .taken) told (c .stopped .ensures .0),
       ((refl, λ x t. (c .stopped .ensures .1, refl)), (refl, λ x t. (c .stopped .ensures .1, refl))),
     )
 
@@ -82,8 +82,8 @@ returns-2 c =
     let room : 7 * a .seen .steps + 7 ≤ length (a .calls .now) = omega (arith, t .room .forStep, t .room .roomy .forSteps) in
     let stored = c .before .before .before .before .before .before .before .before .put-arrival .ensures ∙ step-items (a .step) (c .before .before .before .before .before .before .before .before .before .before .numbers .result) (a .catalog .now) (c .before .before .before .before .before .before .before .before .before .before .numbers .ensures) in
     let past =
-    step-past (a .seen) (a .catalog .now) (a .calls .now) (a .step) (a .at) (number .result) (number .ensures) (c .before .before .before .before .before .before .before .before .before .before .before .if1 .left) (t .sayable) (t .room .roomy .forItems) (c .before .before .before .before .before .before .before .before .before .before .numbers .result) (c .before .advanced .result) (c .before .before .before .before .before .before .before .before .before .before .numbers .ensures) (c .before .advanced .ensures) (c .taken .result) (c .before .before .before .before .before .before .before .before .before .before .before .before .before .before .before .before .pre .acts) (t .read) (c .before .before .before .before .before .before .before .before .put-arrival .last .0) (c .before .before .before .before .put-step .last .0) (t .holds) room (c .taken .ensures .0) (c .taken .ensures .1) stored (c .before .before .before .before .put-step .ensures) in (
-      step-noted (a .seen) (a .catalog .now) (a .calls .now) (a .step) (a .at) (number .result) (number .ensures) (c .before .before .before .before .before .before .before .before .before .before .before .if1 .left) (t .sayable) (t .room .roomy .forItems) (c .before .before .before .before .before .before .before .before .before .before .numbers .result) (c .before .advanced .result) (c .before .before .before .before .before .before .before .before .before .before .numbers .ensures) (c .before .advanced .ensures) (c .taken .result) (c .before .before .before .before .before .before .before .before .put-arrival .last .0) (c .before .before .before .before .put-step .last .0) room (c .taken .ensures .0) (c .taken .ensures .1) stored (c .before .before .before .before .put-step .ensures),
+    step-past (a .seen) (a .catalog .now) (a .calls .now) (a .step) (a .line) (number .result) (number .ensures) (c .before .before .before .before .before .before .before .before .before .before .before .if1 .left) (t .sayable) (t .room .roomy .forItems) (c .before .before .before .before .before .before .before .before .before .before .numbers .result) (c .before .advanced .result) (c .before .before .before .before .before .before .before .before .before .before .numbers .ensures) (c .before .advanced .ensures) (c .taken .result) (c .before .before .before .before .before .before .before .before .before .before .before .before .before .before .before .before .pre .acts) (t .read) (c .before .before .before .before .before .before .before .before .put-arrival .last .0) (c .before .before .before .before .put-step .last .0) (t .holds) room (c .taken .ensures .0) (c .taken .ensures .1) stored (c .before .before .before .before .put-step .ensures) in (
+      step-noted (a .seen) (a .catalog .now) (a .calls .now) (a .step) (a .line) (number .result) (number .ensures) (c .before .before .before .before .before .before .before .before .before .before .before .if1 .left) (t .sayable) (t .room .roomy .forItems) (c .before .before .before .before .before .before .before .before .before .before .numbers .result) (c .before .advanced .result) (c .before .before .before .before .before .before .before .before .before .before .numbers .ensures) (c .before .advanced .ensures) (c .taken .result) (c .before .before .before .before .before .before .before .before .put-arrival .last .0) (c .before .before .before .before .put-step .last .0) room (c .taken .ensures .0) (c .taken .ensures .1) stored (c .before .before .before .before .put-step .ensures),
       past,
     )
 
