@@ -125,12 +125,12 @@ module _ (x : Seen) (xs acts : List ℕ) (p : Copies) (first s : ℕ) (pre : Act
   module _ (q : Copies) (a : ℕ) (so : Acting x xs acts p first s q a) where
     -- the sum is far from the end of its word
     pub acting-low : q .paid ≤ 900000000000
-    acting-low = omega (arith, so .low, so .within, pre .inside, pre .priceable .fewActs, pre .priceable .fewSteps)
+    acting-low = omega (arith, so .low, so .within, pre .inside, pre .priceable .few .acts, pre .priceable .few .steps)
 
     pub acting-ready : PlanReady xs q
     acting-ready =
         record {
-          room = pre .priceable .forItems;
+          room = pre .priceable .roomy .forItems;
           catalog = cat;
           items = items-before x xs (pre .calls) acts (pre .priceable .text) (pre .priceable .holds) s;
           ok = cat-ok;

@@ -222,7 +222,7 @@ module _ (x : Seen) (xs calls acts : List ℕ) (pre : Priceable x xs calls acts)
   module _ (p : Copies) (a s : ℕ) (so : Pricing x xs calls acts p a s) where
     -- the sum is far from the end of its word
     pub pricing-low : p .paid ≤ 900000000000
-    pricing-low = omega (arith, so .low, so .within, so .next, pre .fewActs, pre .fewSteps)
+    pricing-low = omega (arith, so .low, so .within, so .next, pre .few .acts, pre .few .steps)
 
     -- the catalog of the text before step s
     abbrev cat : Catalog
@@ -233,7 +233,7 @@ module _ (x : Seen) (xs calls acts : List ℕ) (pre : Priceable x xs calls acts)
 
     ready-at : (q : Copies) → Stands cat q → q .paid ≤ 1000000000000 → PlanReady xs q
     ready-at q stands low =
-        record { room = pre .forItems; catalog = cat; items = items-before x xs calls acts (pre .text) (pre .holds) s; ok = cat-ok; stands = stands; low = low }
+        record { room = pre .roomy .forItems; catalog = cat; items = items-before x xs calls acts (pre .text) (pre .holds) s; ok = cat-ok; stands = stands; low = low }
 
     pub pricing-ready : PlanReady xs p
     pricing-ready = ready-at p (so .stands (pre .text) (pre .holds) (pre .sound)) (omega (arith, pricing-low))
@@ -295,7 +295,7 @@ module _ (x : Seen) (xs calls acts : List ℕ) (pre : Priceable x xs calls acts)
               let stands = ready v h (pre .sound) in
               let served = step-served v (pre .sound) s (omega (arith, h .stepCount)) in
               record {
-                ready = ready-at (b .copies) stands (omega (arith, bound .paid e, bound .next, pre .fewActs, pre .fewSteps));
+                ready = ready-at (b .copies) stands (omega (arith, bound .paid e, bound .next, pre .few .acts, pre .few .steps));
                 known =
                     λ (y : getD calls (7 * s + 1) 0 ≢ 76) (z : getD calls (7 * s + 1) 0 ≢ 65).
                     omega (arith, noted .item, stands .count, item-known (v .k) cat st served (λ u. y (noted .kind ∙ u)) (λ u. z (noted .kind ∙ u)));

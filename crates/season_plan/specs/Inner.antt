@@ -1,8 +1,8 @@
 -- How the program holds what a plan has, and what its functions give. Assumes nothing.
 use Rattle.types.specs.{declared.Step.Step, Types.{numbersOf, stepItem, actItem}}
 use Rattle.landlord.specs.{Plan.{Plan, Copy, noCopy, cleanCopy, dirtyCopy, copyAt, isChanged, cleaned, owed, Done, done, faulty, Fault, unknownItem, retiredItem, notHeld, alreadyHeld, requestNotHeld, overCapacity, faultNumber, planUsed, planEvicts, planFetches, planActs, allActs, planServes}, Fold.tab, Catalog.{Catalog, CatalogOk, itemAt, catalogNext}}
-use Rattle.season_items.specs.Inner.{HasItems}
-use Rattle.season_tables.specs.{Tables.{Placed, Tables}, declared.Seen.Seen, Inner.Holds, InnerSound.{Sound, placedAt, catalogBefore}}
+use Rattle.season_items.specs.Inner.{itemRoom, HasItems}
+use Rattle.season_tables.specs.{Tables.{Placed, Tables}, declared.Seen.Seen, Inner.{Holds, Roomy, FewRead}, InnerSound.{Sound, placedAt, catalogBefore}}
 use Rattle.season_plan.specs.declared.{Copies.Copies, Did.Did, Acted.Acted, Price.{Price, the-variants.{Cost, Refused}}}
 use Rattle.season_plan.specs.Plans.{actsAt, actsBefore, priceOf, PricedBy}
 use mathlib.Core.{Path._≡_, Logic._≢_, Bool.{Bool, false, cond, _||_}, List.List}
@@ -44,7 +44,7 @@ Does cat (faulty f) before r = r .number ≡ faultNumber f
 
 -- what a part of the plan asks: the bytes of a catalog in range, where the program stands, and sums far from the end of their words
 pub record PlanReady (xs : List ℕ) (p : Copies) : Type 0 where
-  pub room : length xs ≡ 1280
+  pub room : itemRoom ≤ length xs
   pub catalog : Catalog
   pub items : HasItems catalog xs
   pub ok : CatalogOk catalog
@@ -142,11 +142,8 @@ pub record Priceable (x : Seen) (xs calls acts : List ℕ) : Type 0 where
   pub text : Tables
   pub holds : Holds x xs calls acts text
   pub sound : Sound text
-  pub fewSteps : x .steps ≤ 10922
-  pub fewActs : x .acts ≤ 10922
-  pub forItems : length xs ≡ 1280
-  pub forSteps : length calls ≡ 76461
-  pub forActs : length acts ≡ 32769
+  pub few : FewRead x
+  pub roomy : Roomy xs calls acts
 
 -- at most so much is paid for so many acts, and so many steps that are flushes
 abbrev pub most : ℕ → ℕ → ℕ

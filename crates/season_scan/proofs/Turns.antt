@@ -139,7 +139,7 @@ few-ended :
     6 * length (v .acts) ≤ 65536 →
     Leads (cond t (gives v) (stops x)) r catalog calls acts →
     Few (cond t (gives v) (stops x)) r
-few-ended true v x r catalog calls acts a b h = (omega (arith, h .1 .stepCount), omega (arith, h .1 .actCount))
+few-ended true v x r catalog calls acts a b h = record { steps = omega (arith, h .1 .stepCount); acts = omega (arith, h .1 .actCount) }
 few-ended false v x r catalog calls acts a b h = tt
 
 module _ (upto : ℕ) (s catalog₀ calls₀ acts₀ catalog calls acts : List ℕ) (p : Stage) (q : Seen) (at n : ℕ)
@@ -382,7 +382,7 @@ module _ (upto : ℕ) (s catalog₀ calls₀ acts₀ catalog calls acts : List �
       pub can-read : length s ≤ 65536 → LineReadable upto p q (lineWithin s at end) fields count catalog calls acts
       can-read short =
           record {
-            room = record { forStep = omega (arith, h .forSteps); forAct = omega (arith, h .forActs); roomy = h .roomy };
+            room = record { few = record { steps = omega (arith, h .forSteps); acts = omega (arith, h .forActs) }; roomy = h .roomy };
             judgeable = record { few = omega (arith, f .few, f .most); some = f .some };
             table = omega (arith, h .table, h .high);
             looked = λ t. all-fields (rw size-is at t);

@@ -1,13 +1,13 @@
--- How many steps and acts a text of at most 65,536 bytes can have, six bytes each; and what the scan leaves in the struct and the
--- slices, whether it takes the text or refuses it. Assumes nothing.
+-- How many steps and acts an accepted text has, and what the scan leaves in the struct and the slices, whether it takes the text or
+-- refuses it. Assumes nothing.
 use mathlib.Core.List.{List, [], _∷_}
-use Prim.Native.Nat.{ℕ, suc, _≤_}
+use Prim.Native.Nat.{ℕ, suc}
 use Rattle.line_fields.specs.Fields.{split}
-use Rattle.season_tables.specs.{declared.Scanned.Scanned, Tables.{Tables, Sofar, OrRefusal, gives, stops, atStart, readLine}, Inner.{Holds, Untouched}}
+use Rattle.season_tables.specs.{declared.Scanned.Scanned, Tables.{Tables, Sofar, OrRefusal, gives, stops, atStart, readLine}, Inner.{Holds, Untouched, FewRead}}
 
--- an accepted text has no more
+-- no more than a text of 65,536 bytes can have
 abbrev pub Few : OrRefusal Tables → Scanned → Type 0
-Few (gives v) r = (r .seen .steps ≤ 10922) × (r .seen .acts ≤ 10922)
+Few (gives v) r = FewRead (r .seen)
 Few (stops x) r = Unit {0}
 
 -- a line that leads on is followed by the next; before one that stops, this has been read

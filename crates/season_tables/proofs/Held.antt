@@ -38,7 +38,7 @@ use Rattle.season_tables.specs.Tables.{Placed, Tables, gives, stops, atS
 use Rattle.season_tables.specs.Inner.{lastPlace, Holds, nothingRead, endVerdict, Leads, LeadsFrom, LeadsBy, NotesItem, NotesStep, NotesAct, KeepsPast, actNumbers, Takeable, StepTakeable, ActTakeable}
 use Rattle.season_tables.specs.InnerSound.{catalogBefore}
 use Rattle.landlord.specs.CallNumbers.{callNumbers}
-use Rattle.season_items.specs.Inner.{Tells, HasItems, actNoted, putAt, withArrival, TellsKnown, TellsRefusal, Advanced, Walks, CatchesUp, Lookable, Walkable}
+use Rattle.season_items.specs.Inner.{itemRoom, Tells, HasItems, actNoted, putAt, withArrival, TellsKnown, TellsRefusal, Advanced, Walks, CatchesUp, Lookable, Walkable}
 use Rattle.season_items.proofs.Notes.{noted-more, noted-past, calls-more}
 use Rattle.season_items.proofs.Presence.{tells-none, tells-more, advanced-tells, before-follows, stored-items, stored-past, Stored, stored-by}
 use Rattle.season_tables.proofs.Told.{step-range, step-told, act-range, act-told}
@@ -129,7 +129,7 @@ none-read v e = go (v .steps) e
 module _ (q : Seen) (catalog : List ℕ) (i b l w line : ℕ) (r : Scanned) where
   pub item-next :
       (after : List ℕ) →
-      1280 ≤ length catalog →
+      itemRoom ≤ length catalog →
       i ≤ 255 →
       q .steps ≡ 0 →
       i ≡ q .n →
@@ -183,7 +183,7 @@ module _ (q : Seen) (catalog : List ℕ) (i b l w line : ℕ) (r : Scanned) wher
 
   pub item-past :
       (after : List ℕ) →
-      1280 ≤ length catalog →
+      itemRoom ≤ length catalog →
       i ≤ 255 →
       r .verdict ≡ Taken →
       r .seen ≡ itemized q i →
@@ -248,7 +248,7 @@ module _ (q : Seen) (catalog calls : List ℕ) (s : Step) (line number : ℕ) (e
       (t ∙ ap Refused (refusal-one x _ (tells ∙ sym (step-told number f (v .k) (itemsNow v) s same line (stepItem s)))))
 
   -- the step is not refused, and this is known of the items behind it
-  module _ (f : number ≡ 0) (ranged : inRange (numbersOf s) ≡ true) (room : 1280 ≤ length catalog)
+  module _ (f : number ≡ 0) (ranged : inRange (numbersOf s) ≡ true) (room : itemRoom ≤ length catalog)
       (n : Numbers) (p : Present) (g : n ≡ numbersOf s) (a : Advanced (q .present) n p)
     where
       module _ (acts : List ℕ) (v : Tables) (h : Holds q catalog calls acts v) where
@@ -369,7 +369,7 @@ act-walkable q place act calls acts t e f =
       steps = t .line .read .steps;
       walks = act-walks q place (t .catalog) calls acts (t .line .read) (t .line .holds) f;
       order = e;
-      short = omega (arith, t .line .room .forStep);
+      short = omega (arith, t .line .room .few .steps);
       forSteps = t .line .room .roomy .forSteps;
     }
 

@@ -12,7 +12,7 @@ use Rattle.catalog_bytes.specs.Inner.{catalogOfFirst}
 use Rattle.line_fields.specs.{declared.Field.Field, Fields.fieldsOf, Inner.heldField}
 use Rattle.season_lines.specs.{declared.Line.{Line, the-variants.{Sizes, Item as ItemLine, Step as StepLine, Act as ActLine, Refused as RefusedLine}}, Inner.Judgeable}
 use Rattle.landlord.specs.CallNumbers.{callNumbers}
-use Rattle.season_items.specs.Inner.{HasItems, Tells, nonePresent}
+use Rattle.season_items.specs.Inner.{callWidth, actWidth, mostNoted, itemRoom, callRoom, actRoom, HasItems, Tells, nonePresent}
 
 -- a blank line
 abbrev pub isBlank : List ℕ → Bool
@@ -43,8 +43,8 @@ pub record Holds (q : Seen) (catalog calls acts : List ℕ) (v : Tables) : Type 
   pub stepCount : q .steps ≡ length (v .steps)
   pub actCount : q .acts ≡ length (v .acts)
   pub last : q .last ≡ lastPlace (v .acts)
-  pub stepsNoted : take (7 * q .steps) calls ≡ callNumbers (v .steps)
-  pub actsNoted : take (3 * q .acts) acts ≡ actNumbers (v .acts)
+  pub stepsNoted : take (callWidth * q .steps) calls ≡ callNumbers (v .steps)
+  pub actsNoted : take (actWidth * q .acts) acts ≡ actNumbers (v .acts)
   pub present : Tells (catalogAfter (v .catalog) (v .steps)) (q .present)
   pub earlier : Tells (catalogAfter (v .catalog) (take (q .last) (v .steps))) (q .earlier)
   pub stored : HasItems (catalogAfter (v .catalog) (v .steps)) catalog
@@ -98,8 +98,8 @@ KeepsPast m q before r after =
 -- past what has been noted the slices are as they were
 pub record Untouched (q : Seen) (catalog calls acts catalog-after calls-after acts-after : List ℕ) : Type 0 where
   pub pastItems : drop (5 * q .present .n) catalog-after ≡ drop (5 * q .present .n) catalog
-  pub pastSteps : drop (7 * q .steps) calls-after ≡ drop (7 * q .steps) calls
-  pub pastActs : drop (3 * q .acts) acts-after ≡ drop (3 * q .acts) acts
+  pub pastSteps : drop (callWidth * q .steps) calls-after ≡ drop (callWidth * q .steps) calls
+  pub pastActs : drop (actWidth * q .acts) acts-after ≡ drop (actWidth * q .acts) acts
 
 -- the struct and the slices are all as they were
 pub record Unchanged (q : Seen) (catalog calls acts : List ℕ) (p : Seen) (catalog-after calls-after acts-after : List ℕ) : Type 0 where
@@ -148,17 +148,20 @@ Looked upto p k l fs = wantsValues upto p k (length l) ≡ true → fs ≡ map h
 
 -- ## What is asked
 
--- the slices have at least the places of 256 items, and of the steps and acts that 65,536 bytes can hold, six bytes each, and of
--- one more
+-- the slices have at least the places of 256 items, of the steps and acts that a text can have, and of one more
 pub record Roomy (catalog calls acts : List ℕ) : Type 0 where
-  pub forItems : 1280 ≤ length catalog
-  pub forSteps : 76461 ≤ length calls
-  pub forActs : 32769 ≤ length acts
+  pub forItems : itemRoom ≤ length catalog
+  pub forSteps : callRoom ≤ length calls
+  pub forActs : actRoom ≤ length acts
 
--- and a place is left
+-- no more steps and acts are read than a text can have
+pub record FewRead (q : Seen) : Type 0 where
+  pub steps : q .steps ≤ mostNoted
+  pub acts : q .acts ≤ mostNoted
+
+-- so a place is left
 pub record Room (q : Seen) (catalog calls acts : List ℕ) : Type 0 where
-  pub forStep : 7 * q .steps ≤ 76454
-  pub forAct : 3 * q .acts ≤ 32766
+  pub few : FewRead q
   pub roomy : Roomy catalog calls acts
 
 -- what a value line may say here: an item has a number that has a place, and stands before the steps; a step is in range

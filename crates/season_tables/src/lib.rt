@@ -6,10 +6,13 @@ ghost use lib.ListN.{length};
 ghost use lib.Dec.{eqb};
 ghost use Rattle.types.specs.declared.Refusal.the-variants.{Malformed};
 ghost use Rattle.season_lines.specs.declared.Line.the-variants.{Sizes, Item as ItemLine, Step as StepLine, Act as ActLine};
+ghost use Rattle.season_items.specs.Inner.{callWidth, actWidth, itemRoom};
 ghost use Rattle.season_tables.specs.declared.Verdict.the-variants.{Taken, Refused};
 ghost use Rattle.season_tables.specs.Tables.{gives, stops, atStart, mayEnd, mustEnd, nextTable, namedBy, takes, atEnd};
 ghost use Rattle.season_tables.specs.Inner.{nothingRead, endVerdict, LeadsFrom, LeadsBy, NotesItem, NotesStep, NotesAct, KeepsSeen, KeepsPast, Keeps, moved, ReadsLine, KeepsLine, wantsValues, Takeable, StepTakeable, ActTakeable, LineReadable};
 use line_fields::Field;
+use season_items::ACT_NUMBERS;
+use season_items::CALL_NUMBERS;
 use season_items::Present;
 use season_lines::Line;
 use season_lines::Names;
@@ -214,7 +217,7 @@ fn take_item(
     line: u32,
     catalog: &mut [u8],
 ) -> Scanned
-    requires { ⌜ (number ≤ 255) × (seen .steps ≡ 0) × (1280 ≤ length (now catalog)) ⌝ }
+    requires { ⌜ (number ≤ 255) × (seen .steps ≡ 0) × (itemRoom ≤ length (now catalog)) ⌝ }
     ensures { λ r. ⌜ NotesItem seen (now (catalog .entry)) (λ v. takes v (ItemLine number blocks load write) line) r (now (catalog .exit)) ⌝ }
     ensures { λ r. ⌜ KeepsPast (5 * r .seen .present .n) seen (now (catalog .entry)) r (now (catalog .exit)) ⌝ }
 {
@@ -235,7 +238,7 @@ fn take_step(seen: Seen, step: Step, line: u32, catalog: &mut [u8], calls: &mut 
     requires { ⌜ StepTakeable seen step (now catalog) (now calls) ⌝ }
     ensures { λ r. ⌜ NotesStep seen (now (catalog .entry)) (now (calls .entry)) (λ v. takes v (StepLine step) line) r (now (catalog .exit)) (now (calls .exit)) ⌝ }
     ensures { λ r. ⌜ KeepsPast (5 * r .seen .present .n) seen (now (catalog .entry)) r (now (catalog .exit)) ⌝ }
-    ensures { λ r. ⌜ KeepsPast (7 * r .seen .steps) seen (now (calls .entry)) r (now (calls .exit)) ⌝ }
+    ensures { λ r. ⌜ KeepsPast (callWidth * r .seen .steps) seen (now (calls .entry)) r (now (calls .exit)) ⌝ }
 {
     let number = season_items::step_refused(seen.k, seen.present, catalog, step);
     if number != 0 {
@@ -244,7 +247,7 @@ fn take_step(seen: Seen, step: Step, line: u32, catalog: &mut [u8], calls: &mut 
     let steps = seen.steps;
     let numbers = step.numbers();
     season_items::put_arrival(catalog, numbers);
-    season_items::put_step(calls, 7 * steps, step);
+    season_items::put_step(calls, CALL_NUMBERS * steps, step);
     let present = season_items::advanced(seen.present, numbers);
     let mut q = seen;
     q.steps = steps + 1;
@@ -255,7 +258,7 @@ fn take_step(seen: Seen, step: Step, line: u32, catalog: &mut [u8], calls: &mut 
 fn take_act(seen: Seen, place: u32, act: Act, line: u32, calls: &[u32], acts: &mut [u32]) -> Scanned
     requires { ⌜ ActTakeable seen place act (now calls) (now acts) ⌝ }
     ensures { λ r. ⌜ NotesAct seen (now (calls .entry)) (now (acts .entry)) (λ v. takes v (ActLine place act) line) r (now (acts .exit)) ⌝ }
-    ensures { λ r. ⌜ KeepsPast (3 * r .seen .acts) seen (now (acts .entry)) r (now (acts .exit)) ⌝ }
+    ensures { λ r. ⌜ KeepsPast (actWidth * r .seen .acts) seen (now (acts .entry)) r (now (acts .exit)) ⌝ }
 {
     let item = act.item();
     // It may not fall, and there is such a step.
@@ -268,7 +271,7 @@ fn take_act(seen: Seen, place: u32, act: Act, line: u32, calls: &[u32], acts: &m
         return stopped(seen, types::refusal_of(number, line, item));
     }
     let count = seen.acts;
-    season_items::put_act(acts, 3 * count, place, act);
+    season_items::put_act(acts, ACT_NUMBERS * count, place, act);
     let mut q = seen;
     q.acts = count + 1;
     q.last = place;

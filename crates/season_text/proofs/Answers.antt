@@ -24,7 +24,7 @@ use Rattle.season_tables.specs.declared.Scanned.{Scanned}
 use Rattle.season_tables.specs.declared.Verdict.{Verdict}
 use Rattle.season_tables.specs.declared.Verdict.the-variants.{Taken, Refused as Stopped}
 use Rattle.season_tables.specs.Tables.{Tables, OrRefusal, gives, stops, readingOf}
-use Rattle.season_tables.specs.Inner.{Holds, Leads}
+use Rattle.season_tables.specs.Inner.{Holds, Leads, Roomy, FewRead}
 use Rattle.season_tables.specs.InnerSound.{Sound}
 use Rattle.season_scan.specs.Inner.{Few}
 use Rattle.season_plan.specs.declared.Price.{Price}
@@ -46,11 +46,8 @@ pub record Reads (s : List ℕ) (x : Seen) (xs calls acts : List ℕ) : Type 0 w
   pub holds : Holds x xs calls acts text
   pub sound : Sound text
   pub fewItems : x .n ≤ 256
-  pub fewSteps : x .steps ≤ 10922
-  pub fewActs : x .acts ≤ 10922
-  pub forItems : length xs ≡ 1280
-  pub forSteps : length calls ≡ 76461
-  pub forActs : length acts ≡ 32769
+  pub few : FewRead x
+  pub roomy : Roomy xs calls acts
 
 -- what a verdict holds, told apart by its case
 abbrev stopOf : Verdict → Refusal
@@ -70,12 +67,10 @@ pub taken-reads :
     length s ≤ 65536 →
     Leads (readingOf s) r catalog calls acts →
     Few (readingOf s) r →
-    length catalog ≡ 1280 →
-    length calls ≡ 76461 →
-    length acts ≡ 32769 →
+    Roomy catalog calls acts →
     r .verdict ≡ Taken →
     Reads s (r .seen) catalog calls acts
-taken-reads s r catalog calls acts short leads few forItems forSteps forActs e = go (readingOf s) refl leads few
+taken-reads s r catalog calls acts short leads few roomy e = go (readingOf s) refl leads few
   where
     go : (led : OrRefusal Tables) → readingOf s ≡ led → Leads led r catalog calls acts → Few led r → Reads s (r .seen) catalog calls acts
     go (gives v) is l f =
@@ -86,40 +81,18 @@ taken-reads s r catalog calls acts short leads few forItems forSteps forActs e =
           holds = l .1;
           sound = sound;
           fewItems = omega (arith, l .1 .itemCount, catalog-facts (v .catalog) (sound .catalog) .few);
-          fewSteps = f .0;
-          fewActs = f .1;
-          forItems = forItems;
-          forSteps = forSteps;
-          forActs = forActs;
+          few = f;
+          roomy = roomy;
         }
     go (stops x) is l f = absurd (not-taken x (sym l ∙ e))
 
 pub priceable : {s : List ℕ} {x : Seen} {xs calls acts : List ℕ} → Reads s x xs calls acts → Priceable x xs calls acts
 priceable r =
-    record {
-      text = r .text;
-      holds = r .holds;
-      sound = r .sound;
-      fewSteps = r .fewSteps;
-      fewActs = r .fewActs;
-      forItems = r .forItems;
-      forSteps = r .forSteps;
-      forActs = r .forActs;
-    }
+    record { text = r .text; holds = r .holds; sound = r .sound; few = r .few; roomy = r .roomy }
 
 pub reportable : {s : List ℕ} {x : Seen} {xs calls acts : List ℕ} {cost : ℕ} → Reads s x xs calls acts → cost ≤ 1000000000000 → Reportable x xs calls cost
 reportable {acts = acts} r small =
-    record {
-      text = r .text;
-      acts = acts;
-      holds = r .holds;
-      sound = r .sound;
-      few = r .fewSteps;
-      fewItems = r .fewItems;
-      places = r .forSteps;
-      items = r .forItems;
-      small = small;
-    }
+    record { text = r .text; acts = acts; holds = r .holds; sound = r .sound; fewItems = r .fewItems; few = r .few; roomy = r .roomy; small = small }
 
 -- what `answer` ensures
 abbrev Tells : List ℕ → List ℕ → Written → List ℕ → Type 0

@@ -13,7 +13,6 @@ use Rattle.types.specs.declared.Step.{Step}
 use Rattle.types.specs.declared.Step.the-variants.{Flush}
 use Rattle.landlord.specs.Fold.{fold}
 use Rattle.landlord.specs.Catalog.{Catalog, catalogAfter}
-use Rattle.types.specs.Types.{deductionNumber}
 use Rattle.landlord.specs.Slot.{splitOf}
 use Rattle.landlord.specs.Figures.{start, ran, totalCost, leftSide, rightSide}
 use Rattle.landlord.specs.Plan.{costs}
@@ -26,7 +25,6 @@ use Rattle.landlord.proofs.Calls.{allowed-logged}
 use Rattle.landlord.proofs.Logs.{all-served, ran-stands, closes-stands}
 use Rattle.landlord.proofs.Competitive.{competitive-bound}
 use Rattle.landlord.proofs.Ranges.{opening-accepts}
-use Rattle.catalog_bytes.specs.Catalogs.{catalogIn}
 use Rattle.cache_state.specs.Cache.{view}
 use Rattle.layout.specs.Layout.{cacheOf}
 use Rattle.cache.specs.Contract.{lent}

@@ -5,7 +5,7 @@ use Prim.Native.Nat.{ℕ, _≤_, _<_}
 use lib.{ListN.{length, getD, take}, Dec.leb}
 use Rattle.types.specs.declared.Refusal.the-variants.{InputTooLong}
 use Rattle.types.specs.Types.{deductionNumber}
-use Rattle.landlord.specs.{Slot.splitOf, Figures.{Standing, start, season, totalCost, leftSide, rightSide}, Plan.{faultRefusal, Priced, costs, fault}, Calls.{Opening, opening, Call, close, callOf, openingRefusal, refusal}, Catalog.Catalog}
+use Rattle.landlord.specs.{Slot.splitOf, Figures.{Standing, start, season, totalCost, leftSide, rightSide}, Plan.{faultRefusal, Priced, costs, fault}, Calls.{Opening, opening, Call, close, callOf, openingRefusal, refusal}}
 use Rattle.report_lines.specs.declared.Rival.the-variants.{Against}
 use Rattle.report.specs.Report.{reportOf}
 use Rattle.printed.specs.Printed.{Outcome, refused, prints}

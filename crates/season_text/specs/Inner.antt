@@ -7,7 +7,7 @@ use Rattle.types.specs.Types.{refusalLine}
 use Rattle.landlord.specs.Figures.{Standing}
 use Rattle.layout.specs.Layout.{stateBytes, cacheOf, ValidBytes}
 use Rattle.report.specs.{declared.Written.Written, Report.{Put, longest}}
-use Rattle.season_tables.specs.{declared.Seen.Seen, Tables.Tables, Inner.Holds, InnerSound.Sound}
+use Rattle.season_tables.specs.{declared.Seen.Seen, Tables.Tables, Inner.{Holds, Roomy, FewRead}, InnerSound.Sound}
 use Rattle.printed.specs.Printed.{Outcome, refused, prints}
 use Rattle.season_text.specs.Answer.{closedSeason, reportAgainst}
 
@@ -23,10 +23,10 @@ pub record ClosedAt (v : Standing) (b : List ℕ) : Type 0 where
 
 -- the slices have the catalogue's items, and a place for the closing behind the steps
 pub record Closable (x : Seen) (xs calls state : List ℕ) : Type 0 where
-  pub few : x .steps ≤ 10922
   pub fewItems : x .n ≤ 256
-  pub places : length calls ≡ 76461
-  pub items : length xs ≡ 1280
+  pub few : FewRead x
+  pub acts : List ℕ
+  pub roomy : Roomy xs calls acts
   pub room : length state ≡ stateBytes
 
 -- whatever accepted text the slices hold, these are the bytes of its closed season
@@ -39,10 +39,9 @@ pub record Reportable (x : Seen) (xs calls : List ℕ) (cost : ℕ) : Type 0 whe
   pub acts : List ℕ
   pub holds : Holds x xs calls acts text
   pub sound : Sound text
-  pub few : x .steps ≤ 10922
   pub fewItems : x .n ≤ 256
-  pub places : length calls ≡ 76461
-  pub items : length xs ≡ 1280
+  pub few : FewRead x
+  pub roomy : Roomy xs calls acts
   pub small : cost ≤ 1000000000000
 
 -- and this is its report, on the page

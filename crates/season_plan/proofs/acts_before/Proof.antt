@@ -19,37 +19,37 @@ loop-holds c =
     acting-starts (s .args .seen) (s .args .catalog .now) (s .args .acts .now) (s .args .p) (s .args .first) (s .args .step) (s .pre)
 
 mul-if2 : tie.Need-mul-if2 Inv-loop μ-loop
-mul-if2 c = omega (arith, c .before .before .before .before .before .pre .priceable .fewActs)
+mul-if2 c = omega (arith, c .before .before .before .before .before .pre .priceable .few .acts)
 
 mul-if2-2 : tie.Need-mul-if2-2 Inv-loop μ-loop
-mul-if2-2 c = omega (arith, c .before .before .before .before .before .pre .priceable .fewActs)
+mul-if2-2 c = omega (arith, c .before .before .before .before .before .pre .priceable .few .acts)
 
 shared-slice-read-if2 : tie.Need-shared-slice-read-if2 Inv-loop μ-loop
-shared-slice-read-if2 c = omega (arith, c .before .before .before .before .before .before .pre .priceable .fewActs, c .before .before .before .before .before .before .pre .priceable .forActs)
+shared-slice-read-if2 c = omega (arith, c .before .before .before .before .before .before .pre .priceable .few .acts, c .before .before .before .before .before .before .pre .priceable .roomy .forActs)
 
 mul-act : tie.Need-mul-act Inv-loop μ-loop
-mul-act c = omega (arith, c .before .before .before .before .before .before .before .pre .priceable .fewActs)
+mul-act c = omega (arith, c .before .before .before .before .before .before .before .pre .priceable .few .acts)
 
 add-act : tie.Need-add-act Inv-loop μ-loop
-add-act c = omega (arith, c .before .before .before .before .before .before .before .pre .priceable .fewActs)
+add-act c = omega (arith, c .before .before .before .before .before .before .before .pre .priceable .few .acts)
 
 mul-act-2 : tie.Need-mul-act-2 Inv-loop μ-loop
-mul-act-2 c = omega (arith, c .before .before .before .before .before .before .before .pre .priceable .fewActs)
+mul-act-2 c = omega (arith, c .before .before .before .before .before .before .before .pre .priceable .few .acts)
 
 shared-slice-read-act : tie.Need-shared-slice-read-act Inv-loop μ-loop
-shared-slice-read-act c = omega (arith, c .before .before .before .before .before .before .before .before .pre .priceable .fewActs, c .before .before .before .before .before .before .before .before .pre .priceable .forActs)
+shared-slice-read-act c = omega (arith, c .before .before .before .before .before .before .before .before .pre .priceable .few .acts, c .before .before .before .before .before .before .before .before .pre .priceable .roomy .forActs)
 
 mul-act-3 : tie.Need-mul-act-3 Inv-loop μ-loop
-mul-act-3 c = omega (arith, c .before .before .before .before .before .before .before .before .pre .priceable .fewActs)
+mul-act-3 c = omega (arith, c .before .before .before .before .before .before .before .before .pre .priceable .few .acts)
 
 add-act-2 : tie.Need-add-act-2 Inv-loop μ-loop
-add-act-2 c = omega (arith, c .before .before .before .before .before .before .before .before .pre .priceable .fewActs)
+add-act-2 c = omega (arith, c .before .before .before .before .before .before .before .before .pre .priceable .few .acts)
 
 mul-act-4 : tie.Need-mul-act-4 Inv-loop μ-loop
-mul-act-4 c = omega (arith, c .before .before .before .before .before .before .before .before .pre .priceable .fewActs)
+mul-act-4 c = omega (arith, c .before .before .before .before .before .before .before .before .pre .priceable .few .acts)
 
 shared-slice-read-act-2 : tie.Need-shared-slice-read-act-2 Inv-loop μ-loop
-shared-slice-read-act-2 c = omega (arith, c .before .before .before .before .before .before .before .before .before .pre .priceable .fewActs, c .before .before .before .before .before .before .before .before .before .pre .priceable .forActs)
+shared-slice-read-act-2 c = omega (arith, c .before .before .before .before .before .before .before .before .before .pre .priceable .few .acts, c .before .before .before .before .before .before .before .before .before .pre .priceable .roomy .forActs)
 
 cast-act : tie.Need-cast-act Inv-loop μ-loop
 cast-act c = omega (arith, c .shared-slice-known5 .given (3 * c .before .before .before .before .before .before .loop .a + 2))

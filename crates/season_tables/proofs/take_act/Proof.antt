@@ -69,13 +69,13 @@ returns-2 c =
     )
 
 mul-put-act : tie.Need-mul-put-act
-mul-put-act c = omega (arith, c .before .before .before .before .before .before .before .before .before .before .before .before .pre .line .room .forAct)
+mul-put-act c = omega (arith, c .before .before .before .before .before .before .before .before .before .before .before .before .pre .line .room .few .acts)
 
 put-act-requires : tie.Need-put-act-requires
-put-act-requires c κs = (omega (arith, c .before .before .before .before .before .before .before .before .before .before .before .before .pre .line .room .forAct, c .before .before .before .before .before .before .before .before .before .before .before .before .pre .line .room .roomy .forActs), c .before .before .before .before .before .before .before .before .before .before .before .before .pre .line .room .forAct)
+put-act-requires c κs = (omega (arith, c .before .before .before .before .before .before .before .before .before .before .before .before .pre .line .room .few .acts, c .before .before .before .before .before .before .before .before .before .before .before .before .pre .line .room .roomy .forActs), omega (arith, c .before .before .before .before .before .before .before .before .before .before .before .before .pre .line .room .few .acts))
 
 add-q : tie.Need-add-q
-add-q c = omega (arith, c .before .before .before .before .before .before .before .before .before .before .before .before .before .before .before .pre .line .room .forAct)
+add-q c = omega (arith, c .before .before .before .before .before .before .before .before .before .before .before .before .before .before .before .pre .line .room .few .acts)
 
 taken-requires : tie.Need-taken-requires
 taken-requires c κs = search needs
@@ -89,7 +89,7 @@ returns-3 c =
     let t = c .before .before .before .before .before .before .before .before .before .before .before .before .before .before .before .before .pre .line in
     let p = c .before .before .before .put-act in
     let k = known-of (c .before .before .before .before .before .before .before .caught-up .result) (c .before .before .before .before .before .before .before .before .before .before .before .before .before .item .result) (c .before .before .before .before .before .before .known .result) (a .act) (c .before .before .before .before .before .before .before .before .before .before .before .before .before .item .ensures) (c .before .before .before .before .before .before .known .ensures) in
-    let room : 3 * a .seen .acts + 3 ≤ length (a .acts .now) = omega (arith, t .room .forAct, t .room .roomy .forActs) in (
+    let room : 3 * a .seen .acts + 3 ≤ length (a .acts .now) = omega (arith, t .room .few .acts, t .room .roomy .forActs) in (
       act-noted (a .seen) (a .calls .now) (a .acts .now) (a .place) (a .act) (a .line) (c .taken .result) (c .before .before .before .before .before .before .before .before .before .before .before .if1 .left) (leb-false _ _ (c .before .before .before .before .before .before .before .before .before .if2 .left)) (c .before .before .before .before .before .before .before .caught-up .result) (c .before .before .before .before .before .before .before .caught-up .ensures) (c .before .before .before .before .before .before .known .result) k (p .last .0) (c .before .before .before .before .before .if3 .left) room (c .taken .ensures .0) (c .taken .ensures .1) (p .ensures),
       act-past (a .seen) (a .calls .now) (a .acts .now) (a .place) (a .act) (a .line) (c .taken .result) (c .before .before .before .before .before .before .before .before .before .before .before .if1 .left) (leb-false _ _ (c .before .before .before .before .before .before .before .before .before .if2 .left)) (c .before .before .before .before .before .before .before .caught-up .result) (c .before .before .before .before .before .before .before .caught-up .ensures) (c .before .before .before .before .before .before .known .result) k (p .last .0) room (c .taken .ensures .0) (c .taken .ensures .1) (p .ensures),
     )

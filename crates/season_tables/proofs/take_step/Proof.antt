@@ -54,16 +54,16 @@ put-arrival-requires : tie.Need-put-arrival-requires
 put-arrival-requires c κs = (rw (c .before .numbers .ensures) (c .before .before .before .before .before .before .before .pre .line .sayable), c .before .before .before .before .before .before .before .pre .line .room .roomy .forItems)
 
 mul-put-step : tie.Need-mul-put-step
-mul-put-step c = omega (arith, c .before .before .before .before .before .before .before .before .before .before .before .pre .line .room .forStep)
+mul-put-step c = omega (arith, c .before .before .before .before .before .before .before .before .before .before .before .pre .line .room .few .steps)
 
 put-step-requires : tie.Need-put-step-requires
-put-step-requires c κs = (omega (arith, c .before .before .before .before .before .before .before .before .before .before .before .pre .line .room .forStep, c .before .before .before .before .before .before .before .before .before .before .before .pre .line .room .roomy .forSteps), omega (arith, c .before .before .before .before .before .before .before .before .before .before .before .pre .line .room .forStep))
+put-step-requires c κs = (omega (arith, c .before .before .before .before .before .before .before .before .before .before .before .pre .line .room .few .steps, c .before .before .before .before .before .before .before .before .before .before .before .pre .line .room .roomy .forSteps), omega (arith, c .before .before .before .before .before .before .before .before .before .before .before .pre .line .room .few .steps))
 
 advanced-requires : tie.Need-advanced-requires
 advanced-requires c κs = c .before .before .before .before .before .before .before .before .before .before .before .before .before .before .pre .line .holds .few
 
 add-q : tie.Need-add-q
-add-q c = omega (arith, c .before .before .before .before .before .before .before .before .before .before .before .before .before .before .before .pre .line .room .forStep)
+add-q c = omega (arith, c .before .before .before .before .before .before .before .before .before .before .before .before .before .before .before .pre .line .room .few .steps)
 
 taken-requires : tie.Need-taken-requires
 taken-requires c κs = search needs
@@ -79,7 +79,7 @@ returns-2 c =
     let a = c .before .before .before .before .before .before .before .before .before .before .before .before .before .before .before .before .args in
     let t = c .before .before .before .before .before .before .before .before .before .before .before .before .before .before .before .before .pre .line in
     let number = c .before .before .before .before .before .before .before .before .before .before .before .before .step-refused in
-    let room : 7 * a .seen .steps + 7 ≤ length (a .calls .now) = omega (arith, t .room .forStep, t .room .roomy .forSteps) in
+    let room : 7 * a .seen .steps + 7 ≤ length (a .calls .now) = omega (arith, t .room .few .steps, t .room .roomy .forSteps) in
     let stored = c .before .before .before .before .before .before .before .before .put-arrival .ensures ∙ step-items (a .step) (c .before .before .before .before .before .before .before .before .before .before .numbers .result) (a .catalog .now) (c .before .before .before .before .before .before .before .before .before .before .numbers .ensures) in
     let past =
     step-past (a .seen) (a .catalog .now) (a .calls .now) (a .step) (a .line) (number .result) (number .ensures) (c .before .before .before .before .before .before .before .before .before .before .before .if1 .left) (t .sayable) (t .room .roomy .forItems) (c .before .before .before .before .before .before .before .before .before .before .numbers .result) (c .before .advanced .result) (c .before .before .before .before .before .before .before .before .before .before .numbers .ensures) (c .before .advanced .ensures) (c .taken .result) (c .before .before .before .before .before .before .before .before .before .before .before .before .before .before .before .before .pre .acts) (t .read) (c .before .before .before .before .before .before .before .before .put-arrival .last .0) (c .before .before .before .before .put-step .last .0) (t .holds) room (c .taken .ensures .0) (c .taken .ensures .1) stored (c .before .before .before .before .put-step .ensures) in (
