@@ -30,7 +30,7 @@ use Rattle.catalog_bytes.specs.Inner.{itemBytes, catalogOfFirst}
 use Rattle.catalog_bytes.proofs.Laws.{first-length, first-at, one-more}
 use Rattle.season_items.specs.declared.Present.{Present}
 use Rattle.landlord.specs.CallNumbers.{numbersBehind}
-use Rattle.season_items.specs.Inner.{HasItems, Tells, nonePresent, isLeaving, Advanced, Advances, Walks, CatchesUp, withArrival}
+use Rattle.season_items.specs.Inner.{itemRoom, HasItems, Tells, nonePresent, isLeaving, Advanced, Advances, Walks, CatchesUp, withArrival}
 use Rattle.season_items.proofs.Notes.{put-sets, put-before, noted-past, noted-step}
 
 -- ## How many there are, and which have left
@@ -314,7 +314,7 @@ module _ (n : Numbers) (bytes : List ℕ) where
       go (no e) (no f) (yes g) = rw (step-retire n g)
       go (no e) (no f) (no g) = rw (step-flush n e f a g)
 
-module _ (k : ℕ) (cat : Catalog) (bytes : List ℕ) (room : 1280 ≤ length bytes) (short : length cat ≤ 256) where
+module _ (k : ℕ) (cat : Catalog) (bytes : List ℕ) (room : itemRoom ≤ length bytes) (short : length cat ≤ 256) where
   -- what a step that is in range and not refused makes of the bytes and of the catalog
   pub record Stored (s : Step) : Type 0 where
     pub items : HasItems cat bytes → HasItems (catalogNext cat s) (withArrival s bytes)

@@ -2,12 +2,40 @@
 -- and give. Assumes nothing.
 use mathlib.Core.{Path._≡_, Bool.{Bool, true, cond, _&&_}, List.{List, [], _∷_, _++_}}
 use Prim.Native.Nat.{ℕ, _+_, _*_, _≤_, _<_}
-use lib.{ListN.{length, take, drop, getD, replicate, set}, Seq.sets, Dec.{ltb, eqb}}
+use lib.{ListN.{length, take, drop, replicate, set}, Seq.sets, Dec.{ltb, eqb}}
 use Rattle.types.specs.{declared.{Step.{Step, the-variants.{Read, Write, Flush, Arrive, Retire}}, Numbers.Numbers, Act.Act}, Types.{stepOf, actKind, actItem}}
 use Rattle.landlord.specs.{Catalog.{Catalog, itemAt, listed, catalogNext, catalogAfter}, Calls.{ifKnown, itemRefusal}, CallNumbers.callNumbers}
 use Rattle.marks.specs.{Marks.marked, Inner.marks}
 use Rattle.catalog_bytes.specs.{Catalogs.itemIn, Inner.itemBytes}
 use Rattle.season_items.specs.declared.Present.{Present}
+
+-- ## Room
+
+-- the numbers of a step, noted as a call
+abbrev pub callWidth : ℕ
+callWidth = 7
+
+-- and of an act
+abbrev pub actWidth : ℕ
+actWidth = 3
+
+-- the most steps, and the most acts, that a text of 65,536 bytes has: each has a line of six bytes or more
+abbrev pub mostNoted : ℕ
+mostNoted = 10922
+
+-- the numbers of so many steps, and of one call more
+abbrev pub callRoom : ℕ
+callRoom = callWidth * (mostNoted + 1)
+
+-- of so many acts, and one more
+abbrev pub actRoom : ℕ
+actRoom = actWidth * (mostNoted + 1)
+
+-- and the bytes of 256 items
+abbrev pub itemRoom : ℕ
+itemRoom = 5 * 256
+
+-- ## What is noted, and what is known of the items
 
 -- an act as it is noted: its place, kind and item
 abbrev pub actNoted : ℕ → Act → List ℕ
@@ -67,7 +95,7 @@ Advances p n r = (cat : Catalog) → length cat ≤ 256 → Tells cat p → Tell
 -- a catalog and steps that are noted, after the first `from` of which this is known of the items
 pub record Walks (p : Present) (calls : List ℕ) (from to : ℕ) (cat : Catalog) (steps : List Step) : Type 0 where
   pub few : length (catalogAfter cat steps) ≤ 256
-  pub noted : take (7 * length steps) calls ≡ callNumbers steps
+  pub noted : take (callWidth * length steps) calls ≡ callNumbers steps
   pub reach : to ≤ length steps
   pub tells : Tells (catalogAfter cat (take from steps)) p
 
@@ -82,7 +110,7 @@ pub record Lookable (p : Present) (catalog : List ℕ) : Type 0 where
   pub few : length items ≤ 256
   pub tells : Tells items p
   pub stored : HasItems items catalog
-  pub room : 1280 ≤ length catalog
+  pub room : itemRoom ≤ length catalog
 
 -- and where steps are walked over
 pub record Walkable (p : Present) (calls : List ℕ) (from to : ℕ) : Type 0 where
@@ -90,5 +118,5 @@ pub record Walkable (p : Present) (calls : List ℕ) (from to : ℕ) : Type 0 wh
   pub steps : List Step
   pub walks : Walks p calls from to items steps
   pub order : from ≤ to
-  pub short : to ≤ 10922
-  pub forSteps : 76461 ≤ length calls
+  pub short : to ≤ mostNoted
+  pub forSteps : callRoom ≤ length calls

@@ -3,16 +3,27 @@
 ghost use mathlib.Core.Path.{_≡_};
 ghost use mathlib.Core.Bool.{true};
 ghost use mathlib.Core.List.{[], _∷_};
-ghost use Prim.Native.Nat.{_+_, _≤_};
+ghost use Prim.Native.Nat.{_+_, _*_, _≤_};
 ghost use lib.ListN.{length};
 ghost use Rattle.types.specs.declared.Step.the-variants.{Read};
 ghost use Rattle.types.specs.Types.{stepOf};
 ghost use Rattle.landlord.specs.Calls.{inRange};
 ghost use Rattle.landlord.specs.CallNumbers.{callNumbers, numbersBehind};
-ghost use Rattle.season_items.specs.Inner.{Lookable, Walkable, actNoted, putAt, nonePresent, knownNumber, Advanced, CatchesUp, TellsRefusal, withArrival};
+ghost use Rattle.season_items.specs.Inner.{callWidth, actWidth, mostNoted, itemRoom, Lookable, Walkable, actNoted, putAt, nonePresent, knownNumber, Advanced, CatchesUp, TellsRefusal, withArrival};
 use types::Act;
 use types::Numbers;
 use types::Step;
+
+// The numbers of a step, noted as a call.
+pub const CALL_NUMBERS: usize = 7;
+// The numbers of an act.
+pub const ACT_NUMBERS: usize = 3;
+// The most steps, and the most acts, that a text of 65,536 bytes has: each has a line of six bytes or more.
+const MOST_NOTED: usize = 10922;
+// Room for the numbers of so many steps, and of one call more.
+pub const CALL_ROOM: usize = CALL_NUMBERS * (MOST_NOTED + 1);
+// Of so many acts, and one more.
+pub const ACT_ROOM: usize = ACT_NUMBERS * (MOST_NOTED + 1);
 
 // What is known of the items after some steps: how many there are, and a mark for each that has left.
 pub struct Present {
@@ -98,7 +109,7 @@ pub fn advanced(p: Present, step: Numbers) -> Present
 
 // The numbers of a step, noted as a call from place `i` on.
 fn numbers_at(calls: &[u32], i: usize) -> Numbers
-    requires { ⌜ (i + 7 ≤ length (now calls)) × (i ≤ 76454) ⌝ }
+    requires { ⌜ (i + callWidth ≤ length (now calls)) × (i ≤ callWidth * mostNoted) ⌝ }
     ensures { λ r. ⌜ r ≡ numbersBehind (now (calls .entry)) i ⌝ }
 {
     Numbers {
@@ -119,7 +130,7 @@ pub fn caught_up(p: Present, calls: &[u32], from: usize, to: usize) -> Present
     let mut q = p;
     let mut s = from;
     while s < to {
-        let step = numbers_at(calls, 7 * s);
+        let step = numbers_at(calls, CALL_NUMBERS * s);
         q = advanced(q, step);
         s += 1;
     }
@@ -128,7 +139,7 @@ pub fn caught_up(p: Present, calls: &[u32], from: usize, to: usize) -> Present
 
 // Stores the item of an arrival behind the others.
 pub fn put_arrival(catalog: &mut [u8], step: Numbers)
-    requires { ⌜ (inRange step ≡ true) × (1280 ≤ length (now catalog)) ⌝ }
+    requires { ⌜ (inRange step ≡ true) × (itemRoom ≤ length (now catalog)) ⌝ }
     ensures { λ _. ⌜ now (catalog .exit) ≡ withArrival (stepOf step) (now (catalog .entry)) ⌝ }
 {
     if step.kind == 65 {
@@ -144,7 +155,7 @@ pub fn put_arrival(catalog: &mut [u8], step: Numbers)
 
 // Notes a step as a call's seven numbers, from place `i` on.
 pub fn put_step(calls: &mut [u32], i: usize, step: Step)
-    requires { ⌜ (i + 7 ≤ length (now calls)) × (i ≤ 76454) ⌝ }
+    requires { ⌜ (i + callWidth ≤ length (now calls)) × (i ≤ callWidth * mostNoted) ⌝ }
     ensures { λ _. ⌜ now (calls .exit) ≡ putAt (now (calls .entry)) i (callNumbers (step ∷ [])) ⌝ }
 {
     let n = step.numbers();
@@ -159,7 +170,7 @@ pub fn put_step(calls: &mut [u32], i: usize, step: Step)
 
 // Notes an act's three numbers, from place `i` on.
 pub fn put_act(acts: &mut [u32], i: usize, place: u32, act: Act)
-    requires { ⌜ (i + 3 ≤ length (now acts)) × (i ≤ 32766) ⌝ }
+    requires { ⌜ (i + actWidth ≤ length (now acts)) × (i ≤ actWidth * mostNoted) ⌝ }
     ensures { λ _. ⌜ now (acts .exit) ≡ putAt (now (acts .entry)) i (actNoted place act) ⌝ }
 {
     acts[i] = place;

@@ -15,7 +15,7 @@ use Rattle.landlord.specs.Catalog.{Catalog, CatalogOk, itemAt}
 use Rattle.landlord.specs.Plan.{Copy, Done, done, faulty, planActs, andPaid, andThen, allActs}
 use Rattle.season_lines.specs.Lines.{actOf}
 use Rattle.season_tables.specs.declared.Seen.{Seen}
-use Rattle.season_tables.specs.Tables.{Sofar}
+use Rattle.season_tables.specs.Tables.{Tables}
 use Rattle.season_tables.specs.InnerSound.{placedAt, catalogBefore}
 use Rattle.season_plan.specs.declared.Copies.{Copies}
 use Rattle.season_plan.specs.declared.Did.{Did}
@@ -27,7 +27,7 @@ use Rattle.season_plan.proofs.Deeds.{stands-there}
 use Rattle.season_plan.proofs.Costs.{Cheap, Faults, fault-some, act-cheap, act-faults}
 
 -- what the acts of step s from act a on end in, the j-th of them and those after it
-abbrev Left : Sofar → ℕ → ℕ → ℕ → Copies → Acted → Type 0
+abbrev Left : Tables → ℕ → ℕ → ℕ → Copies → Acted → Type 0
 Left v s j a q r = ActsDone v s (allActs (catalogBefore v s) s j (actsAt s (drop a (v .acts))) (copiesIn q)) (q .paid) r
 
 -- The acts that are done are of step s. For every text that the slices hold the program stands at the catalog before the step; and
@@ -37,22 +37,22 @@ pub record Acting (x : Seen) (xs acts : List ℕ) (p : Copies) (first s : ℕ) (
   pub within : a ≤ x .acts
   pub low : q .paid ≤ most a s
   pub here : (i : ℕ) → first ≤ i → i < a → getD acts (3 * i) 0 ≡ s
-  pub stands : (calls : List ℕ) (v : Sofar) → Before x xs p acts first s calls v → Stands (catalogBefore v s) q
+  pub stands : (calls : List ℕ) (v : Tables) → Before x xs p acts first s calls v → Stands (catalogBefore v s) q
   pub leads :
-      (calls : List ℕ) (v : Sofar) (r : Acted) →
+      (calls : List ℕ) (v : Tables) (r : Acted) →
       Before x xs p acts first s calls v →
       Left v s (a - first) a q r →
       Left v s 0 first p r
 
 -- what was paid before counts, whatever follows
-and-done : (v : Sofar) (s : ℕ) (d : Done) (c before : ℕ) (r : Acted) → ActsDone v s d (before + c) r → ActsDone v s (andPaid c d) before r
+and-done : (v : Tables) (s : ℕ) (d : Done) (c before : ℕ) (r : Acted) → ActsDone v s d (before + c) r → ActsDone v s (andPaid c d) before r
 and-done v s (done q b) c before r h =
     (h .0, subst (λ (t : ℕ). HoldsCopies (catalogBefore v s) (r .copies) q t) (add-assoc before c b) (h .1), h .2)
 and-done v s (faulty f) c before r h = h
 
 -- an act that was done, and then the others
 then-done :
-    (v : Sofar) (s : ℕ) (d : Done) (next : List Copy → Done) (before : ℕ) (r : Did) (t : Acted) →
+    (v : Tables) (s : ℕ) (d : Done) (next : List Copy → Done) (before : ℕ) (r : Did) (t : Acted) →
     Does (catalogBefore v s) d before r →
     r .number ≡ 0 →
     ActsDone v s (next (copiesIn (r .copies))) (r .copies .paid) t →
@@ -65,7 +65,7 @@ then-done v s (faulty f) next before r t did e rest = absurd (fault-some f (sym 
 
 -- an act that was not
 then-fails :
-    (v : Sofar) (s : ℕ) (d : Done) (next : List Copy → Done) (before : ℕ) (r : Did) (t : Acted) →
+    (v : Tables) (s : ℕ) (d : Done) (next : List Copy → Done) (before : ℕ) (r : Did) (t : Acted) →
     Does (catalogBefore v s) d before r →
     r .number ≢ 0 →
     t .number ≡ r .number →
@@ -111,7 +111,7 @@ module _ (x : Seen) (xs acts : List ℕ) (p : Copies) (first s : ℕ) (pre : Act
 
   -- all acts before the step are those from the first one on
   whole :
-      (calls : List ℕ) (v : Sofar) (t : Acted) →
+      (calls : List ℕ) (v : Tables) (t : Acted) →
       Before x xs p acts first s calls v →
       Left v s 0 first p t →
       ActsDone v s (allActs (catalogBefore v s) s 0 (actsAt s (v .acts)) (copiesIn p)) (p .paid) t
@@ -125,12 +125,12 @@ module _ (x : Seen) (xs acts : List ℕ) (p : Copies) (first s : ℕ) (pre : Act
   module _ (q : Copies) (a : ℕ) (so : Acting x xs acts p first s q a) where
     -- the sum is far from the end of its word
     pub acting-low : q .paid ≤ 900000000000
-    acting-low = omega (arith, so .low, so .within, pre .inside, pre .priceable .fewActs, pre .priceable .fewSteps)
+    acting-low = omega (arith, so .low, so .within, pre .inside, pre .priceable .few .acts, pre .priceable .few .steps)
 
     pub acting-ready : PlanReady xs q
     acting-ready =
         record {
-          room = pre .priceable .forItems;
+          room = pre .priceable .roomy .forItems;
           catalog = cat;
           items = items-before x xs (pre .calls) acts (pre .priceable .text) (pre .priceable .holds) s;
           ok = cat-ok;
@@ -140,10 +140,10 @@ module _ (x : Seen) (xs acts : List ℕ) (p : Copies) (first s : ℕ) (pre : Act
 
     module _ (l : a < x .acts) (place : getD acts (3 * a) 0 ≡ s) where
       -- it stands before this step, and its item is there
-      at-step : (calls : List ℕ) (v : Sofar) → Before x xs p acts first s calls v → placedAt (v .acts) a .place ≡ s
+      at-step : (calls : List ℕ) (v : Tables) → Before x xs p acts first s calls v → placedAt (v .acts) a .place ≡ s
       at-step calls v h = sym (noted-act x xs calls acts v (h .holds) a l .place) ∙ place
 
-      there : (calls : List ℕ) (v : Sofar) → Before x xs p acts first s calls v → itemAt (catalogBefore v s) (getD acts (3 * a + 2) 0) .left ≡ false
+      there : (calls : List ℕ) (v : Tables) → Before x xs p acts first s calls v → itemAt (catalogBefore v s) (getD acts (3 * a + 2) 0) .left ≡ false
       there calls v h =
           ap (λ (t : ℕ). itemAt (catalogBefore v s) t .left) (noted-act x xs calls acts v (h .holds) a l .item)
           ∙ ap (λ (t : ℕ). itemAt (catalogBefore v t) (actItem (placedAt (v .acts) a .act)) .left) (sym (at-step calls v h))
@@ -171,7 +171,7 @@ module _ (x : Seen) (xs acts : List ℕ) (p : Copies) (first s : ℕ) (pre : Act
       module _ (r : Did) (acted : Acts xs q (getD acts (3 * a + 1) 0) (getD acts (3 * a + 2) 0) r) where
         -- the act as the definition does it, for a text that the slices hold
         does :
-            (calls : List ℕ) (v : Sofar) →
+            (calls : List ℕ) (v : Tables) →
             Before x xs p acts first s calls v →
             (j : ℕ) →
             Does (catalogBefore v s) (planActs (catalogBefore v s) s j (placedAt (v .acts) a .act) (copiesIn q)) (q .paid) r
@@ -186,14 +186,14 @@ module _ (x : Seen) (xs acts : List ℕ) (p : Copies) (first s : ℕ) (pre : Act
 
         -- the acts that are left begin with it
         left :
-            (calls : List ℕ) (v : Sofar) →
+            (calls : List ℕ) (v : Tables) →
             Before x xs p acts first s calls v →
             actsAt s (drop a (v .acts)) ≡ placedAt (v .acts) a .act ∷ actsAt s (drop (suc a) (v .acts))
         left calls v h = at-here s a (v .acts) (omega (arith, h .holds .actCount)) (at-step calls v h)
 
         -- what it leaves, if it was done
         after :
-            (calls : List ℕ) (v : Sofar) →
+            (calls : List ℕ) (v : Tables) →
             Before x xs p acts first s calls v →
             CatalogOk (catalogBefore v s) →
             r .number ≡ 0 →
@@ -221,7 +221,7 @@ module _ (x : Seen) (xs acts : List ℕ) (p : Copies) (first s : ℕ) (pre : Act
             earlier i b k (no z) = so .here i b (omega arith)
 
             turn :
-                (calls : List ℕ) (v : Sofar) (t : Acted) →
+                (calls : List ℕ) (v : Tables) (t : Acted) →
                 Before x xs p acts first s calls v →
                 Left v s (a + 1 - first) (a + 1) (r .copies) t →
                 Left v s 0 first p t
@@ -253,7 +253,7 @@ module _ (x : Seen) (xs acts : List ℕ) (p : Copies) (first s : ℕ) (pre : Act
     module _ (t : Acted) (number : t .number ≡ 0) (next : t .next ≡ a) (same : t .copies ≡ q) where
       -- no act is left where every further one stands behind the step
       ends :
-          (calls : List ℕ) (v : Sofar) →
+          (calls : List ℕ) (v : Tables) →
           Before x xs p acts first s calls v →
           ((i : ℕ) → a ≤ i → i < length (v .acts) → s < placedAt (v .acts) i .place) →
           Left v s (a - first) a q t

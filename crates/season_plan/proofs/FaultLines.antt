@@ -14,7 +14,7 @@ use Rattle.types.specs.Types.{stepItem, actItem}
 use Rattle.landlord.specs.Fold.{tab}
 use Rattle.landlord.specs.Catalog.{Catalog, catalogNext}
 use Rattle.landlord.specs.Plan.{Plan, Copy, noCopy, Fault, unknownItem, retiredItem, notHeld, alreadyHeld, requestNotHeld, overCapacity, Done, done, faulty, Priced, costs, fault, planActs, andPaid, andThen, allActs, planServes, pricedWith, priceThen, priceFrom}
-use Rattle.season_tables.specs.Tables.{Placed, Sofar, on, readingOf}
+use Rattle.season_tables.specs.Tables.{Placed, Tables, gives, readingOf}
 use Rattle.season_tables.proofs.LineNumbers.{accepted-lines}
 use Rattle.season_plan.specs.Plans.{actsAt, actsBefore, faultLine, priceOf}
 use Rattle.season_plan.specs.Inner.{planOf, ofAct}
@@ -108,11 +108,11 @@ acts-count s [] = omega arith
 acts-count s (x ∷ acts) = go (ltb (x .place) s) (eqb (x .place) s) refl refl (acts-count s acts)
   where
     go :
-        (before at : Bool) →
+        (before here : Bool) →
         ltb (x .place) s ≡ before →
-        eqb (x .place) s ≡ at →
+        eqb (x .place) s ≡ here →
         actsBefore s acts + length (actsAt s acts) ≤ length acts →
-        cond before (suc (actsBefore s acts)) (actsBefore s acts) + length (cond at (x .act ∷ actsAt s acts) (actsAt s acts)) ≤ suc (length acts)
+        cond before (suc (actsBefore s acts)) (actsBefore s acts) + length (cond here (x .act ∷ actsAt s acts) (actsAt s acts)) ≤ suc (length acts)
     go true true e f rest = absurd (omega (arith, ltb-true (x .place) s e, eqb-true (x .place) s f))
     go true false e f rest = omega arith
     go false true e f rest = omega arith
@@ -120,7 +120,7 @@ acts-count s (x ∷ acts) = go (ltb (x .place) s) (eqb (x .place) s) refl refl (
 
 -- the line of a fault that has its place among the acts and steps of a text
 in-plan-line :
-    (b : ℕ) (v : Sofar) (f : Fault) →
+    (b : ℕ) (v : Tables) (f : Fault) →
     8 + length (v .catalog) + length (v .steps) + length (v .acts) ≤ b →
     InPlan (planOf (v .acts)) (length (v .steps)) f →
     faultLine v f ≤ b + 1
@@ -132,7 +132,7 @@ in-plan-line b v (requestNotHeld s i) l p = omega (arith, p)
 in-plan-line b v (overCapacity s) l p = omega (arith, p)
 
 -- a plan's fault is told on a line that is at most one more than the text's bytes
-pub fault-line : (s : List ℕ) (v : Sofar) (f : Fault) → readingOf s ≡ on v → priceOf v ≡ fault f → faultLine v f ≤ length s + 1
+pub fault-line : (s : List ℕ) (v : Tables) (f : Fault) → readingOf s ≡ gives v → priceOf v ≡ fault f → faultLine v f ≤ length s + 1
 fault-line s v f is faults =
     let all = length (v .steps) in
     let plan = planOf (v .acts) in

@@ -22,7 +22,7 @@ use Rattle.landlord.proofs.Keeps.{Served, next-ok}
 use Rattle.landlord.proofs.Logs.{allowed-served}
 use Rattle.season_lines.specs.Lines.{actOf}
 use Rattle.season_tables.specs.declared.Seen.{Seen}
-use Rattle.season_tables.specs.Tables.{Placed, Sofar}
+use Rattle.season_tables.specs.Tables.{Placed, Tables}
 use Rattle.landlord.specs.CallNumbers.{callNumbers}
 use Rattle.season_items.specs.Inner.{HasItems}
 use Rattle.season_items.proofs.Presence as kept
@@ -66,7 +66,7 @@ pub record NotedStep (l : List ℕ) (x : Step) (s : ℕ) : Type 0 where
 front : (l m : List ℕ) (n i : ℕ) → take n l ≡ m → i < n → getD l i 0 ≡ getD m i 0
 front l m n i e b = sym (getD-take n l i 0 b) ∙ ap (λ t. getD t i 0) e
 
-module _ (x : Seen) (xs calls acts : List ℕ) (v : Sofar) (h : Holds x xs calls acts v) where
+module _ (x : Seen) (xs calls acts : List ℕ) (v : Tables) (h : Holds x xs calls acts v) where
   -- the bytes have the items that there are before a step
   pub items-before : (s : ℕ) → HasItems (catalogBefore v s) xs
   items-before s = kept.items-before (v .catalog) (v .steps) xs (h .stored) s
@@ -91,7 +91,7 @@ pub act-again : (a : Act) → actOf (actKind a) (actItem a) ≡ a
 act-again (Evict i) = refl
 act-again (Fetch i) = refl
 
-module _ (v : Sofar) where
+module _ (v : Tables) where
   -- a step leads from the catalog before it to the one before the next
   pub before-next : (s : ℕ) → s < length (v .steps) → catalogNext (catalogBefore v s) (stepAt (v .steps) s) ≡ catalogBefore v (suc s)
   before-next s l =
@@ -114,7 +114,7 @@ module _ (v : Sofar) where
 abbrev pub Ordered : List Placed → Type 0
 Ordered acts = (i j : ℕ) → i ≤ j → j < length acts → placedAt acts i .place ≤ placedAt acts j .place
 
-pub sound-ordered : (v : Sofar) → Sound v → Ordered (v .acts)
+pub sound-ordered : (v : Tables) → Sound v → Ordered (v .acts)
 sound-ordered v sound i j l b = sound .each j b .inOrder i l
 
 ordered-rest : (x : Placed) (acts : List Placed) → Ordered (x ∷ acts) → Ordered acts

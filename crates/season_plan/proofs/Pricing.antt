@@ -22,7 +22,7 @@ use Rattle.landlord.proofs.Folds.{tab-eq}
 use Rattle.landlord.proofs.Sums.{sum-zero}
 use Rattle.landlord.proofs.Keeps.{Served}
 use Rattle.season_tables.specs.declared.Seen.{Seen}
-use Rattle.season_tables.specs.Tables.{Sofar}
+use Rattle.season_tables.specs.Tables.{Tables}
 use Rattle.season_items.specs.Inner.{HasItems}
 use Rattle.season_tables.specs.Inner.{Holds}
 use Rattle.season_tables.specs.InnerSound.{Sound, placedAt, catalogBefore}
@@ -40,13 +40,13 @@ use Rattle.season_plan.proofs.Costs.{Faults, ofStep, fault-some, serve-
 use Rattle.season_plan.proofs.Acting.{did-ready}
 
 -- the acts before step s, the step, and the log from step s on
-abbrev actsOf : Sofar → ℕ → List Copy → Done
+abbrev actsOf : Tables → ℕ → List Copy → Done
 actsOf v s = allActs (catalogBefore v s) s 0 (planOf (v .acts) s)
 
-abbrev stepOn : Sofar → ℕ → List Copy → Done
+abbrev stepOn : Tables → ℕ → List Copy → Done
 stepOn v s = planServes (catalogBefore v s) (v .h) s (stepAt (v .steps) s)
 
-abbrev logFrom : Sofar → ℕ → List Copy → Priced
+abbrev logFrom : Tables → ℕ → List Copy → Priced
 logFrom v s = priceFrom (catalogBefore v s) (v .h) (planOf (v .acts)) s (drop s (v .steps))
 
 -- Steps 0 to s - 1 are served, and a is the first act that stands before no earlier step than s.
@@ -54,10 +54,10 @@ pub record Pricing (x : Seen) (xs calls acts : List ℕ) (p : Copies) (a s : ℕ
   pub within : s ≤ x .steps
   pub next : a ≤ x .acts
   pub low : p .paid ≤ most a s
-  pub at : (v : Sofar) → Holds x xs calls acts v → Sound v → a ≡ actsBefore s (v .acts)
-  pub stands : (v : Sofar) → Holds x xs calls acts v → Sound v → Stands (catalogBefore v s) p
+  pub begins : (v : Tables) → Holds x xs calls acts v → Sound v → a ≡ actsBefore s (v .acts)
+  pub stands : (v : Tables) → Holds x xs calls acts v → Sound v → Stands (catalogBefore v s) p
   pub leads :
-      (v : Sofar) →
+      (v : Tables) →
       Holds x xs calls acts v →
       Sound v →
       pricedWith (p .paid) (logFrom v s (copiesIn p)) ≡ priceOf v
@@ -73,7 +73,7 @@ with-with a b (fault f) = refl
 
 -- the acts are done, then the step is served, then the rest
 turn :
-    (v : Sofar) (s : ℕ) (after : Catalog) (d : Done) (serves : List Copy → Done) (next : List Copy → Priced) (paid : ℕ) (b : Acted) (r : Did) →
+    (v : Tables) (s : ℕ) (after : Catalog) (d : Done) (serves : List Copy → Done) (next : List Copy → Priced) (paid : ℕ) (b : Acted) (r : Did) →
     ActsDone v s d paid b →
     b .number ≡ 0 →
     ((q : List Copy) (c : ℕ) → HoldsCopies (catalogBefore v s) (b .copies) q c → Does after (serves q) c r) →
@@ -90,7 +90,7 @@ turn v s after (done q c) serves next paid b r did e served f = go (serves q) (s
 turn v s after (faulty w) serves next paid b r did e served f = absurd (fault-some w (sym (did .0) ∙ e))
 
 -- a fault's number is one of the table's
-acts-number : (v : Sofar) (s : ℕ) (d : Done) (paid : ℕ) (b : Acted) → ActsDone v s d paid b → b .number ≢ 0 → (1 ≤ b .number) × (b .number ≤ 20)
+acts-number : (v : Tables) (s : ℕ) (d : Done) (paid : ℕ) (b : Acted) → ActsDone v s d paid b → b .number ≢ 0 → (1 ≤ b .number) × (b .number ≤ 20)
 acts-number v s (done q c) paid b did e = absurd (e (did .0))
 acts-number v s (faulty f) paid b did e = rw (did .0) (fault-range f)
 
@@ -99,23 +99,23 @@ does-number cat (done q c) paid r did e = absurd (e (did .0))
 does-number cat (faulty f) paid r did e = rw did (fault-range f)
 
 -- the line of an act at fault
-act-line : (v : Sofar) (s t n a : ℕ) → s ≡ t → n ≡ actsBefore s (v .acts) + a → lineOfAct v n ≡ lineOfAct v (actsBefore t (v .acts) + a)
-act-line v s t n a same at = ap (lineOfAct v) (at ∙ ap (λ u. actsBefore u (v .acts) + a) same)
+act-line : (v : Tables) (s t n a : ℕ) → s ≡ t → n ≡ actsBefore s (v .acts) + a → lineOfAct v n ≡ lineOfAct v (actsBefore t (v .acts) + a)
+act-line v s t n a same is = ap (lineOfAct v) (is ∙ ap (λ u. actsBefore u (v .acts) + a) same)
 
 -- an act's fault is told with the act's line and item
 act-tells :
-    (v : Sofar) (s n i : ℕ) (f : Fault) →
+    (v : Tables) (s n i : ℕ) (f : Fault) →
     ofAct s (actsBefore s (v .acts)) n i f →
     telling (faultNumber f) (lineOfAct v n) i ≡ told (faultRefusal f (faultLine v f))
-act-tells v s n i (unknownItem t a j) (same, at, item) = λ k. telling 6 (act-line v s t n a same at k) (item k)
-act-tells v s n i (retiredItem t a j) (same, at, item) = λ k. telling 20 (act-line v s t n a same at k) (item k)
-act-tells v s n i (notHeld t a j) (same, at, item) = λ k. telling 11 (act-line v s t n a same at k) (item k)
-act-tells v s n i (alreadyHeld t a j) (same, at, item) = λ k. telling 12 (act-line v s t n a same at k) (item k)
+act-tells v s n i (unknownItem t a j) (same, is, item) = λ k. telling 6 (act-line v s t n a same is k) (item k)
+act-tells v s n i (retiredItem t a j) (same, is, item) = λ k. telling 20 (act-line v s t n a same is k) (item k)
+act-tells v s n i (notHeld t a j) (same, is, item) = λ k. telling 11 (act-line v s t n a same is k) (item k)
+act-tells v s n i (alreadyHeld t a j) (same, is, item) = λ k. telling 12 (act-line v s t n a same is k) (item k)
 act-tells v s n i (requestNotHeld t j) of = absurd of
 act-tells v s n i (overCapacity t) of = absurd of
 
 -- and a step's with the step's; 13 names no item
-step-tells : (v : Sofar) (s i : ℕ) (f : Fault) → ofStep s i f → telling (faultNumber f) (lineOfStep v s) i ≡ told (faultRefusal f (faultLine v f))
+step-tells : (v : Tables) (s i : ℕ) (f : Fault) → ofStep s i f → telling (faultNumber f) (lineOfStep v s) i ≡ told (faultRefusal f (faultLine v f))
 step-tells v s i (unknownItem t a j) of = absurd of
 step-tells v s i (retiredItem t a j) of = absurd of
 step-tells v s i (notHeld t a j) of = absurd of
@@ -124,7 +124,7 @@ step-tells v s i (requestNotHeld t j) (same, item) = λ k. telling 14 (lineOfSte
 step-tells v s i (overCapacity t) same = ap (λ u. telling 13 (lineOfStep v u) 0) same
 
 act-faulty :
-    (v : Sofar) (s : ℕ) (d : Done) (serves : List Copy → Done) (next : List Copy → Priced) (paid line item : ℕ) (b : Acted) (y : Refusal) →
+    (v : Tables) (s : ℕ) (d : Done) (serves : List Copy → Done) (next : List Copy → Priced) (paid line item : ℕ) (b : Acted) (y : Refusal) →
     told y ≡ telling (b .number) line item →
     ActsDone v s d paid b →
     b .number ≢ 0 →
@@ -136,7 +136,7 @@ act-faulty v s (faulty f) serves next paid line item b y tells did e l i =
     tells ∙ (λ j. telling (did .0 j) (l j) (i j)) ∙ act-tells v s (b .next) (actItem (placedAt (v .acts) (b .next) .act)) f (did .1)
 
 step-faulty :
-    (v : Sofar) (s : ℕ) (after : Catalog) (d : Done) (serves : List Copy → Done) (next : List Copy → Priced) (paid line item : ℕ) (b : Acted) (r : Did) (y : Refusal) →
+    (v : Tables) (s : ℕ) (after : Catalog) (d : Done) (serves : List Copy → Done) (next : List Copy → Priced) (paid line item : ℕ) (b : Acted) (r : Did) (y : Refusal) →
     told y ≡ telling (r .number) line item →
     ActsDone v s d paid b →
     b .number ≡ 0 →
@@ -153,11 +153,11 @@ step-faulty v s after (done q c) serves next paid line item b r y tells did e se
 step-faulty v s after (faulty w) serves next paid line item b r y tells did e served f of l = absurd (fault-some w (sym (did .0) ∙ e))
 
 -- what the acts leave, if they are done
-acts-next : (v : Sofar) (s : ℕ) (d : Done) (paid : ℕ) (b : Acted) → ActsDone v s d paid b → b .number ≡ 0 → b .next ≡ actsBefore (suc s) (v .acts)
+acts-next : (v : Tables) (s : ℕ) (d : Done) (paid : ℕ) (b : Acted) → ActsDone v s d paid b → b .number ≡ 0 → b .next ≡ actsBefore (suc s) (v .acts)
 acts-next v s (done q c) paid b did e = did .2
 acts-next v s (faulty f) paid b did e = absurd (fault-some f (sym (did .0) ∙ e))
 
-acts-stand : (v : Sofar) (s : ℕ) (d : Done) (paid : ℕ) (b : Acted) → ActsDone v s d paid b → b .number ≡ 0 → Stands (catalogBefore v s) (b .copies)
+acts-stand : (v : Tables) (s : ℕ) (d : Done) (paid : ℕ) (b : Acted) → ActsDone v s d paid b → b .number ≡ 0 → Stands (catalogBefore v s) (b .copies)
 acts-stand v s (done q c) paid b did e = stands-there (catalogBefore v s) (b .copies) q (paid + c) (did .1)
 acts-stand v s (faulty f) paid b did e = absurd (fault-some f (sym (did .0) ∙ e))
 
@@ -188,7 +188,7 @@ module _ (x : Seen) (xs calls acts : List ℕ) (pre : Priceable x xs calls acts)
         within = omega arith;
         next = omega arith;
         low = omega arith;
-        at = λ v h sound. sym (parted-is 0 (v .acts) 0 (record { within = omega arith; below = λ i l. absurd (let z : i < 0 = l in omega arith); above = λ i l b. omega arith }));
+        begins = λ v h sound. sym (parted-is 0 (v .acts) 0 (record { within = omega arith; below = λ i l. absurd (let z : i < 0 = l in omega arith); above = λ i l b. omega arith }));
         stands =
             λ v h sound.
             record {
@@ -214,7 +214,7 @@ module _ (x : Seen) (xs calls acts : List ℕ) (pre : Priceable x xs calls acts)
           go (yes l) = ap (λ t. getD t i 0) marks ∙ getD-replicate 256 i 0 0 l
           go (no l) = List·getD-eq-default (p .marks) 0 (let z : length (p .marks) ≤ i = omega (arith, ap length marks, length-replicate 256 zero) in z)
 
-      empty : (v : Sofar) → Holds x xs calls acts v → copiesIn p ≡ tab (length (v .catalog)) (λ i. noCopy)
+      empty : (v : Tables) → Holds x xs calls acts v → copiesIn p ≡ tab (length (v .catalog)) (λ i. noCopy)
       empty v h =
           tab-eq (p .n) (λ i. copyFrom (getD (p .marks) i 0)) (λ i. noCopy) (λ i l. copy-none (getD (p .marks) i 0) (mark i))
           ∙ ap (λ n. tab n (λ (i : ℕ). noCopy)) (count ∙ h .itemCount)
@@ -222,7 +222,7 @@ module _ (x : Seen) (xs calls acts : List ℕ) (pre : Priceable x xs calls acts)
   module _ (p : Copies) (a s : ℕ) (so : Pricing x xs calls acts p a s) where
     -- the sum is far from the end of its word
     pub pricing-low : p .paid ≤ 900000000000
-    pricing-low = omega (arith, so .low, so .within, so .next, pre .fewActs, pre .fewSteps)
+    pricing-low = omega (arith, so .low, so .within, so .next, pre .few .acts, pre .few .steps)
 
     -- the catalog of the text before step s
     abbrev cat : Catalog
@@ -233,7 +233,7 @@ module _ (x : Seen) (xs calls acts : List ℕ) (pre : Priceable x xs calls acts)
 
     ready-at : (q : Copies) → Stands cat q → q .paid ≤ 1000000000000 → PlanReady xs q
     ready-at q stands low =
-        record { room = pre .forItems; catalog = cat; items = items-before x xs calls acts (pre .text) (pre .holds) s; ok = cat-ok; stands = stands; low = low }
+        record { room = pre .roomy .forItems; catalog = cat; items = items-before x xs calls acts (pre .text) (pre .holds) s; ok = cat-ok; stands = stands; low = low }
 
     pub pricing-ready : PlanReady xs p
     pricing-ready = ready-at p (so .stands (pre .text) (pre .holds) (pre .sound)) (omega (arith, pricing-low))
@@ -244,7 +244,7 @@ module _ (x : Seen) (xs calls acts : List ℕ) (pre : Priceable x xs calls acts)
           record {
             calls = calls;
             priceable = pre;
-            begins = so .at (pre .text) (pre .holds) (pre .sound);
+            begins = so .begins (pre .text) (pre .holds) (pre .sound);
             stands = so .stands (pre .text) (pre .holds) (pre .sound);
             inside = l;
             paid = so .low;
@@ -252,12 +252,12 @@ module _ (x : Seen) (xs calls acts : List ℕ) (pre : Priceable x xs calls acts)
 
       module _ (b : Acted) (ran : RunsActs x xs p acts a s b) (bound : ActsWithin x s b) where
         -- the acts before the step, for a text that the slices hold
-        did : (v : Sofar) → Holds x xs calls acts v → Sound v → ActsDone v s (actsOf v s (copiesIn p)) (p .paid) b
-        did v h sound = ran calls v (record { holds = h; sound = sound; begins = so .at v h sound; stands = so .stands v h sound })
+        did : (v : Tables) → Holds x xs calls acts v → Sound v → ActsDone v s (actsOf v s (copiesIn p)) (p .paid) b
+        did v h sound = ran calls v (record { holds = h; sound = sound; begins = so .begins v h sound; stands = so .stands v h sound })
 
         -- the step with the rest of the log
         unrolled :
-            (v : Sofar) →
+            (v : Tables) →
             Holds x xs calls acts v →
             Sound v →
             pricedWith (p .paid) (priceThen (andThen (actsOf v s (copiesIn p)) (stepOn v s)) (logFrom v (suc s))) ≡ priceOf v
@@ -275,15 +275,15 @@ module _ (x : Seen) (xs calls acts : List ℕ) (pre : Priceable x xs calls acts)
         -- 11 or 12, with the act's line and item
         pub pricing-act-fails :
             (line : ℕ) (y : Refusal) → told y ≡ telling (b .number) line (getD acts (3 * b .next + 2) 0) → b .number ≢ 0 → line ≡ 9 + x .n + x .steps + b .next → PricedAs x xs calls acts (Refused y)
-        pricing-act-fails line y tells e at v h sound =
+        pricing-act-fails line y tells e is v h sound =
             subst (λ (z : Priced). PricedBy v z (Refused y)) (unrolled v h sound)
             (act-faulty v s (actsOf v s (copiesIn p)) (stepOn v s)
             (logFrom v (suc s)) (p .paid) line (getD acts (3 * b .next + 2) 0) b y tells (did v h sound) e
-            (omega (arith, h .itemCount, h .stepCount)) (noted-act x xs calls acts v h (b .next) (bound .fault e) .item))
+            (omega (arith, h .itemCount, h .stepCount)) (noted-act x xs calls acts v h (b .next) (bound .inside e) .item))
 
         module _ (e : b .number ≡ 0) where
           -- where the program stands before the step
-          ready : (v : Sofar) → Holds x xs calls acts v → Sound v → Stands (catalogBefore v s) (b .copies)
+          ready : (v : Tables) → Holds x xs calls acts v → Sound v → Stands (catalogBefore v s) (b .copies)
           ready v h sound = acts-stand v s (actsOf v s (copiesIn p)) (p .paid) b (did v h sound) e
 
           pub pricing-serves : PlanServable xs (b .copies) (getD calls (7 * s + 1) 0) (getD calls (7 * s + 2) 0)
@@ -295,7 +295,7 @@ module _ (x : Seen) (xs calls acts : List ℕ) (pre : Priceable x xs calls acts)
               let stands = ready v h (pre .sound) in
               let served = step-served v (pre .sound) s (omega (arith, h .stepCount)) in
               record {
-                ready = ready-at (b .copies) stands (omega (arith, bound .paid e, bound .next, pre .fewActs, pre .fewSteps));
+                ready = ready-at (b .copies) stands (omega (arith, bound .paid e, bound .next, pre .few .acts, pre .few .steps));
                 known =
                     λ (y : getD calls (7 * s + 1) 0 ≢ 76) (z : getD calls (7 * s + 1) 0 ≢ 65).
                     omega (arith, noted .item, stands .count, item-known (v .k) cat st served (λ u. y (noted .kind ∙ u)) (λ u. z (noted .kind ∙ u)));
@@ -305,7 +305,7 @@ module _ (x : Seen) (xs calls acts : List ℕ) (pre : Priceable x xs calls acts)
           module _ (r : Did) (served : Serves xs (x .h) (b .copies) (getD calls (7 * s + 1) 0) (getD calls (7 * s + 2) 0) r) where
             -- the step as the definition serves it, for a text that the slices hold
             serves :
-                (v : Sofar) →
+                (v : Tables) →
                 Holds x xs calls acts v →
                 (q : List Copy) (c : ℕ) →
                 HoldsCopies (catalogBefore v s) (b .copies) q c →
@@ -325,7 +325,7 @@ module _ (x : Seen) (xs calls acts : List ℕ) (pre : Priceable x xs calls acts)
             -- 14 or 13, with the step's line and item
             pub pricing-step-fails :
                 (line : ℕ) (y : Refusal) → told y ≡ telling (r .number) line (getD calls (7 * s + 2) 0) → r .number ≢ 0 → line ≡ 7 + x .n + s → PricedAs x xs calls acts (Refused y)
-            pricing-step-fails line y tells f at v h sound =
+            pricing-step-fails line y tells f is v h sound =
                 subst (λ (z : Priced). PricedBy v z (Refused y)) (unrolled v h sound)
                 (step-faulty v s (catalogBefore v (suc s)) (actsOf v s (copiesIn p)) (stepOn v s)
                 (logFrom v (suc s)) (p .paid) line (stepItem (stepAt (v .steps) s)) b r y
@@ -334,7 +334,7 @@ module _ (x : Seen) (xs calls acts : List ℕ) (pre : Priceable x xs calls acts)
 
             -- what the step leaves
             after :
-                (v : Sofar) →
+                (v : Tables) →
                 Holds x xs calls acts v →
                 Sound v →
                 r .number ≡ 0 →
@@ -351,7 +351,7 @@ module _ (x : Seen) (xs calls acts : List ℕ) (pre : Priceable x xs calls acts)
                   within = omega arith;
                   next = bound .next;
                   low = omega (arith, after (pre .text) (pre .holds) (pre .sound) f .1, bound .paid e);
-                  at =
+                  begins =
                       λ v h sound.
                       rw add-one
                       (acts-next v s (actsOf v s (copiesIn p)) (p .paid) b (did v h sound) e);

@@ -1,8 +1,8 @@
 -- How the program holds what a plan has, and what its functions give. Assumes nothing.
 use Rattle.types.specs.{declared.Step.Step, Types.{numbersOf, stepItem, actItem}}
 use Rattle.landlord.specs.{Plan.{Plan, Copy, noCopy, cleanCopy, dirtyCopy, copyAt, isChanged, cleaned, owed, Done, done, faulty, Fault, unknownItem, retiredItem, notHeld, alreadyHeld, requestNotHeld, overCapacity, faultNumber, planUsed, planEvicts, planFetches, planActs, allActs, planServes}, Fold.tab, Catalog.{Catalog, CatalogOk, itemAt, catalogNext}}
-use Rattle.season_items.specs.Inner.{HasItems}
-use Rattle.season_tables.specs.{Tables.{Placed, Sofar}, declared.Seen.Seen, Inner.Holds, InnerSound.{Sound, placedAt, catalogBefore}}
+use Rattle.season_items.specs.Inner.{itemRoom, HasItems}
+use Rattle.season_tables.specs.{Tables.{Placed, Tables}, declared.Seen.Seen, Inner.{Holds, Roomy, FewRead}, InnerSound.{Sound, placedAt, catalogBefore}}
 use Rattle.season_plan.specs.declared.{Copies.Copies, Did.Did, Acted.Acted, Price.{Price, the-variants.{Cost, Refused}}}
 use Rattle.season_plan.specs.Plans.{actsAt, actsBefore, priceOf, PricedBy}
 use mathlib.Core.{Path._≡_, Logic._≢_, Bool.{Bool, false, cond, _||_}, List.List}
@@ -44,7 +44,7 @@ Does cat (faulty f) before r = r .number ≡ faultNumber f
 
 -- what a part of the plan asks: the bytes of a catalog in range, where the program stands, and sums far from the end of their words
 pub record PlanReady (xs : List ℕ) (p : Copies) : Type 0 where
-  pub room : length xs ≡ 1280
+  pub room : itemRoom ≤ length xs
   pub catalog : Catalog
   pub items : HasItems catalog xs
   pub ok : CatalogOk catalog
@@ -131,7 +131,7 @@ ofAct s first n i (requestNotHeld t j) = ⊥
 ofAct s first n i (overCapacity t) = ⊥
 
 -- the acts before step s were done, and `next` is the first behind them; or act `next` is at fault
-abbrev pub ActsDone : Sofar → ℕ → Done → ℕ → Acted → Type 0
+abbrev pub ActsDone : Tables → ℕ → Done → ℕ → Acted → Type 0
 ActsDone v s (done q c) before r =
     (r .number ≡ 0) × HoldsCopies (catalogBefore v s) (r .copies) q (before + c) × (r .next ≡ actsBefore (suc s) (v .acts))
 ActsDone v s (faulty f) before r =
@@ -139,14 +139,11 @@ ActsDone v s (faulty f) before r =
 
 -- what pricing asks: the slices hold an accepted text
 pub record Priceable (x : Seen) (xs calls acts : List ℕ) : Type 0 where
-  pub text : Sofar
+  pub text : Tables
   pub holds : Holds x xs calls acts text
   pub sound : Sound text
-  pub fewSteps : x .steps ≤ 10922
-  pub fewActs : x .acts ≤ 10922
-  pub forItems : length xs ≡ 1280
-  pub forSteps : length calls ≡ 76461
-  pub forActs : length acts ≡ 32769
+  pub few : FewRead x
+  pub roomy : Roomy xs calls acts
 
 -- at most so much is paid for so many acts, and so many steps that are flushes
 abbrev pub most : ℕ → ℕ → ℕ
@@ -163,7 +160,7 @@ pub record Actable (x : Seen) (xs : List ℕ) (p : Copies) (acts : List ℕ) (fi
   pub paid : p .paid ≤ most first s
 
 -- a text that the slices hold, whose acts before step s begin at act `first`, with the program where it stands before them
-pub record Before (x : Seen) (xs : List ℕ) (p : Copies) (acts : List ℕ) (first s : ℕ) (calls : List ℕ) (v : Sofar) : Type 0 where
+pub record Before (x : Seen) (xs : List ℕ) (p : Copies) (acts : List ℕ) (first s : ℕ) (calls : List ℕ) (v : Tables) : Type 0 where
   pub holds : Holds x xs calls acts v
   pub sound : Sound v
   pub begins : first ≡ actsBefore s (v .acts)
@@ -172,19 +169,19 @@ pub record Before (x : Seen) (xs : List ℕ) (p : Copies) (acts : List ℕ) (fir
 -- for every such text, its acts before step s are done, or the first fault among them is told
 abbrev pub RunsActs : Seen → List ℕ → Copies → List ℕ → ℕ → ℕ → Acted → Type 0
 RunsActs x xs p acts first s r =
-    (calls : List ℕ) (v : Sofar) →
+    (calls : List ℕ) (v : Tables) →
     Before x xs p acts first s calls v →
     ActsDone v s (allActs (catalogBefore v s) s 0 (planOf (v .acts) s) (copiesIn p)) (p .paid) r
 
 -- `next` is no further than behind the last act, an act at fault is one of them, and the sum grows by what an act may cost
 pub record ActsWithin (x : Seen) (s : ℕ) (r : Acted) : Type 0 where
   pub next : r .next ≤ x .acts
-  pub fault : r .number ≢ 0 → r .next < x .acts
+  pub inside : r .number ≢ 0 → r .next < x .acts
   pub paid : r .number ≡ 0 → r .copies .paid ≤ most (r .next) s
 
 -- whatever text the slices hold, this is the price of its plan
 abbrev pub PricedAs : Seen → List ℕ → List ℕ → List ℕ → Price → Type 0
-PricedAs x xs calls acts r = (v : Sofar) → Holds x xs calls acts v → Sound v → PricedBy v (priceOf v) r
+PricedAs x xs calls acts r = (v : Tables) → Holds x xs calls acts v → Sound v → PricedBy v (priceOf v) r
 
 -- and it is far from the end of its word
 abbrev pub PriceSmall : Price → Type 0

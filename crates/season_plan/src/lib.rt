@@ -4,6 +4,8 @@ ghost use mathlib.Core.Path.{_≡_};
 ghost use Prim.Native.Nat.{_≤_};
 ghost use lib.Dec.{leb};
 ghost use Rattle.season_plan.specs.Inner.{PlanReady, Known, Loses, Evicts, Fetches, Acts, Owes, Cleans, lacking, PlanServable, Serves, Actable, RunsActs, ActsWithin, Priceable, PricedAs, PriceSmall};
+use season_items::ACT_NUMBERS;
+use season_items::CALL_NUMBERS;
 use season_tables::Seen;
 use types::Refusal;
 
@@ -124,10 +126,15 @@ fn acts_before(
     let mut q = p;
     let mut a = first;
     while a < seen.acts {
-        if acts[3 * a] != step {
+        if acts[ACT_NUMBERS * a] != step {
             break;
         }
-        let r = act(catalog, q, acts[3 * a + 1], acts[3 * a + 2] as usize);
+        let r = act(
+            catalog,
+            q,
+            acts[ACT_NUMBERS * a + 1],
+            acts[ACT_NUMBERS * a + 2] as usize,
+        );
         let number = r.number;
         let next = r.copies;
         q = next;
@@ -256,12 +263,12 @@ pub fn price_plan(seen: Seen, catalog: &[u8], calls: &[u32], acts: &[u32]) -> Pr
             return Price::Refused(types::refusal_of(
                 number,
                 (9 + seen.n + steps + a) as u32,
-                acts[3 * a + 2],
+                acts[ACT_NUMBERS * a + 2],
             ));
         }
         let ready = before.copies;
-        let kind = calls[7 * s + 1];
-        let item = calls[7 * s + 2];
+        let kind = calls[CALL_NUMBERS * s + 1];
+        let item = calls[CALL_NUMBERS * s + 2];
         let served = serve(catalog, seen.h, ready, kind, item as usize);
         let fault = served.number;
         if fault != 0 {

@@ -28,7 +28,7 @@ use Rattle.season_lines.specs.declared.Line.the-variants.{Sizes, Item as ItemLi
 use Rattle.line_fields.specs.Fields.{split, fieldOf, fieldsOf}
 use Rattle.season_lines.specs.Lines.{formOf, lineIn}
 use Rattle.line_fields.specs.Inner.{before}
-use Rattle.season_tables.specs.Tables.{Sofar, on, stop, mayEnd, mustEnd, nowNamed, namedBy, nextTable, withSizes, withItem, withStep, withAct, inTurn, itemRefused, takes, leads, atEnd, goesOn, readFrom}
+use Rattle.season_tables.specs.Tables.{Tables, Sofar, OrRefusal, gives, stops, goesOn, mayEnd, mustEnd, namedBy, nextTable, withSizes, withItem, withStep, withAct, inTurn, itemRefused, takes, readLine, atEnd, readFrom}
 use Rattle.season_tables.specs.Inner.{isBlank, isSized, wantsValues}
 use Rattle.season_scan.specs.Inner.{onward, readUntil}
 use Rattle.season_tables.proofs.Leads.{leads-values}
@@ -41,7 +41,7 @@ pub line-first :
     (upto n : ℕ) (s : List ℕ) (v : Sofar) →
     length (before 10 s) < length s →
     readFrom upto n (split 10 s) v
-    ≡ goesOn (leads upto v (before 10 s) n) (readFrom upto (suc n) (split 10 (drop (length (before 10 s) + 1) s)))
+    ≡ goesOn (readLine upto v (before 10 s) n) (readFrom upto (suc n) (split 10 (drop (length (before 10 s) + 1) s)))
 unfolding readFrom
 line-first upto n s v h = rw (split-more 10 s h, split-some 10 (drop (length (before 10 s) + 1) s) .1)
 
@@ -49,7 +49,7 @@ pub until-first :
     (upto n : ℕ) (s : List ℕ) (v : Sofar) →
     length (before 10 s) < length s →
     readUntil upto n (split 10 s) v
-    ≡ onward v (leads upto v (before 10 s) n) (readUntil upto (suc n) (split 10 (drop (length (before 10 s) + 1) s)))
+    ≡ onward v (readLine upto v (before 10 s) n) (readUntil upto (suc n) (split 10 (drop (length (before 10 s) + 1) s)))
 unfolding readUntil
 until-first upto n s v h = rw (split-more 10 s h, split-some 10 (drop (length (before 10 s) + 1) s) .1)
 
@@ -74,7 +74,7 @@ pub no-feed :
     (upto n : ℕ) (s : List ℕ) (v : Sofar) →
     0 < length s →
     length s ≤ length (before 10 s) →
-    readFrom upto n (split 10 s) v ≡ stop (Malformed n)
+    readFrom upto n (split 10 s) v ≡ stops (Malformed n)
 unfolding readFrom
 no-feed upto n s v p h = rw (split-last 10 s h, ne-eqb (length (before 10 s)) 0 (λ e. omega arith))
 
@@ -86,14 +86,14 @@ until-no-feed upto n s v h = rw (split-last 10 s h)
 
 -- whether a line's fields are looked at, by what has been read
 abbrev pub wantsHere : ℕ → Sofar → List ℕ → Bool
-wantsHere upto v l = wantsValues (v .named) upto (v .table) (v .k) (length l)
+wantsHere upto v l = wantsValues upto (v .stage) (v .read .k) (length l)
 
 -- a line that is torn by its fields alone
 pub malformed-line :
     (upto : ℕ) (v : Sofar) (l : List ℕ) (n : ℕ) →
     wantsHere upto v l ≡ true →
-    lineIn (v .table) (v .form) (fieldsOf l) n ≡ Refused (Malformed n) →
-    leads upto v l n ≡ stop (Malformed n)
+    lineIn (v .stage .table) (v .stage .heading) (fieldsOf l) n ≡ Refused (Malformed n) →
+    readLine upto v l n ≡ stops (Malformed n)
 unfolding takes
 malformed-line upto v l n h e = leads-values upto v l n h ∙ rw e
 
@@ -104,7 +104,7 @@ abbrev pub Adds : ℕ → ℕ → Bool → ℕ → Type 0
 Adds a b wants fields = (b ≡ a) ⊎ ((b ≡ a + 1) × (wants ≡ true) × (3 ≤ fields))
 
 -- the items as the steps have left them
-abbrev itemsNow : Sofar → Catalog
+abbrev itemsNow : Tables → Catalog
 itemsNow v = catalogAfter (v .catalog) (v .steps)
 
 -- steps make no catalog shorter than another that was no longer
@@ -113,63 +113,65 @@ unfolding fold
 as-long [] a b h = h
 as-long (s ∷ steps) a b h = as-long steps (catalogNext a s) (catalogNext b s) (omega (arith, next-length a s, next-length b s))
 
-pub record Grows (upto : ℕ) (v w : Sofar) (wants : Bool) (fields : ℕ) : Type 0 where
-  pub table : 1 ≤ upto → v .table ≤ upto → w .table ≤ upto
+-- what a line adds to what has been read, in which table: no step before the third
+pub record Grows (table : ℕ) (v w : Tables) (wants : Bool) (fields : ℕ) : Type 0 where
   pub items : length (itemsNow v) ≤ length (itemsNow w)
   pub steps : Adds (length (v .steps)) (length (w .steps)) wants fields
   pub acts : Adds (length (v .acts)) (length (w .acts)) wants fields
+  pub early : table ≤ 1 → length (w .steps) ≡ length (v .steps)
 
-no-on : (r : Refusal) (w : Sofar) → stop r ≡ on w → ⊥
-no-on r w e = let z : _≡_ {A = ℕ} 0 1 = cc in omega arith
+-- nothing
+grows-not : (table : ℕ) (v : Tables) (wants : Bool) (fields : ℕ) → Grows table v v wants fields
+grows-not table v wants fields = record { items = omega arith; steps = inl refl; acts = inl refl; early = λ l. refl }
 
-if-on : (t : Bool) (x w : Sofar) (r : Refusal) → cond t (on x) (stop r) ≡ on w → x ≡ w
-if-on true x w r e = cc
-if-on false x w r e = absurd (no-on r w e)
+no-two : {A : Type 0} (r : Refusal) (w : A) → stops r ≡ gives w → ⊥
+no-two r w e = let z : _≡_ {A = ℕ} 0 1 = cc in omega arith
 
-if-both : (t u : Bool) (x w : Sofar) (r q : Refusal) → cond t (cond u (on x) (stop r)) (stop q) ≡ on w → x ≡ w
-if-both true u x w r q e = if-on u x w r e
-if-both false u x w r q e = absurd (no-on q w e)
+if-gives : {A : Type 0} (t : Bool) (x w : A) (r : Refusal) → cond t (gives x) (stops r) ≡ gives w → x ≡ w
+if-gives true x w r e = cc
+if-gives false x w r e = absurd (no-two r w e)
 
-grows-to : (upto : ℕ) (v x w : Sofar) (b : Bool) (f : ℕ) → x ≡ w → Grows upto v x b f → Grows upto v w b f
-grows-to upto v x w b f e g = rw e at g
+if-both : {A : Type 0} (t u : Bool) (x w : A) (r q : Refusal) → cond t (cond u (gives x) (stops r)) (stops q) ≡ gives w → x ≡ w
+if-both true u x w r q e = if-gives u x w r e
+if-both false u x w r q e = absurd (no-two q w e)
 
 -- a value line
 grown-by :
-    (upto : ℕ) (v w : Sofar) (table form : ℕ) (fs : List Field) (n : ℕ) →
-    takes v (lineIn table form fs n) n ≡ on w →
-    Grows upto v w true (length fs)
+    (v w : Tables) (table heading : ℕ) (fs : List Field) (n : ℕ) →
+    takes v (lineIn table heading fs n) n ≡ gives w →
+    Grows table v w true (length fs)
 unfolding takes
-grown-by upto v w table form fs n e = go (lineIn table form fs n) (line-says table form fs n) e
+grown-by v w table heading fs n e = go (lineIn table heading fs n) (line-says table heading fs n) e
   where
-    go : (line : Line) → Says table (length fs) n line → takes v line n ≡ on w → Grows upto v w true (length fs)
+    to : (x : Tables) → x ≡ w → Grows table v x true (length fs) → Grows table v w true (length fs)
+    to x e g = rw e at g
+
+    go : (line : Line) → Says table (length fs) n line → takes v line n ≡ gives w → Grows table v w true (length fs)
     go (Sizes k h r) l e =
-        grows-to upto v (withSizes v k h r) w true (length fs) (if-on (leb h k) (withSizes v k h r) w (PlanTooLarge n) e)
-        (record { table = λ u t. t; items = omega arith; steps = inl refl; acts = inl refl })
+        to (withSizes v k h r) (if-gives (leb h k) (withSizes v k h r) w (PlanTooLarge n) e)
+        (record { items = omega arith; steps = inl refl; acts = inl refl; early = λ l. refl })
     go (ItemLine i k l m) q e =
-        grows-to upto v (withItem v k l m) w true (length fs)
-        (if-on (eqb i (length (v .catalog))) (withItem v k l m) w (OutOfSequence n) e)
-        (record { table = λ u t. t; items = as-long (v .steps) (v .catalog) (v .catalog ++ (listed k l m ∷ [])) (omega (arith, length-append (v .catalog) (listed k l m ∷ []))); steps = inl refl; acts = inl refl })
+        to (withItem v k l m) (if-gives (eqb i (length (v .catalog))) (withItem v k l m) w (OutOfSequence n) e)
+        (record { items = as-long (v .steps) (v .catalog) (v .catalog ++ (listed k l m ∷ [])) (omega (arith, length-append (v .catalog) (listed k l m ∷ []))); steps = inl refl; acts = inl refl; early = λ l. refl })
     go (StepLine s) l e =
         let number = itemRefusal (v .k) (itemsNow v) s in
-        grows-to upto v (withStep v s) w true (length fs)
-        (if-on (eqb number 0) (withStep v s) w (itemRefused number n (stepItem s)) e)
+        to (withStep v s) (if-gives (eqb number 0) (withStep v s) w (itemRefused number n (stepItem s)) e)
         (record {
-          table = λ u t. t;
           items = rw (after-more (v .catalog) (v .steps) s) (next-follows (itemsNow v) s .longer);
           steps = inr (length-append (v .steps) (s ∷ []), refl, l .1);
           acts = inl refl;
+          early = λ k. absurd (omega (arith, l .0));
         })
     go (ActLine place act) l e =
         let number = ifKnown (catalogAfter (v .catalog) (take place (v .steps))) (actItem act) 0 in
-        grows-to upto v (withAct v place act) w true (length fs)
-        (if-both (inTurn v place) (eqb number 0) (withAct v place act) w (itemRefused number n (actItem act)) (ActOutOfOrder n) e)
+        to (withAct v place act) (if-both (inTurn v place) (eqb number 0) (withAct v place act) w (itemRefused number n (actItem act)) (ActOutOfOrder n) e)
         (record {
-          table = λ u t. t;
           items = omega arith;
           steps = inl refl;
           acts = inr (length-append (v .acts) _, refl, l .1);
+          early = λ l. refl;
         })
-    go (Refused r) l e = absurd (no-on r w e)
+    go (Refused r) l e = absurd (no-two r w e)
 
 -- the last table has no blank line behind it
 may-end : (b : Bool) (upto table k : ℕ) → 1 ≤ upto → cond b (mayEnd upto table k) false ≡ true → table < upto
@@ -180,28 +182,49 @@ may-end b upto table k low e = go b (eqb table 0) (isSized k) (ltb table upto) r
     go true false s t ez et e = ltb-true table upto (et ∙ e)
     go false z s t ez et e = absurd (false≢true e)
 
-pub grown : (upto : ℕ) (v w : Sofar) (l : List ℕ) (n : ℕ) → leads upto v l n ≡ on w → Grows upto v w (wantsHere upto v l) (length (fieldsOf l))
-unfolding wantsValues leads
+-- where a line leads that leads on: no further than the last table, and no table back; and what it adds
+pub record Moves (upto : ℕ) (v w : Sofar) (wants : Bool) (fields : ℕ) : Type 0 where
+  pub within : 1 ≤ upto → v .stage .table ≤ upto → w .stage .table ≤ upto
+  pub onward : v .stage .table ≤ w .stage .table
+  pub adds : Grows (v .stage .table) (v .read) (w .read) wants fields
+
+pub grown : (upto : ℕ) (v w : Sofar) (l : List ℕ) (n : ℕ) → readLine upto v l n ≡ gives w → Moves upto v w (wantsHere upto v l) (length (fieldsOf l))
+unfolding wantsValues readLine
 grown upto v w l n e =
-    go (v .named) (cond (isBlank l) (mayEnd upto (v .table) (v .k)) false) (mustEnd (v .table) (v .k)) (formOf (v .table) l)
-    (may-end (isBlank l) upto (v .table) (v .k)) e
+    go (v .stage .named) (cond (isBlank l) (mayEnd upto (v .stage .table) (v .read .k)) false) (mustEnd (v .stage .table) (v .read .k)) (formOf (v .stage .table) l)
+    (may-end (isBlank l) upto (v .stage .table) (v .read .k)) e
   where
+    to : (x : Sofar) (wants : Bool) → x ≡ w → Moves upto v x wants (length (fieldsOf l)) → Moves upto v w wants (length (fieldsOf l))
+    to x wants e g = rw e at g
+
+    values :
+        (x : OrRefusal Tables) →
+        takes (v .read) (lineIn (v .stage .table) (v .stage .heading) (fieldsOf l) n) n ≡ x →
+        goesOn x (λ t. gives (record { stage = v .stage; read = t })) ≡ gives w →
+        Moves upto v w true (length (fieldsOf l))
+    values (gives t) is e =
+        to (record { stage = v .stage; read = t }) true (cc)
+        (record { within = λ u b. b; onward = omega arith; adds = grown-by (v .read) t (v .stage .table) (v .stage .heading) (fieldsOf l) n is })
+    values (stops r) is e = absurd (no-two r w e)
+
     go :
         (a p m : Bool) (names : Names) →
-        (1 ≤ upto → p ≡ true → v .table < upto) →
-        cond a (cond p (on (nextTable v)) (cond m (stop (Malformed n)) (takes v (lineIn (v .table) (v .form) (fieldsOf l) n) n)))
-        (namedBy v names n)
-        ≡ on w →
-        Grows upto v w (cond a (cond p false (not m)) false) (length (fieldsOf l))
+        (1 ≤ upto → p ≡ true → v .stage .table < upto) →
+        cond a (cond p (gives (record { stage = nextTable (v .stage); read = v .read }))
+        (cond m (stops (Malformed n))
+        (goesOn (takes (v .read) (lineIn (v .stage .table) (v .stage .heading) (fieldsOf l) n) n) (λ t. gives (record { stage = v .stage; read = t })))))
+        (goesOn (namedBy (v .stage) names n) (λ q. gives (record { stage = q; read = v .read })))
+        ≡ gives w →
+        Moves upto v w (cond a (cond p false (not m)) false) (length (fieldsOf l))
     go true true m names below e =
-        grows-to upto v (nextTable v) w false (length (fieldsOf l)) (cc)
-        (record { table = λ u t. below u refl; items = omega arith; steps = inl refl; acts = inl refl })
-    go true false true names below e = absurd (no-on (Malformed n) w e)
-    go true false false names below e = grown-by upto v w (v .table) (v .form) (fieldsOf l) n e
+        to (record { stage = nextTable (v .stage); read = v .read }) false (cc)
+        (record { within = λ u b. below u refl; onward = omega arith; adds = grows-not (v .stage .table) (v .read) false (length (fieldsOf l)) })
+    go true false true names below e = absurd (no-two (Malformed n) w e)
+    go true false false names below e = values _ refl e
     go false p m (Form f) below e =
-        grows-to upto v (nowNamed v f) w false (length (fieldsOf l)) (cc)
-        (record { table = λ u t. t; items = omega arith; steps = inl refl; acts = inl refl })
-    go false p m Unknown below e = absurd (no-on (Heading n) w e)
+        to (record { stage = record { table = v .stage .table; named = true; heading = f }; read = v .read }) false (cc)
+        (record { within = λ u b. b; onward = omega arith; adds = grows-not (v .stage .table) (v .read) false (length (fieldsOf l)) })
+    go false p m Unknown below e = absurd (no-two (Heading n) w e)
 
 -- ## The first field of what is left of a line
 

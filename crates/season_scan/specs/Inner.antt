@@ -1,28 +1,28 @@
--- How many steps and acts a text of at most 65,536 bytes can have, six bytes each; and what the scan leaves in the struct and the
--- slices, whether it takes the text or refuses it. Assumes nothing.
+-- How many steps and acts an accepted text has, and what the scan leaves in the struct and the slices, whether it takes the text or
+-- refuses it. Assumes nothing.
 use mathlib.Core.List.{List, [], _∷_}
-use Prim.Native.Nat.{ℕ, suc, _≤_}
+use Prim.Native.Nat.{ℕ, suc}
 use Rattle.line_fields.specs.Fields.{split}
-use Rattle.season_tables.specs.{declared.Scanned.Scanned, Tables.{Sofar, Led, on, stop, atStart, leads}, Inner.{Holds, Untouched}}
+use Rattle.season_tables.specs.{declared.Scanned.Scanned, Tables.{Tables, Sofar, OrRefusal, gives, stops, atStart, readLine}, Inner.{Holds, Untouched, FewRead}}
 
--- an accepted text has no more
-abbrev pub Few : Led → Scanned → Type 0
-Few (on v) r = (r .seen .steps ≤ 10922) × (r .seen .acts ≤ 10922)
-Few (stop x) r = Unit {0}
+-- no more than a text of 65,536 bytes can have
+abbrev pub Few : OrRefusal Tables → Scanned → Type 0
+Few (gives v) r = FewRead (r .seen)
+Few (stops x) r = Unit {0}
 
 -- a line that leads on is followed by the next; before one that stops, this has been read
-abbrev pub onward : Sofar → Led → (Sofar → Sofar) → Sofar
-onward v (on w) next = next w
-onward v (stop r) next = v
+abbrev pub onward : Sofar → OrRefusal Sofar → (Sofar → Sofar) → Sofar
+onward v (gives w) next = next w
+onward v (stops r) next = v
 
 -- what has been read where the reading ends, from line n on: all, or what stands before the first faulty line
 unfoldable pub readUntil : ℕ → ℕ → List (List ℕ) → Sofar → Sofar
 readUntil upto n [] v = v
 readUntil upto n (l ∷ []) v = v
-readUntil upto n (l ∷ m ∷ rest) v = onward v (leads upto v l n) (readUntil upto (suc n) (m ∷ rest))
+readUntil upto n (l ∷ m ∷ rest) v = onward v (readLine upto v l n) (readUntil upto (suc n) (m ∷ rest))
 
-abbrev pub readIn : ℕ → List ℕ → Sofar
-readIn upto s = readUntil upto 1 (split 10 s) atStart
+abbrev pub readIn : ℕ → List ℕ → Tables
+readIn upto s = readUntil upto 1 (split 10 s) atStart .read
 
 -- What the scan of s up to a table leaves, be it taken or refused: the struct and the slices hold what has been read, and past that
 -- the slices are as they were.

@@ -15,22 +15,23 @@ pub fn scan(s: &[u8], upto: u32, catalog: &mut [u8], calls: &mut [u32], acts: &m
     ensures { λ r. ⌜ Few (readingTo upto (now (s .entry))) r ⌝ }
     ensures { λ r. ⌜ Leaves upto (now (s .entry)) (now (catalog .entry)) (now (calls .entry)) (now (acts .entry)) r (now (catalog .exit)) (now (calls .exit)) (now (acts .exit)) ⌝ }
 {
-    let mut seen = season_tables::at_start();
+    let mut stage = season_tables::at_start();
+    let mut seen = season_tables::nothing_read();
     let mut at = 0;
     let mut line: u32 = 1;
     'lines: loop {
         if s.len() <= at {
-            break season_tables::ended(upto, seen, line);
+            break season_tables::ended(upto, stage, seen, line);
         }
         let end = at + line_fields::find(&s[at..], b'\n');
         if s.len() <= end {
             break season_tables::stopped(seen, Refusal::Malformed { line: line });
         }
-        let names = season_lines::names_in(seen.table, seen.form);
+        let names = season_lines::names_in(stage.table, stage.heading);
         let mut fields = [Field::Empty; 6];
         let mut count: usize = 0;
         let mut i = at;
-        let mut more = season_tables::wants_values(seen.named, upto, seen.table, seen.k, end - at);
+        let mut more = season_tables::wants_values(upto, stage, seen.k, end - at);
         while more {
             let j = i + line_fields::find(&s[i..end], b' ');
             let field = line_fields::field_of(&s[i..j]);
@@ -43,8 +44,9 @@ pub fn scan(s: &[u8], upto: u32, catalog: &mut [u8], calls: &mut [u32], acts: &m
             more = j < end;
             i = j + 1;
         }
-        let next = season_tables::lead(
+        let next = season_tables::read_line(
             upto,
+            stage,
             seen,
             &s[at..end],
             fields,
@@ -54,11 +56,14 @@ pub fn scan(s: &[u8], upto: u32, catalog: &mut [u8], calls: &mut [u32], acts: &m
             calls,
             acts,
         );
-        let verdict = next.verdict;
+        let scanned = next.scanned;
+        let verdict = scanned.verdict;
         if let Verdict::Refused(_) = verdict {
-            break next;
+            break scanned;
         }
-        let read = next.seen;
+        let behind = next.stage;
+        let read = scanned.seen;
+        stage = behind;
         seen = read;
         at = end + 1;
         line += 1;

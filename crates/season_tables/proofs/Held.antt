@@ -4,9 +4,8 @@ use mathlib.Core.Path.{_≡_, refl, sym, ap, subst, _∙_}
 use mathlib.Core.Logic.{_≢_}
 use mathlib.Core.Bool.{Bool, true, false, cond, _&&_}
 use mathlib.Core.List.{List, [], _∷_, _++_}
-use Prim.Native.Nat.{ℕ, suc, _+_, _*_, _≤_, _<_}
+use Prim.Native.Nat.{ℕ, _+_, _*_, _≤_, _<_}
 use native.Mathlib.Omega.{arith}
-use native.Mathlib.Numerals.{add-one}
 use lib.ListN.{length, take, drop, length-append}
 use lib.Seq.{sets, take-nil, take-append-le}
 use lib.Dec.{eqb, leb, ltb}
@@ -16,7 +15,7 @@ use Rattle.types.specs.declared.Numbers.{Numbers}
 use Rattle.types.specs.declared.Act.{Act}
 use Rattle.types.specs.declared.Deduction.{Deduction}
 use Rattle.types.specs.declared.Refusal.{Refusal}
-use Rattle.types.specs.declared.Refusal.the-variants.{Malformed, Heading, OutOfSequence, PlanTooLarge, ActOutOfOrder}
+use Rattle.types.specs.declared.Refusal.the-variants.{Heading, OutOfSequence, PlanTooLarge, ActOutOfOrder}
 use Rattle.types.specs.Types.{numbersOf, stepOf, stepItem, actItem, telling, told}
 use Rattle.landlord.specs.Fold.{fold}
 use Rattle.landlord.specs.Catalog.{Catalog, listed, catalogNext, catalogAfter}
@@ -30,38 +29,34 @@ use Rattle.catalog_bytes.specs.Inner.{catalogOfFirst, itemBytes}
 use Rattle.catalog_bytes.proofs.Laws.{none-first, one-more}
 use Rattle.season_lines.specs.declared.Line.{Line}
 use Rattle.season_lines.specs.declared.Line.the-variants.{Sizes, Item as ItemLine, Step as StepLine, Act as ActLine, Refused as RefusedLine}
-use Rattle.season_lines.specs.declared.Names.{Names}
-use Rattle.season_lines.specs.declared.Names.the-variants.{Form, Unknown}
 use Rattle.season_items.specs.declared.Present.{Present}
+use Rattle.season_tables.specs.declared.Stage.{Stage}
 use Rattle.season_tables.specs.declared.Seen.{Seen}
 use Rattle.season_tables.specs.declared.Scanned.{Scanned}
 use Rattle.season_tables.specs.declared.Verdict.the-variants.{Taken, Refused}
-use Rattle.season_tables.specs.Tables.{Placed, Sofar, on, stop, atStart, nowNamed, namedBy, nextTable, takes, atEnd}
+use Rattle.season_tables.specs.Tables.{Placed, Tables, gives, stops, atStart, takes, atEnd}
 use Rattle.season_tables.specs.Inner.{lastPlace, Holds, nothingRead, endVerdict, Leads, LeadsFrom, LeadsBy, NotesItem, NotesStep, NotesAct, KeepsPast, actNumbers, Takeable, StepTakeable, ActTakeable}
 use Rattle.season_tables.specs.InnerSound.{catalogBefore}
 use Rattle.landlord.specs.CallNumbers.{callNumbers}
-use Rattle.season_items.specs.Inner.{Tells, HasItems, actNoted, putAt, withArrival, TellsKnown, TellsRefusal, Advanced, Walks, CatchesUp, Lookable, Walkable}
+use Rattle.season_items.specs.Inner.{itemRoom, Tells, HasItems, actNoted, putAt, withArrival, TellsKnown, TellsRefusal, Advanced, Walks, CatchesUp, Lookable, Walkable}
 use Rattle.season_items.proofs.Notes.{noted-more, noted-past, calls-more}
 use Rattle.season_items.proofs.Presence.{tells-none, tells-more, advanced-tells, before-follows, stored-items, stored-past, Stored, stored-by}
 use Rattle.season_tables.proofs.Told.{step-range, step-told, act-range, act-told}
 use Rattle.season_tables.proofs.Keeps.{taken-past}
 
 -- a line is taken, with what the struct holds then
-goes : (r : Scanned) (q : Seen) (catalog calls acts : List ℕ) (v : Sofar) → r .verdict ≡ Taken → r .seen ≡ q → Holds q catalog calls acts v → (r .verdict ≡ Taken) × Holds (r .seen) catalog calls acts v
+goes : (r : Scanned) (q : Seen) (catalog calls acts : List ℕ) (v : Tables) → r .verdict ≡ Taken → r .seen ≡ q → Holds q catalog calls acts v → (r .verdict ≡ Taken) × Holds (r .seen) catalog calls acts v
 goes r q catalog calls acts v t e h = (t, subst (λ (s : Seen). Holds s catalog calls acts v) (sym e) h)
 
 -- the number of items
-pub count-is : (q : Seen) (catalog calls acts : List ℕ) (v : Sofar) → Holds q catalog calls acts v → length (v .catalog) ≡ q .n
+pub count-is : (q : Seen) (catalog calls acts : List ℕ) (v : Tables) → Holds q catalog calls acts v → length (v .catalog) ≡ q .n
 count-is q catalog calls acts v h = sym (h .itemCount)
 
 -- nothing is read, whatever the slices hold
-pub begins : (catalog calls acts : List ℕ) → Holds nothingRead catalog calls acts atStart
+pub begins : (catalog calls acts : List ℕ) → Holds nothingRead catalog calls acts (atStart .read)
 unfolding fold callNumbers actNumbers
 begins catalog calls acts =
     record {
-      table = refl;
-      named = refl;
-      form = refl;
       k = refl;
       h = refl;
       few = omega arith;
@@ -77,134 +72,20 @@ begins catalog calls acts =
       earlier = tells-none;
       stored = λ i l. absurd (let z : i < 0 = l in omega arith);
       passed = omega arith;
-      unstepped = λ l. refl;
     }
-
--- the line of names
-abbrev named : Seen → ℕ → Seen
-named q f =
-    record {
-      table = q .table;
-      named = true;
-      k = q .k;
-      h = q .h;
-      n = q .n;
-      steps = q .steps;
-      acts = q .acts;
-      last = q .last;
-      form = f;
-      rule = q .rule;
-      present = q .present;
-      earlier = q .earlier;
-    }
-
-module _ (q : Seen) (names : Names) (at : ℕ) (r : Scanned) where
-  pub names-right :
-      (f : ℕ) → names ≡ Form f → r .verdict ≡ Taken → r .seen ≡ named q f → LeadsBy q (λ v. namedBy v names at) r
-  names-right f e t s catalog calls acts v h =
-      rw e
-      (goes r (named q f) catalog calls acts (nowNamed v f) t s
-      (record {
-        table = h .table;
-        named = refl;
-        form = refl;
-        k = h .k;
-        h = h .h;
-        few = h .few;
-        items = h .items;
-        itemCount = h .itemCount;
-        stepCount = h .stepCount;
-        actCount = h .actCount;
-        last = h .last;
-        stepsNoted = h .stepsNoted;
-        actsNoted = h .actsNoted;
-        rule = h .rule;
-        present = h .present;
-        earlier = h .earlier;
-        stored = h .stored;
-        passed = h .passed;
-        unstepped = h .unstepped;
-      }))
-
-  pub names-wrong : names ≡ Unknown → r .verdict ≡ Refused (Heading at) → LeadsBy q (λ v. namedBy v names at) r
-  names-wrong e t catalog calls acts v h = rw e t
-
--- the blank line
-abbrev turned : Seen → Seen
-turned q =
-    record {
-      table = q .table + 1;
-      named = false;
-      k = q .k;
-      h = q .h;
-      n = q .n;
-      steps = q .steps;
-      acts = q .acts;
-      last = q .last;
-      form = 0;
-      rule = q .rule;
-      present = q .present;
-      earlier = q .earlier;
-    }
-
-module _ (q : Seen) (bytes at : ℕ) (r : Scanned) where
-  pub blank-there : bytes ≡ 0 → r .verdict ≡ Taken → r .seen ≡ turned q → LeadsBy q (λ v. cond (eqb bytes 0) (on (nextTable v)) (stop (Malformed at))) r
-  blank-there e t s catalog calls acts v h =
-      rw (eq-eqb bytes 0 e)
-      (goes r (turned q) catalog calls acts (nextTable v) t s
-      (record {
-        table = add-one (q .table) ∙ ap suc (h .table);
-        named = refl;
-        form = refl;
-        k = h .k;
-        h = h .h;
-        few = h .few;
-        items = h .items;
-        itemCount = h .itemCount;
-        stepCount = h .stepCount;
-        actCount = h .actCount;
-        last = h .last;
-        stepsNoted = h .stepsNoted;
-        actsNoted = h .actsNoted;
-        rule = h .rule;
-        present = h .present;
-        earlier = h .earlier;
-        stored = h .stored;
-        passed = h .passed;
-        unstepped = λ l. h .unstepped (omega arith);
-      }))
-
-  pub blank-missing : (bytes ≡ 0 → ⊥) → r .verdict ≡ Refused (Malformed at) → LeadsBy q (λ v. cond (eqb bytes 0) (on (nextTable v)) (stop (Malformed at))) r
-  blank-missing e t catalog calls acts v h = rw (ne-eqb bytes 0 e) t
 
 -- the line of sizes
 abbrev sized : Seen → ℕ → ℕ → Deduction → Seen
 sized q k h word =
-    record {
-      table = q .table;
-      named = q .named;
-      k = k;
-      h = h;
-      n = q .n;
-      steps = q .steps;
-      acts = q .acts;
-      last = q .last;
-      form = q .form;
-      rule = word;
-      present = q .present;
-      earlier = q .earlier;
-    }
+    record { k = k; h = h; rule = word; n = q .n; steps = q .steps; acts = q .acts; last = q .last; present = q .present; earlier = q .earlier }
 
-module _ (q : Seen) (size plan : ℕ) (word : Deduction) (at : ℕ) (r : Scanned) where
-  pub sizes-fit : plan ≤ size → r .verdict ≡ Taken → r .seen ≡ sized q size plan word → LeadsBy q (λ v. takes v (Sizes size plan word) at) r
+module _ (q : Seen) (size plan : ℕ) (word : Deduction) (line : ℕ) (r : Scanned) where
+  pub sizes-fit : plan ≤ size → r .verdict ≡ Taken → r .seen ≡ sized q size plan word → LeadsBy q (λ v. takes v (Sizes size plan word) line) r
   unfolding takes
   sizes-fit e t s catalog calls acts v h =
       rw (le-leb plan size e)
       (goes r (sized q size plan word) catalog calls acts _ t s
       (record {
-        table = h .table;
-        named = h .named;
-        form = h .form;
         k = refl;
         h = refl;
         few = h .few;
@@ -220,10 +101,9 @@ module _ (q : Seen) (size plan : ℕ) (word : Deduction) (at : ℕ) (r : Scanned
         earlier = h .earlier;
         stored = h .stored;
         passed = h .passed;
-        unstepped = h .unstepped;
       }))
 
-  pub sizes-too-large : size < plan → r .verdict ≡ Refused (PlanTooLarge at) → LeadsBy q (λ v. takes v (Sizes size plan word) at) r
+  pub sizes-too-large : size < plan → r .verdict ≡ Refused (PlanTooLarge line) → LeadsBy q (λ v. takes v (Sizes size plan word) line) r
   unfolding takes
   sizes-too-large e t catalog calls acts v h = rw (lt-leb plan size e) t
 
@@ -233,51 +113,35 @@ counted n p = record { n = n; left = p .left }
 
 abbrev itemized : Seen → ℕ → Seen
 itemized q i =
-    record {
-      table = q .table;
-      named = q .named;
-      k = q .k;
-      h = q .h;
-      n = i + 1;
-      steps = q .steps;
-      acts = q .acts;
-      last = q .last;
-      form = q .form;
-      rule = q .rule;
-      present = counted (i + 1) (q .present);
-      earlier = counted (i + 1) (q .earlier);
-    }
+    record { k = q .k; h = q .h; rule = q .rule; n = i + 1; steps = q .steps; acts = q .acts; last = q .last; present = counted (i + 1) (q .present); earlier = counted (i + 1) (q .earlier) }
 
 one-longer : {A : Type 0} (n : ℕ) (xs : List A) (x : A) → n ≡ length xs → n + 1 ≡ length (xs ++ (x ∷ []))
 one-longer n xs x e = rw (length-append xs (x ∷ [])) (omega arith)
 
 -- where no step is read, the catalog is as its table has it
-none-read : (v : Sofar) → length (v .steps) ≡ 0 → v .steps ≡ []
+none-read : (v : Tables) → length (v .steps) ≡ 0 → v .steps ≡ []
 none-read v e = go (v .steps) e
   where
     go : (steps : List Step) → length steps ≡ 0 → steps ≡ []
     go [] e = refl
     go (s ∷ steps) e = absurd (omega (arith, e))
 
-module _ (q : Seen) (catalog : List ℕ) (i b l w at : ℕ) (r : Scanned) where
+module _ (q : Seen) (catalog : List ℕ) (i b l w line : ℕ) (r : Scanned) where
   pub item-next :
       (after : List ℕ) →
-      1280 ≤ length catalog →
+      itemRoom ≤ length catalog →
       i ≤ 255 →
-      q .table ≤ 1 →
+      q .steps ≡ 0 →
       i ≡ q .n →
       r .verdict ≡ Taken →
       r .seen ≡ itemized q i →
       after ≡ sets catalog (5 * i) (itemBytes (listed b l w)) →
-      NotesItem q catalog (λ v. takes v (ItemLine i b l w) at) r after
+      NotesItem q catalog (λ v. takes v (ItemLine i b l w) line) r after
   unfolding takes fold
   item-next after long few early e t s put calls acts v h =
       rw (eq-eqb i (length (v .catalog)) (e ∙ h .itemCount))
       (goes r (itemized q i) after calls acts _ t s
       (record {
-        table = h .table;
-        named = h .named;
-        form = h .form;
         k = h .k;
         h = h .h;
         few = omega arith;
@@ -300,14 +164,13 @@ module _ (q : Seen) (catalog : List ℕ) (i b l w at : ℕ) (r : Scanned) where
             (subst (HasItems grown) (sym put)
             (stored-items catalog i b l w (omega arith) (v .catalog) (e ∙ h .itemCount) (rw (plain (v .catalog)) at (h .stored))));
         passed = h .passed;
-        unstepped = h .unstepped;
       }))
     where
       grown : Catalog
       grown = v .catalog ++ (listed b l w ∷ [])
 
       none : v .steps ≡ []
-      none = none-read v (sym (h .stepCount) ∙ h .unstepped early)
+      none = none-read v (sym (h .stepCount) ∙ early)
 
       plain : (cat : Catalog) → catalogAfter cat (v .steps) ≡ cat
       plain cat = ap (catalogAfter cat) none
@@ -320,7 +183,7 @@ module _ (q : Seen) (catalog : List ℕ) (i b l w at : ℕ) (r : Scanned) where
 
   pub item-past :
       (after : List ℕ) →
-      1280 ≤ length catalog →
+      itemRoom ≤ length catalog →
       i ≤ 255 →
       r .verdict ≡ Taken →
       r .seen ≡ itemized q i →
@@ -333,30 +196,17 @@ module _ (q : Seen) (catalog : List ℕ) (i b l w at : ℕ) (r : Scanned) where
       ∙ stored-past catalog i b l w (omega arith)
       ∙ ap (λ (z : Seen). drop (5 * z .present .n) catalog) (sym s))
 
-  pub item-skipped : (i ≡ q .n → ⊥) → r .verdict ≡ Refused (OutOfSequence at) → NotesItem q catalog (λ v. takes v (ItemLine i b l w) at) r catalog
+  pub item-skipped : (i ≡ q .n → ⊥) → r .verdict ≡ Refused (OutOfSequence line) → NotesItem q catalog (λ v. takes v (ItemLine i b l w) line) r catalog
   unfolding takes
   item-skipped e t calls acts v h = rw (ne-eqb i (length (v .catalog)) (λ f. e (f ∙ count-is q catalog calls acts v h))) t
 
 -- a step's line, with what is known of the items then
 abbrev stepped : Seen → Present → Seen
 stepped q p =
-    record {
-      table = q .table;
-      named = q .named;
-      k = q .k;
-      h = q .h;
-      n = q .n;
-      steps = q .steps + 1;
-      acts = q .acts;
-      last = q .last;
-      form = q .form;
-      rule = q .rule;
-      present = p;
-      earlier = q .earlier;
-    }
+    record { k = q .k; h = q .h; rule = q .rule; n = q .n; steps = q .steps + 1; acts = q .acts; last = q .last; present = p; earlier = q .earlier }
 
 -- the items as the steps of a text have left them
-abbrev itemsNow : Sofar → Catalog
+abbrev itemsNow : Tables → Catalog
 itemsNow v = catalogAfter (v .catalog) (v .steps)
 
 -- they can be looked up
@@ -375,9 +225,9 @@ step-lookable q s catalog calls t =
 pub step-items : (s : Step) (n : Numbers) (catalog : List ℕ) → n ≡ numbersOf s → withArrival (stepOf n) catalog ≡ withArrival s catalog
 step-items s n catalog e = ap (λ (x : Step). withArrival x catalog) (ap stepOf e ∙ same-step s)
 
-module _ (q : Seen) (catalog calls : List ℕ) (s : Step) (at number : ℕ) (e : TellsRefusal (q .k) (q .present) catalog s number) where
+module _ (q : Seen) (catalog calls : List ℕ) (s : Step) (line number : ℕ) (e : TellsRefusal (q .k) (q .present) catalog s number) where
   -- the number is the one that the table gives the step
-  same-number : (acts : List ℕ) (v : Sofar) → Holds q catalog calls acts v → number ≡ itemRefusal (v .k) (itemsNow v) s
+  same-number : (acts : List ℕ) (v : Tables) → Holds q catalog calls acts v → number ≡ itemRefusal (v .k) (itemsNow v) s
   same-number acts v h = e (itemsNow v) (h .present) (h .stored) ∙ ap (λ (k : ℕ). itemRefusal k (itemsNow v) s) (h .k)
 
   pub step-in-range : StepTakeable q s catalog calls → number ≢ 0 → (1 ≤ number) × (number ≤ 20)
@@ -388,20 +238,20 @@ module _ (q : Seen) (catalog calls : List ℕ) (s : Step) (at number : ℕ) (e :
   pub step-refuses :
       (r : Scanned) (x : Refusal) →
       number ≢ 0 →
-      told x ≡ telling number at (stepItem s) →
+      told x ≡ telling number line (stepItem s) →
       r .verdict ≡ Refused x →
-      NotesStep q catalog calls (λ v. takes v (StepLine s) at) r catalog calls
+      NotesStep q catalog calls (λ v. takes v (StepLine s) line) r catalog calls
   unfolding takes
   step-refuses r x f tells t acts v h =
       let same = same-number acts v h in
       rw (sym same, ne-eqb number 0 f)
-      (t ∙ ap Refused (refusal-one x _ (tells ∙ sym (step-told number f (v .k) (itemsNow v) s same at (stepItem s)))))
+      (t ∙ ap Refused (refusal-one x _ (tells ∙ sym (step-told number f (v .k) (itemsNow v) s same line (stepItem s)))))
 
   -- the step is not refused, and this is known of the items behind it
-  module _ (f : number ≡ 0) (ranged : inRange (numbersOf s) ≡ true) (room : 1280 ≤ length catalog)
+  module _ (f : number ≡ 0) (ranged : inRange (numbersOf s) ≡ true) (room : itemRoom ≤ length catalog)
       (n : Numbers) (p : Present) (g : n ≡ numbersOf s) (a : Advanced (q .present) n p)
     where
-      module _ (acts : List ℕ) (v : Sofar) (h : Holds q catalog calls acts v) where
+      module _ (acts : List ℕ) (v : Tables) (h : Holds q catalog calls acts v) where
         short : length (itemsNow v) ≤ 256
         short = omega (arith, h .few, h .present .count)
 
@@ -416,15 +266,14 @@ module _ (q : Seen) (catalog calls : List ℕ) (s : Step) (at number : ℕ) (e :
 
       pub step-noted :
           (r : Scanned) (catalog-after calls-after : List ℕ) →
-          2 ≤ q .table →
           7 * q .steps + 7 ≤ length calls →
           r .verdict ≡ Taken →
           r .seen ≡ stepped q p →
           catalog-after ≡ withArrival s catalog →
           calls-after ≡ putAt calls (7 * q .steps) (callNumbers (s ∷ [])) →
-          NotesStep q catalog calls (λ v. takes v (StepLine s) at) r catalog-after calls-after
+          NotesStep q catalog calls (λ v. takes v (StepLine s) line) r catalog-after calls-after
       unfolding takes
-      step-noted r catalog-after calls-after behind places t y items put acts v h =
+      step-noted r catalog-after calls-after places t y items put acts v h =
           let after = now-stored acts v h in
           let known = now-tells acts v h in
           let more : catalogNext (itemsNow v) s ≡ catalogAfter (v .catalog) (v .steps ++ (s ∷ [])) = sym (after-more (v .catalog) (v .steps) s) in
@@ -433,9 +282,6 @@ module _ (q : Seen) (catalog calls : List ℕ) (s : Step) (at number : ℕ) (e :
           rw (sym (same-number acts v h), f)
           (goes r (stepped q p) catalog-after calls-after acts _ t y
           (record {
-            table = h .table;
-            named = h .named;
-            form = h .form;
             k = h .k;
             h = h .h;
             few = omega (arith, known .count, after .few);
@@ -456,11 +302,10 @@ module _ (q : Seen) (catalog calls : List ℕ) (s : Step) (at number : ℕ) (e :
             earlier = subst (λ (steps : List Step). Tells (catalogAfter (v .catalog) steps) (q .earlier)) same (h .earlier);
             stored = subst (λ (c : Catalog). HasItems c catalog-after) more (subst (HasItems (catalogNext (itemsNow v) s)) (sym items) (after .items (h .stored)));
             passed = omega (arith, h .passed);
-            unstepped = λ l. absurd (omega arith);
           }))
 
       pub step-past :
-          (r : Scanned) (acts : List ℕ) (v : Sofar) (catalog-after calls-after : List ℕ) →
+          (r : Scanned) (acts : List ℕ) (v : Tables) (catalog-after calls-after : List ℕ) →
           Holds q catalog calls acts v →
           7 * q .steps + 7 ≤ length calls →
           r .verdict ≡ Taken →
@@ -484,20 +329,7 @@ module _ (q : Seen) (catalog calls : List ℕ) (s : Step) (at number : ℕ) (e :
 -- an act's line, with what is known of the items before its place
 abbrev acted : Seen → ℕ → Present → Seen
 acted q place p =
-    record {
-      table = q .table;
-      named = q .named;
-      k = q .k;
-      h = q .h;
-      n = q .n;
-      steps = q .steps;
-      acts = q .acts + 1;
-      last = place;
-      form = q .form;
-      rule = q .rule;
-      present = q .present;
-      earlier = p;
-    }
+    record { k = q .k; h = q .h; rule = q .rule; n = q .n; steps = q .steps; acts = q .acts + 1; last = place; present = q .present; earlier = p }
 
 abbrev placed : ℕ → Act → Placed
 placed place act = record { place = place; act = act }
@@ -513,7 +345,7 @@ acts-more (b ∷ acts) a = rw (acts-more acts a)
 
 -- the steps up to an act's place can be walked over
 act-walks :
-    (q : Seen) (place : ℕ) (catalog calls acts : List ℕ) (v : Sofar) →
+    (q : Seen) (place : ℕ) (catalog calls acts : List ℕ) (v : Tables) →
     Holds q catalog calls acts v →
     place < q .steps →
     Walks (q .earlier) calls (q .last) place (v .catalog) (v .steps)
@@ -537,13 +369,13 @@ act-walkable q place act calls acts t e f =
       steps = t .line .read .steps;
       walks = act-walks q place (t .catalog) calls acts (t .line .read) (t .line .holds) f;
       order = e;
-      short = omega (arith, t .line .room .forStep);
+      short = omega (arith, t .line .room .few .steps);
       forSteps = t .line .room .roomy .forSteps;
     }
 
 -- what is known of the items before an act's place, and the number that its item gets by that
 module _ (q : Seen) (calls acts : List ℕ) (place : ℕ) (act : Act) (some : place < q .steps) (p : Present) (caught : CatchesUp (q .earlier) calls (q .last) place p) where
-  act-tells : (catalog : List ℕ) (v : Sofar) → Holds q catalog calls acts v → Tells (catalogBefore v place) p
+  act-tells : (catalog : List ℕ) (v : Tables) → Holds q catalog calls acts v → Tells (catalogBefore v place) p
   act-tells catalog v h = caught (v .catalog) (v .steps) (act-walks q place catalog calls acts v h some)
 
   pub act-few : ActTakeable q place act calls acts → p .n ≤ 256
@@ -553,7 +385,7 @@ module _ (q : Seen) (calls acts : List ℕ) (place : ℕ) (act : Act) (some : pl
       omega (arith, act-tells (t .catalog) v h .count, h .few, h .present .count, before-follows (v .catalog) (v .steps) place .longer)
 
   module _ (number : ℕ) (k : TellsKnown p (actItem act) number) where
-    act-number : (catalog : List ℕ) (v : Sofar) → Holds q catalog calls acts v → number ≡ ifKnown (catalogBefore v place) (actItem act) 0
+    act-number : (catalog : List ℕ) (v : Tables) → Holds q catalog calls acts v → number ≡ ifKnown (catalogBefore v place) (actItem act) 0
     act-number catalog v h =
         k (catalogBefore v place) (omega (arith, h .few, h .present .count, before-follows (v .catalog) (v .steps) place .longer)) (act-tells catalog v h)
 
@@ -561,15 +393,15 @@ module _ (q : Seen) (calls acts : List ℕ) (place : ℕ) (act : Act) (some : pl
     act-in-range t f =
         act-range number f (catalogBefore (t .line .read) place) (actItem act) (act-number (t .catalog) (t .line .read) (t .line .holds))
 
-module _ (q : Seen) (calls acts : List ℕ) (place : ℕ) (act : Act) (at : ℕ) (r : Scanned) where
-  in-turn : (catalog : List ℕ) (v : Sofar) → Holds q catalog calls acts v → q .last ≤ place → place < q .steps → leb (lastPlace (v .acts)) place && ltb place (length (v .steps)) ≡ true
+module _ (q : Seen) (calls acts : List ℕ) (place : ℕ) (act : Act) (line : ℕ) (r : Scanned) where
+  in-turn : (catalog : List ℕ) (v : Tables) → Holds q catalog calls acts v → q .last ≤ place → place < q .steps → leb (lastPlace (v .acts)) place && ltb place (length (v .steps)) ≡ true
   in-turn catalog v h e f = rw (sym (h .last), sym (h .stepCount), le-leb (q .last) place e, lt-ltb place (q .steps) f)
 
-  pub act-early : place < q .last → r .verdict ≡ Refused (ActOutOfOrder at) → NotesAct q calls acts (λ v. takes v (ActLine place act) at) r acts
+  pub act-early : place < q .last → r .verdict ≡ Refused (ActOutOfOrder line) → NotesAct q calls acts (λ v. takes v (ActLine place act) line) r acts
   unfolding takes
   act-early e t catalog v h = rw (sym (h .last), lt-leb (q .last) place e) t
 
-  pub act-late : q .last ≤ place → q .steps ≤ place → r .verdict ≡ Refused (ActOutOfOrder at) → NotesAct q calls acts (λ v. takes v (ActLine place act) at) r acts
+  pub act-late : q .last ≤ place → q .steps ≤ place → r .verdict ≡ Refused (ActOutOfOrder line) → NotesAct q calls acts (λ v. takes v (ActLine place act) line) r acts
   unfolding takes
   act-late e f t catalog v h = rw (sym (h .last), sym (h .stepCount), le-leb (q .last) place e, le-ltb place (q .steps) f) t
 
@@ -577,20 +409,20 @@ module _ (q : Seen) (calls acts : List ℕ) (place : ℕ) (act : Act) (at : ℕ)
   module _ (e : q .last ≤ place) (f : place < q .steps) (p : Present) (caught : CatchesUp (q .earlier) calls (q .last) place p)
       (number : ℕ) (k : TellsKnown p (actItem act) number)
     where
-      told-number : (catalog : List ℕ) (v : Sofar) → Holds q catalog calls acts v → number ≡ ifKnown (catalogBefore v place) (actItem act) 0
-      told-number catalog v h = act-number q calls acts place act f p caught number k catalog v h
+      number-is : (catalog : List ℕ) (v : Tables) → Holds q catalog calls acts v → number ≡ ifKnown (catalogBefore v place) (actItem act) 0
+      number-is catalog v h = act-number q calls acts place act f p caught number k catalog v h
 
       pub act-refuses :
           (x : Refusal) →
           number ≢ 0 →
-          told x ≡ telling number at (actItem act) →
+          told x ≡ telling number line (actItem act) →
           r .verdict ≡ Refused x →
-          NotesAct q calls acts (λ v. takes v (ActLine place act) at) r acts
+          NotesAct q calls acts (λ v. takes v (ActLine place act) line) r acts
       unfolding takes
       act-refuses x some tells t catalog v h =
-          let same = told-number catalog v h in
+          let same = number-is catalog v h in
           rw (in-turn catalog v h e f, sym same, ne-eqb number 0 some)
-          (t ∙ ap Refused (refusal-one x _ (tells ∙ sym (act-told number some (catalogBefore v place) (actItem act) same at (actItem act)))))
+          (t ∙ ap Refused (refusal-one x _ (tells ∙ sym (act-told number some (catalogBefore v place) (actItem act) same line (actItem act)))))
 
       pub act-noted :
           (after : List ℕ) →
@@ -599,15 +431,12 @@ module _ (q : Seen) (calls acts : List ℕ) (place : ℕ) (act : Act) (at : ℕ)
           r .verdict ≡ Taken →
           r .seen ≡ acted q place p →
           after ≡ putAt acts (3 * q .acts) (actNoted place act) →
-          NotesAct q calls acts (λ v. takes v (ActLine place act) at) r after
+          NotesAct q calls acts (λ v. takes v (ActLine place act) line) r after
       unfolding takes
       act-noted after none room t s put catalog v h =
-          rw (in-turn catalog v h e f, sym (told-number catalog v h), none)
+          rw (in-turn catalog v h e f, sym (number-is catalog v h), none)
           (goes r (acted q place p) catalog calls after _ t s
           (record {
-            table = h .table;
-            named = h .named;
-            form = h .form;
             k = h .k;
             h = h .h;
             few = h .few;
@@ -626,7 +455,6 @@ module _ (q : Seen) (calls acts : List ℕ) (place : ℕ) (act : Act) (at : ℕ)
             earlier = act-tells q calls acts place act f p caught catalog v h;
             stored = h .stored;
             passed = omega arith;
-            unstepped = h .unstepped;
           }))
 
       pub act-past :
@@ -645,31 +473,31 @@ module _ (q : Seen) (calls acts : List ℕ) (place : ℕ) (act : Act) (at : ℕ)
 
 -- the input's end
 pub end-leads :
-    (upto : ℕ) (q : Seen) (at : ℕ) (r : Scanned) → r .verdict ≡ endVerdict upto q at → r .seen ≡ q → LeadsBy q (λ v. atEnd upto v at) r
-end-leads upto q at r t s catalog calls acts v h = go (v .named && eqb (v .table) upto) (t ∙ same)
+    (upto : ℕ) (p : Stage) (q : Seen) (line : ℕ) (r : Scanned) →
+    r .verdict ≡ endVerdict upto p line →
+    r .seen ≡ q →
+    LeadsBy q (λ v. atEnd upto (record { stage = p; read = v }) line) r
+end-leads upto p q line r t s catalog calls acts v h = go (p .named && eqb (p .table) upto) t
   where
-    same : endVerdict upto q at ≡ cond (v .named && eqb (v .table) upto) Taken (Refused (Heading at))
-    same = rw (h .named, h .table)
-
-    go : (b : Bool) → r .verdict ≡ cond b Taken (Refused (Heading at)) → Leads (cond b (on v) (stop (Heading at))) r catalog calls acts
+    go : (b : Bool) → r .verdict ≡ cond b Taken (Refused (Heading line)) → Leads (cond b (gives v) (stops (Heading line))) r catalog calls acts
     go true e = goes r q catalog calls acts v e s h
     go false e = e
 
 -- A line that is known to say so: the case of a match on it.
 pub line-says :
-    (q : Seen) (line said : Line) (at : ℕ) (r : Scanned) (catalog calls acts catalog-after calls-after acts-after : List ℕ) →
-    line ≡ said →
-    LeadsFrom q catalog calls acts (λ v. takes v said at) r catalog-after calls-after acts-after →
-    LeadsFrom q catalog calls acts (λ v. takes v line at) r catalog-after calls-after acts-after
-line-says q line said at r catalog calls acts catalog-after calls-after acts-after e h = rw e h
+    (q : Seen) (values said : Line) (line : ℕ) (r : Scanned) (catalog calls acts catalog-after calls-after acts-after : List ℕ) →
+    values ≡ said →
+    LeadsFrom q catalog calls acts (λ v. takes v said line) r catalog-after calls-after acts-after →
+    LeadsFrom q catalog calls acts (λ v. takes v values line) r catalog-after calls-after acts-after
+line-says q values said line r catalog calls acts catalog-after calls-after acts-after e h = rw e h
 
 pub line-refused :
-    (q : Seen) (x : Refusal) (at : ℕ) (r : Scanned) (catalog calls acts : List ℕ) →
+    (q : Seen) (x : Refusal) (line : ℕ) (r : Scanned) (catalog calls acts : List ℕ) →
     r .verdict ≡ Refused x →
-    LeadsFrom q catalog calls acts (λ v. takes v (RefusedLine x) at) r catalog calls acts
+    LeadsFrom q catalog calls acts (λ v. takes v (RefusedLine x) line) r catalog calls acts
 unfolding takes
-line-refused q x at r catalog calls acts t v h = t
+line-refused q x line r catalog calls acts t v h = t
 
 -- and is one that may be taken
-pub line-takeable : (q : Seen) (line said : Line) (catalog calls acts : List ℕ) → line ≡ said → Takeable q line catalog calls acts → Takeable q said catalog calls acts
-line-takeable q line said catalog calls acts e h = subst (λ (x : Line). Takeable q x catalog calls acts) e h
+pub line-takeable : (q : Seen) (values said : Line) (catalog calls acts : List ℕ) → values ≡ said → Takeable q values catalog calls acts → Takeable q said catalog calls acts
+line-takeable q values said catalog calls acts e h = subst (λ (x : Line). Takeable q x catalog calls acts) e h

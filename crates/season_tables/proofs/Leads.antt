@@ -3,10 +3,12 @@
 use mathlib.Core.Path.{_≡_, refl, sym, ap, subst, _∙_}
 use mathlib.Core.Bool.{Bool, true, false, cond, not, false≢true}
 use mathlib.Core.List.{List}
-use Prim.Native.Nat.{ℕ}
+use Prim.Native.Nat.{ℕ, _+_, _≤_}
+use native.Mathlib.Numerals.{add-one}
 use native.Mathlib.Omega.{arith}
 use lib.ListN.{length}
 use lib.Dec.{eqb, leb, ltb}
+use Rattle.types.specs.declared.Refusal.{Refusal}
 use Rattle.types.specs.declared.Refusal.the-variants.{Malformed}
 use Rattle.line_fields.specs.declared.Field.{Field}
 use Rattle.season_lines.specs.declared.Line.{Line}
@@ -16,10 +18,14 @@ use Rattle.line_fields.specs.Fields.{fieldsOf}
 use Rattle.season_lines.specs.Lines.{formOf, lineIn}
 use Rattle.season_lines.proofs.Pieces.{Says, line-says}
 use Rattle.season_lines.proofs.Held.{held-line}
+use Rattle.season_tables.specs.declared.Stage.{Stage}
 use Rattle.season_tables.specs.declared.Seen.{Seen}
 use Rattle.season_tables.specs.declared.Scanned.{Scanned}
-use Rattle.season_tables.specs.Tables.{Sofar, Led, on, stop, nextTable, mayEnd, mustEnd, namedBy, takes, leads}
-use Rattle.season_tables.specs.Inner.{Holds, Leads, LeadsFrom, LeadsBy, Looked, OfTable, wantsValues}
+use Rattle.season_tables.specs.declared.LineRead.{LineRead}
+use Rattle.season_tables.specs.declared.Verdict.the-variants.{Taken, Refused}
+use Rattle.season_tables.specs.Tables.{Tables, Sofar, OrRefusal, gives, stops, goesOn, nextTable, mayEnd, mustEnd, namedBy, takes, readLine}
+use Rattle.season_tables.specs.Inner.{Holds, Leads, LeadsFrom, moved, LeadsTo, ReadsLine, KeepsLine, Looked, Sayable, wantsValues}
+use Rattle.season_tables.proofs.Keeps.{not-refused, keeps-all}
 
 unnamed : {A : Type 0} (t : Bool) (x y : A) → t ≡ false → cond t x y ≡ y
 unnamed true x y e = absurd (false≢true (sym e))
@@ -54,85 +60,131 @@ must-may upto table k = go (eqb table 0)
 
 -- where each leads
 module _ (upto : ℕ) (v : Sofar) (l : List ℕ) (n : ℕ) where
-  pub leads-names : v .named ≡ false → leads upto v l n ≡ namedBy v (formOf (v .table) l) n
-  unfolding leads
-  leads-names e = unnamed (v .named) _ _ e
+  pub leads-names :
+      v .stage .named ≡ false →
+      readLine upto v l n ≡ goesOn (namedBy (v .stage) (formOf (v .stage .table) l) n) (λ q. gives (record { stage = q; read = v .read }))
+  unfolding readLine
+  leads-names e = unnamed (v .stage .named) _ _ e
 
   pub leads-values :
-      wantsValues (v .named) upto (v .table) (v .k) (length l) ≡ true →
-      leads upto v l n ≡ takes v (lineIn (v .table) (v .form) (fieldsOf l) n) n
-  unfolding leads wantsValues
+      wantsValues upto (v .stage) (v .read .k) (length l) ≡ true →
+      readLine upto v l n
+      ≡ goesOn (takes (v .read) (lineIn (v .stage .table) (v .stage .heading) (fieldsOf l) n) n) (λ t. gives (record { stage = v .stage; read = t }))
+  unfolding readLine wantsValues
   leads-values e =
-      valued (v .named) (cond (eqb (length l) 0) (mayEnd upto (v .table) (v .k)) false) (mustEnd (v .table) (v .k)) _ _ _ _ e
+      valued (v .stage .named) (cond (eqb (length l) 0) (mayEnd upto (v .stage .table) (v .read .k)) false) (mustEnd (v .stage .table) (v .read .k)) _ _ _ _ e
 
   pub leads-blank :
-      v .named ≡ true →
-      wantsValues (v .named) upto (v .table) (v .k) (length l) ≡ false →
-      leads upto v l n ≡ cond (eqb (length l) 0) (on (nextTable v)) (stop (Malformed n))
-  unfolding leads wantsValues
+      v .stage .named ≡ true →
+      wantsValues upto (v .stage) (v .read .k) (length l) ≡ false →
+      readLine upto v l n ≡ goesOn (cond (eqb (length l) 0) (gives (nextTable (v .stage))) (stops (Malformed n))) (λ q. gives (record { stage = q; read = v .read }))
+  unfolding readLine wantsValues
   leads-blank e f =
-      blank (v .named) (eqb (length l) 0) (mayEnd upto (v .table) (v .k)) (mustEnd (v .table) (v .k)) _ _ _ _
-      (must-may upto (v .table) (v .k)) e f
+      blank (v .stage .named) (eqb (length l) 0) (mayEnd upto (v .stage .table) (v .read .k)) (mustEnd (v .stage .table) (v .read .k)) _ _ _ _
+      (must-may upto (v .stage .table) (v .read .k)) e f
+      ∙ moving (eqb (length l) 0)
+    where
+      moving :
+          (b : Bool) →
+          cond {A = OrRefusal Sofar} b (gives (record { stage = nextTable (v .stage); read = v .read })) (stops (Malformed n))
+          ≡ goesOn (cond b (gives (nextTable (v .stage))) (stops (Malformed n))) (λ (q : Stage). gives (record { stage = q; read = v .read }))
+      moving true = refl
+      moving false = refl
 
--- a line says what its table does
-pub line-of-table : (table form : ℕ) (fs : List Field) (n : ℕ) (line : Line) → line ≡ lineIn table form fs n → OfTable table line
-line-of-table table form fs n line e = go line (subst (Says table (length fs) n) (sym e) (line-says table form fs n))
+-- a line says what it may here
+pub line-sayable :
+    (p : Stage) (q : Seen) (fs : List Field) (n : ℕ) (line : Line) →
+    (p .table ≤ 1 → q .steps ≡ 0) →
+    line ≡ lineIn (p .table) (p .heading) fs n →
+    Sayable q line
+line-sayable p q fs n line early e = go line (subst (Says (p .table) (length fs) n) (sym e) (line-says (p .table) (p .heading) fs n))
   where
-    go : (line : Line) → Says table (length fs) n line → OfTable table line
+    go : (line : Line) → Says (p .table) (length fs) n line → Sayable q line
     go (Sizes k h r) s = tt
-    go (ItemLine i b l w) s = (s .1, omega (arith, s .0))
-    go (StepLine step) s = (s .2, omega (arith, s .0))
+    go (ItemLine i b l w) s = (s .1, early (omega (arith, s .0)))
+    go (StepLine step) s = s .2
     go (ActLine place act) s = tt
     go (RefusedLine r) s = tt
 
+-- the answer to a line that only leads to another stage
+module _ (p : Stage) (q : Seen) (r : Scanned) where
+  pub moves-on : (to : Stage) → r .verdict ≡ Taken → r .seen ≡ q → _≡_ {A = LineRead} (record { stage = to; scanned = r }) (moved p q (gives to))
+  moves-on to e f = λ i. record { stage = to; scanned = record { verdict = e i; seen = f i } }
+
+  pub moves-next : r .verdict ≡ Taken → r .seen ≡ q → _≡_ {A = LineRead} (record { stage = record { table = p .table + 1; named = false; heading = 0 }; scanned = r }) (moved p q (gives (nextTable p)))
+  moves-next e f = λ i. record { stage = record { table = add-one (p .table) i; named = false; heading = 0 }; scanned = record { verdict = e i; seen = f i } }
+
+  pub moves-not : (x : Refusal) → r .verdict ≡ Refused x → r .seen ≡ q → _≡_ {A = LineRead} (record { stage = p; scanned = r }) (moved p q (stops x))
+  moves-not x e f = λ i. record { stage = p; scanned = record { verdict = e i; seen = f i } }
+
 -- and so for the struct
-module _ (upto : ℕ) (q : Seen) (catalog calls acts l : List ℕ) (n : ℕ) (r : Scanned) where
+module _ (upto : ℕ) (p : Stage) (q : Seen) (catalog calls acts l : List ℕ) (n : ℕ) (r : LineRead) where
+  -- a line that only leads to another stage
+  moves :
+      (x : OrRefusal Stage) (v : Tables) →
+      r ≡ moved p q x →
+      Holds q catalog calls acts v →
+      LeadsTo (goesOn x (λ to. gives (record { stage = to; read = v }))) r catalog calls acts
+  moves (gives to) v e h = (
+    ap (λ (z : LineRead). z .stage) e,
+    (ap (λ (z : LineRead). z .scanned .verdict) e, subst (λ (z : LineRead). Holds (z .scanned .seen) catalog calls acts v) (sym e) h),
+  )
+  moves (stops x) v e h = ap (λ (z : LineRead). z .scanned .verdict) e
+
+  moves-keeps : (x : OrRefusal Stage) → r ≡ moved p q x → KeepsLine p q catalog calls acts r catalog calls acts
+  moves-keeps x e = record { kept = keeps-all q catalog calls acts (r .scanned) (λ y t. same x e .0); refused = λ y t. same x e .1 y t }
+    where
+      same : (x : OrRefusal Stage) → r ≡ moved p q x → (r .scanned .seen ≡ q) × ((y : Refusal) → r .scanned .verdict ≡ Refused y → r .stage ≡ p)
+      same (gives to) e = (ap (λ (z : LineRead). z .scanned .seen) e, λ y t. absurd (not-refused _ y (ap (λ (z : LineRead). z .scanned .verdict) e) t))
+      same (stops x) e = (ap (λ (z : LineRead). z .scanned .seen) e, λ y t. ap (λ (z : LineRead). z .stage) e)
+
   pub lead-names :
       (names : Names) →
-      q .named ≡ false →
-      names ≡ formOf (q .table) l →
-      LeadsBy q (λ v. namedBy v names n) r →
-      LeadsFrom q catalog calls acts (λ v. leads upto v l n) r catalog calls acts
-  lead-names names e f led v h =
-      let same : names ≡ formOf (v .table) l = f ∙ ap (λ (t : ℕ). formOf t l) (h .table) in
-      subst (λ (x : Led). Leads x r catalog calls acts)
-      (ap (λ (x : Names). namedBy v x n) same ∙ sym (leads-names upto v l n (sym (h .named) ∙ e)))
-      (led catalog calls acts v h)
+      p .named ≡ false →
+      names ≡ formOf (p .table) l →
+      r ≡ moved p q (namedBy p names n) →
+      ReadsLine upto p q catalog calls acts l n r catalog calls acts × KeepsLine p q catalog calls acts r catalog calls acts
+  lead-names names e f so = (
+    λ v h.
+        subst (λ (x : OrRefusal Sofar). LeadsTo x r catalog calls acts) (sym (leads-names upto (record { stage = p; read = v }) l n e))
+        (moves (namedBy p (formOf (p .table) l) n) v (so ∙ ap (λ (x : Names). moved p q (namedBy p x n)) f) h),
+    moves-keeps (namedBy p names n) so,
+  )
 
-  same-wants :
-      (v : Sofar) →
-      Holds q catalog calls acts v →
-      q .named ≡ true →
-      wantsValues (v .named) upto (v .table) (v .k) (length l) ≡ wantsValues true upto (q .table) (q .k) (length l)
-  same-wants v h e = λ i. wantsValues ((sym (h .named) ∙ e) i) upto (sym (h .table) i) (sym (h .k) i) (length l)
+  same-wants : (v : Tables) → Holds q catalog calls acts v → wantsValues upto p (v .k) (length l) ≡ wantsValues upto p (q .k) (length l)
+  same-wants v h = ap (λ (k : ℕ). wantsValues upto p k (length l)) (sym (h .k))
 
   pub lead-values :
-      (fs : List Field) (line : Line) (catalog-after calls-after acts-after : List ℕ) (wants : Bool) →
-      q .named ≡ true →
-      wants ≡ wantsValues true upto (q .table) (q .k) (length l) →
-      wants ≡ true →
-      Looked upto q l fs →
-      line ≡ lineIn (q .table) (q .form) fs n →
-      LeadsFrom q catalog calls acts (λ v. takes v line n) r catalog-after calls-after acts-after →
-      LeadsFrom q catalog calls acts (λ v. leads upto v l n) r catalog-after calls-after acts-after
-  lead-values fs line catalog-after calls-after acts-after wants e asked so looked g led v h =
-      let f : wantsValues true upto (q .table) (q .k) (length l) ≡ true = sym asked ∙ so in
-      let due : wantsValues (q .named) upto (q .table) (q .k) (length l) ≡ true =
-      ap (λ (b : Bool). wantsValues b upto (q .table) (q .k) (length l)) e ∙ f in
-      let same : line ≡ lineIn (v .table) (v .form) (fieldsOf l) n =
-      g ∙ (λ i. lineIn (h .table i) (h .form i) (looked due i) n) ∙ held-line (v .table) (v .form) (fieldsOf l) n in
-      subst (λ (x : Led). Leads x r catalog-after calls-after acts-after)
-      (ap (λ (x : Line). takes v x n) same ∙ sym (leads-values upto v l n (same-wants v h e ∙ f)))
-      (led v h)
+      (fs : List Field) (line : Line) (catalog-after calls-after acts-after : List ℕ) →
+      wantsValues upto p (q .k) (length l) ≡ true →
+      Looked upto p (q .k) l fs →
+      line ≡ lineIn (p .table) (p .heading) fs n →
+      r .stage ≡ p →
+      LeadsFrom q catalog calls acts (λ v. takes v line n) (r .scanned) catalog-after calls-after acts-after →
+      ReadsLine upto p q catalog calls acts l n r catalog-after calls-after acts-after
+  lead-values fs line catalog-after calls-after acts-after due looked g stays led v h =
+      let same : line ≡ lineIn (p .table) (p .heading) (fieldsOf l) n =
+      g ∙ ap (λ (z : List Field). lineIn (p .table) (p .heading) z n) (looked due) ∙ held-line (p .table) (p .heading) (fieldsOf l) n in
+      subst (λ (x : OrRefusal Sofar). LeadsTo x r catalog-after calls-after acts-after)
+      (ap (λ (x : Line). goesOn (takes v x n) (λ t. gives (record { stage = p; read = t }))) same
+      ∙ sym (leads-values upto (record { stage = p; read = v }) l n (same-wants v h ∙ due)))
+      (go (takes v line n) (led v h))
+    where
+      go :
+          (x : OrRefusal Tables) →
+          Leads x (r .scanned) catalog-after calls-after acts-after →
+          LeadsTo (goesOn x (λ t. gives (record { stage = p; read = t }))) r catalog-after calls-after acts-after
+      go (gives w) k = (stays, k)
+      go (stops x) k = k
 
   pub lead-blank :
-      (wants : Bool) →
-      q .named ≡ true →
-      wants ≡ wantsValues true upto (q .table) (q .k) (length l) →
-      wants ≡ false →
-      LeadsBy q (λ v. cond (eqb (length l) 0) (on (nextTable v)) (stop (Malformed n))) r →
-      LeadsFrom q catalog calls acts (λ v. leads upto v l n) r catalog calls acts
-  lead-blank wants e asked so led v h =
-      subst (λ (x : Led). Leads x r catalog calls acts)
-      (sym (leads-blank upto v l n (sym (h .named) ∙ e) (same-wants v h e ∙ sym asked ∙ so)))
-      (led catalog calls acts v h)
+      p .named ≡ true →
+      wantsValues upto p (q .k) (length l) ≡ false →
+      r ≡ moved p q (cond (eqb (length l) 0) (gives (nextTable p)) (stops (Malformed n))) →
+      ReadsLine upto p q catalog calls acts l n r catalog calls acts × KeepsLine p q catalog calls acts r catalog calls acts
+  lead-blank e none so = (
+    λ v h.
+        subst (λ (x : OrRefusal Sofar). LeadsTo x r catalog calls acts) (sym (leads-blank upto (record { stage = p; read = v }) l n e (same-wants v h ∙ none)))
+        (moves (cond (eqb (length l) 0) (gives (nextTable p)) (stops (Malformed n))) v so h),
+    moves-keeps (cond (eqb (length l) 0) (gives (nextTable p)) (stops (Malformed n))) so,
+  )

@@ -1,5 +1,5 @@
--- What an accepted text keeps (specs/InnerSound.antt), where its reading ends, and that it has no more steps and acts than bytes. What is
--- claimed after i lines (After) holds before the first line, and each line that leads on keeps it. Assumes nothing.
+-- What an accepted text keeps (specs/InnerSound.antt), and that it has no more steps and acts than bytes. What is claimed after i lines
+-- (After) holds before the first line, and each line that leads on keeps it. Assumes nothing.
 use mathlib.Core.Path.{_≡_, refl, sym, ap, subst, _∙_}
 use mathlib.Core.Bool.{Bool, true, false, cond, not, _&&_, false≢true}
 use mathlib.Core.List.{List, [], _∷_, _++_}
@@ -31,15 +31,15 @@ use Rattle.line_fields.specs.Fields.{onto, split, fieldsOf}
 use Rattle.season_lines.specs.Lines.{formOf}
 use Rattle.line_fields.proofs.Laws.{and-parts}
 use Rattle.season_lines.proofs.Pieces.{Says, line-says}
-use Rattle.season_tables.specs.Tables.{Placed, Sofar, Led, on, stop, atStart, nowNamed, nextTable, withSizes, withItem, withStep, withAct, inTurn, takes, mayEnd, mustEnd, namedBy, leads, atEnd, goesOn, readFrom, readingTo, readingOf}
+use Rattle.season_tables.specs.Tables.{Placed, Tables, Sofar, OrRefusal, gives, stops, goesOn, atStart, withSizes, withItem, withStep, withAct, inTurn, takes, mayEnd, mustEnd, nextTable, namedBy, readLine, atEnd, readFrom, readingTo, readingOf}
 use Rattle.season_tables.specs.Inner.{isBlank, lastPlace}
 use Rattle.season_tables.specs.InnerSound.{placedAt, catalogBefore, Sound}
 use Rattle.season_items.proofs.Items.{known-below, known-stays}
 
 -- what is claimed of a reading where it leads on
-abbrev pub Leading : (Sofar → Type 0) → Led → Type 0
-Leading P (on w) = P w
-Leading P (stop r) = Unit {0}
+abbrev pub Leading : {A : Type 0} → (A → Type 0) → OrRefusal A → Type 0
+Leading P (gives w) = P w
+Leading P (stops r) = Unit {0}
 
 -- a step of a text: in range, and not refused by the catalog as the steps before it have left it
 record StepFits (k : ℕ) (cat : Catalog) (s : Step) : Type 0 where
@@ -47,7 +47,7 @@ record StepFits (k : ℕ) (cat : Catalog) (s : Step) : Type 0 where
   taken : itemRefusal k cat s ≡ 0
 
 -- an act of a text: of an item that is there, before some step, and no later than the last act
-record ActFits (v : Sofar) (a : Placed) : Type 0 where
+record ActFits (v : Tables) (a : Placed) : Type 0 where
   known : ifKnown (catalogBefore v (a .place)) (actItem (a .act)) 0 ≡ 0
   within : a .place < length (v .steps)
   passed : a .place ≤ lastPlace (v .acts)
@@ -58,13 +58,8 @@ record SizesFit (k h : ℕ) : Type 0 where
   rivalLow : 1 ≤ k → 1 ≤ h
   rivalHigh : h ≤ k
 
--- what holds after any lines of a text whose last table is u
-record Partial (u : ℕ) (v : Sofar) : Type 0 where
-  low : 1 ≤ u
-  tables : v .table ≤ u
-  sized : 1 ≤ v .table → 1 ≤ v .k
-  noSteps : v .table ≤ 1 → length (v .steps) ≡ 0
-  noActs : v .table ≤ 2 → length (v .acts) ≡ 0
+-- what has been read of the tables
+record Fits (v : Tables) : Type 0 where
   sizes : SizesFit (v .k) (v .h)
   catalog : CatalogFacts (v .catalog)
   fresh : noneLeft (v .catalog) ≡ true
@@ -72,10 +67,16 @@ record Partial (u : ℕ) (v : Sofar) : Type 0 where
   acts : (j : ℕ) → j < length (v .acts) → ActFits v (placedAt (v .acts) j)
   inOrder : (i j : ℕ) → i ≤ j → j < length (v .acts) → placedAt (v .acts) i .place ≤ placedAt (v .acts) j .place
 
--- and after i lines, each of which adds a step, or an act, or neither
+-- What holds after i lines of a text whose last table is u. Each line adds a step, or an act, or neither; what stands in the later tables is
+-- not read yet.
 record After (u i : ℕ) (v : Sofar) : Type 0 where
-  few : length (v .steps) + length (v .acts) ≤ i
-  so : Partial u v
+  few : length (v .read .steps) + length (v .read .acts) ≤ i
+  low : 1 ≤ u
+  tables : v .stage .table ≤ u
+  sized : 1 ≤ v .stage .table → 1 ≤ v .read .k
+  noSteps : v .stage .table ≤ 1 → length (v .read .steps) ≡ 0
+  noActs : v .stage .table ≤ 2 → length (v .read .acts) ≡ 0
+  fits : Fits (v .read)
 
 -- a list of length 0 has no place j
 none : {A : Type 0} (n j : ℕ) → n ≡ 0 → j < n → A
@@ -107,13 +108,13 @@ start-after : (u : ℕ) → 1 ≤ u → After u 0 atStart
 start-after u low =
     record {
       few = omega arith;
-      so =
+      low = low;
+      tables = omega arith;
+      sized = λ l. absurd (omega arith);
+      noSteps = λ l. refl;
+      noActs = λ l. refl;
+      fits =
           record {
-            low = low;
-            tables = omega arith;
-            sized = λ l. absurd (omega arith);
-            noSteps = λ l. refl;
-            noActs = λ l. refl;
             sizes = record { high = omega arith; rivalLow = λ l. absurd (omega arith); rivalHigh = omega arith };
             catalog = record { few = omega arith; each = λ i l. none 0 i refl l };
             fresh = unfold noneLeft in refl;
@@ -125,7 +126,7 @@ start-after u low =
 
 -- an act that fits still fits when more acts have been read
 act-fits :
-    (v w : Sofar) (a : Placed) →
+    (v w : Tables) (a : Placed) →
     catalogBefore w (a .place) ≡ catalogBefore v (a .place) →
     length (v .steps) ≤ length (w .steps) →
     lastPlace (v .acts) ≤ lastPlace (w .acts) →
@@ -141,26 +142,9 @@ act-fits v w a c s p f =
 -- ## Each line that leads on keeps it
 
 -- the line of names
-named-after : (u i : ℕ) (v : Sofar) (f : ℕ) → After u i v → After u (suc i) (nowNamed v f)
+named-after : (u i : ℕ) (v : Sofar) (f : ℕ) → After u i v → After u (suc i) (record { stage = record { table = v .stage .table; named = true; heading = f }; read = v .read })
 named-after u i v f p =
-    let q = p .so in
-    record {
-      few = omega (arith, p .few);
-      so =
-          record {
-            low = q .low;
-            tables = q .tables;
-            sized = q .sized;
-            noSteps = q .noSteps;
-            noActs = q .noActs;
-            sizes = q .sizes;
-            catalog = q .catalog;
-            fresh = q .fresh;
-            steps = q .steps;
-            acts = λ j l. act-fits v (nowNamed v f) _ refl (omega arith) (omega arith) (q .acts j l);
-            inOrder = q .inOrder;
-          };
-    }
+    record { few = omega (arith, p .few); low = p .low; tables = p .tables; sized = p .sized; noSteps = p .noSteps; noActs = p .noActs; fits = p .fits }
 
 -- a blank line ends table 0 only behind the sizes, and never the last table
 may-end : (upto table k : ℕ) → 1 ≤ upto → mayEnd upto table k ≡ true → (table < upto) × (table ≡ 0 → 1 ≤ k)
@@ -171,273 +155,255 @@ may-end upto table k low e = go (eqb table 0) refl e
     go false z e = (ltb-true table upto e, λ q. absurd (eqb-false table 0 z q))
 
 -- the blank line
-next-after : (u i : ℕ) (v : Sofar) → After u i v → mayEnd u (v .table) (v .k) ≡ true → After u (suc i) (nextTable v)
+next-after : (u i : ℕ) (v : Sofar) → After u i v → mayEnd u (v .stage .table) (v .read .k) ≡ true → After u (suc i) (record { stage = nextTable (v .stage); read = v .read })
 next-after u i v p e =
-    let q = p .so in
-    let m = may-end u (v .table) (v .k) (q .low) e in
     record {
       few = omega (arith, p .few);
-      so =
-          record {
-            low = q .low;
-            tables = m .0;
-            sized = λ l. sized (ℕ-discrete (v .table) 0);
-            noSteps = λ l. q .noSteps (omega arith);
-            noActs = λ l. q .noActs (omega arith);
-            sizes = q .sizes;
-            catalog = q .catalog;
-            fresh = q .fresh;
-            steps = q .steps;
-            acts = λ j l. act-fits v (nextTable v) _ refl (omega arith) (omega arith) (q .acts j l);
-            inOrder = q .inOrder;
-          };
+      low = p .low;
+      tables = may-end u (v .stage .table) (v .read .k) (p .low) e .0;
+      sized = λ l. sized (ℕ-discrete (v .stage .table) 0);
+      noSteps = λ l. p .noSteps (omega arith);
+      noActs = λ l. p .noActs (omega arith);
+      fits = p .fits;
     }
   where
-    sized : Dec (v .table ≡ 0) → 1 ≤ v .k
-    sized (yes z) = may-end u (v .table) (v .k) (p .so .low) e .1 z
-    sized (no z) = p .so .sized (omega arith)
-
--- a value line of each table: what stands in the later tables is not read yet
-sizes-after :
-    (u i fields n : ℕ) (v : Sofar) (k h : ℕ) (r : Deduction) →
-    After u i v →
-    Says (v .table) fields n (Sizes k h r) →
-    h ≤ k →
-    After u (suc i) (withSizes v k h r)
-sizes-after u i fields n v k h r p s l =
-    let q = p .so in
-    let noSteps : length (v .steps) ≡ 0 = q .noSteps (omega arith) in
-    let noActs : length (v .acts) ≡ 0 = q .noActs (omega arith) in
-    record {
-      few = omega (arith, p .few);
-      so =
-          record {
-            low = q .low;
-            tables = q .tables;
-            sized = λ l. s .1;
-            noSteps = q .noSteps;
-            noActs = q .noActs;
-            sizes = record { high = s .2; rivalLow = λ l. s .3; rivalHigh = l };
-            catalog = q .catalog;
-            fresh = q .fresh;
-            steps = λ j l. none _ j noSteps l;
-            acts = λ j l. none _ j noActs l;
-            inOrder = λ i j m l. none _ j noActs l;
-          };
-    }
-
-item-after :
-    (u i fields n : ℕ) (v : Sofar) (number b l w : ℕ) →
-    After u i v →
-    Says (v .table) fields n (ItemLine number b l w) →
-    number ≡ length (v .catalog) →
-    After u (suc i) (withItem v b l w)
-item-after u i fields n v number b l w p s e =
-    let q = p .so in
-    let noSteps : length (v .steps) ≡ 0 = q .noSteps (omega arith) in
-    let noActs : length (v .acts) ≡ 0 = q .noActs (omega arith) in
-    record {
-      few = omega (arith, p .few);
-      so =
-          record {
-            low = q .low;
-            tables = q .tables;
-            sized = q .sized;
-            noSteps = q .noSteps;
-            noActs = q .noActs;
-            sizes = q .sizes;
-            catalog =
-                record {
-                  few = omega (arith, length-append (v .catalog) (listed b l w ∷ []));
-                  each = each-more (λ j. ItemFacts) noItem (v .catalog) (listed b l w) (q .catalog .each) (item-facts (listed b l w) (s .2));
-                };
-            fresh = none-left-more (v .catalog) b l w (q .fresh);
-            steps = λ j l. none _ j noSteps l;
-            acts = λ j l. none _ j noActs l;
-            inOrder = λ i j m l. none _ j noActs l;
-          };
-    }
-
-step-after :
-    (u i fields n : ℕ) (v : Sofar) (s : Step) →
-    After u i v →
-    Says (v .table) fields n (StepLine s) →
-    itemRefusal (v .k) (catalogAfter (v .catalog) (v .steps)) s ≡ 0 →
-    After u (suc i) (withStep v s)
-step-after u i fields n v s p r e =
-    let q = p .so in
-    let noActs : length (v .acts) ≡ 0 = q .noActs (omega arith) in
-    record {
-      few = omega (arith, p .few, length-append (v .steps) (s ∷ []));
-      so =
-          record {
-            low = q .low;
-            tables = q .tables;
-            sized = q .sized;
-            noSteps = λ l. absurd (omega arith);
-            noActs = q .noActs;
-            sizes = q .sizes;
-            catalog = q .catalog;
-            fresh = q .fresh;
-            steps =
-                each-more (λ j t. StepFits (v .k) (catalogBefore (withStep v s) j) t) Flush (v .steps) s
-                (λ j l. subst (λ (c : Catalog). StepFits (v .k) c (getD (v .steps) j Flush)) (front j (omega arith)) (q .steps j l))
-                (subst (λ (c : Catalog). StepFits (v .k) c s) all (record { ranged = r .2; taken = e }));
-            acts = λ j l. none _ j noActs l;
-            inOrder = λ i j m l. none _ j noActs l;
-          };
-    }
-  where
-    -- the steps before each of them, and before the new one
-    front : (j : ℕ) → j ≤ length (v .steps) → catalogBefore v j ≡ catalogBefore (withStep v s) j
-    front j l = ap (catalogAfter (v .catalog)) (sym (take-append-le j (v .steps) (s ∷ []) l))
-
-    all : catalogAfter (v .catalog) (v .steps) ≡ catalogBefore (withStep v s) (length (v .steps))
-    all = ap (catalogAfter (v .catalog)) (sym (take-append-seam (v .steps) (s ∷ [])))
+    sized : Dec (v .stage .table ≡ 0) → 1 ≤ v .read .k
+    sized (yes z) = may-end u (v .stage .table) (v .read .k) (p .low) e .1 z
+    sized (no z) = p .sized (omega arith)
 
 -- the last place is that of the act just read
 last-more : (acts : List Placed) (a : Placed) → lastPlace (acts ++ (a ∷ [])) ≡ a .place
 unfolding fold
 last-more acts a = fold-append (λ (p : ℕ) (a : Placed). a .place) 0 acts (a ∷ [])
 
-act-after :
-    (u i : ℕ) (v : Sofar) (place : ℕ) (act : Act) →
-    After u i v →
-    3 ≤ v .table →
-    inTurn v place ≡ true →
-    ifKnown (catalogBefore v place) (actItem act) 0 ≡ 0 →
-    After u (suc i) (withAct v place act)
-act-after u i v place act p t e k =
-    let q = p .so in
-    record {
-      few = omega (arith, p .few, length-append (v .acts) (a ∷ []));
-      so =
-          record {
-            low = q .low;
-            tables = q .tables;
-            sized = q .sized;
-            noSteps = q .noSteps;
-            noActs = λ l. absurd (omega arith);
-            sizes = q .sizes;
-            catalog = q .catalog;
-            fresh = q .fresh;
-            steps = q .steps;
-            acts = fits;
-            inOrder = λ i j m l. order i j m l (ℕ-discrete j (length (v .acts)));
-          };
-    }
-  where
-    a : Placed
-    a = record { place = place; act = act }
+-- ## A value line of each table: what stands in the later tables is not read yet
 
-    w : Sofar
-    w = withAct v place act
+module _ (u i fields n : ℕ) (v : Sofar) (p : After u i v) where
+  -- the stage stays
+  abbrev Still : Tables → Type 0
+  Still w = After u (suc i) (record { stage = v .stage; read = w })
 
-    turn : (leb (lastPlace (v .acts)) place ≡ true) × (ltb place (length (v .steps)) ≡ true)
-    turn = and-parts (leb (lastPlace (v .acts)) place) (ltb place (length (v .steps))) e
+  sizes-after : (k h : ℕ) (r : Deduction) → Says (v .stage .table) fields n (Sizes k h r) → h ≤ k → Still (withSizes (v .read) k h r)
+  sizes-after k h r s l =
+      let noSteps : length (v .read .steps) ≡ 0 = p .noSteps (omega arith) in
+      let noActs : length (v .read .acts) ≡ 0 = p .noActs (omega arith) in
+      record {
+        few = omega (arith, p .few);
+        low = p .low;
+        tables = p .tables;
+        sized = λ l. s .1;
+        noSteps = p .noSteps;
+        noActs = p .noActs;
+        fits =
+            record {
+              sizes = record { high = s .2; rivalLow = λ l. s .3; rivalHigh = l };
+              catalog = p .fits .catalog;
+              fresh = p .fits .fresh;
+              steps = λ j l. none _ j noSteps l;
+              acts = λ j l. none _ j noActs l;
+              inOrder = λ i j m l. none _ j noActs l;
+            };
+      }
 
-    last : lastPlace (w .acts) ≡ place
-    last = last-more (v .acts) a
+  item-after :
+      (number b l w : ℕ) →
+      Says (v .stage .table) fields n (ItemLine number b l w) →
+      number ≡ length (v .read .catalog) →
+      Still (withItem (v .read) b l w)
+  item-after number b l w s e =
+      let cat = v .read .catalog in
+      let noSteps : length (v .read .steps) ≡ 0 = p .noSteps (omega arith) in
+      let noActs : length (v .read .acts) ≡ 0 = p .noActs (omega arith) in
+      record {
+        few = omega (arith, p .few);
+        low = p .low;
+        tables = p .tables;
+        sized = p .sized;
+        noSteps = p .noSteps;
+        noActs = p .noActs;
+        fits =
+            record {
+              sizes = p .fits .sizes;
+              catalog =
+                  record {
+                    few = omega (arith, length-append cat (listed b l w ∷ []));
+                    each = each-more (λ j. ItemFacts) noItem cat (listed b l w) (p .fits .catalog .each) (item-facts (listed b l w) (s .2));
+                  };
+              fresh = none-left-more cat b l w (p .fits .fresh);
+              steps = λ j l. none _ j noSteps l;
+              acts = λ j l. none _ j noActs l;
+              inOrder = λ i j m l. none _ j noActs l;
+            };
+      }
 
-    later : lastPlace (v .acts) ≤ lastPlace (w .acts)
-    later = omega (arith, last, leb-true (lastPlace (v .acts)) place (turn .0))
+  step-after :
+      (s : Step) →
+      Says (v .stage .table) fields n (StepLine s) →
+      itemRefusal (v .read .k) (catalogAfter (v .read .catalog) (v .read .steps)) s ≡ 0 →
+      Still (withStep (v .read) s)
+  step-after s r e =
+      let t = v .read in
+      let noActs : length (t .acts) ≡ 0 = p .noActs (omega arith) in
+      record {
+        few = omega (arith, p .few, length-append (t .steps) (s ∷ []));
+        low = p .low;
+        tables = p .tables;
+        sized = p .sized;
+        noSteps = λ l. absurd (omega arith);
+        noActs = p .noActs;
+        fits =
+            record {
+              sizes = p .fits .sizes;
+              catalog = p .fits .catalog;
+              fresh = p .fits .fresh;
+              steps =
+                  each-more (λ j x. StepFits (t .k) (catalogBefore (withStep t s) j) x) Flush (t .steps) s
+                  (λ j l. subst (λ (c : Catalog). StepFits (t .k) c (getD (t .steps) j Flush)) (front j (omega arith)) (p .fits .steps j l))
+                  (subst (λ (c : Catalog). StepFits (t .k) c s) all (record { ranged = r .2; taken = e }));
+              acts = λ j l. none _ j noActs l;
+              inOrder = λ i j m l. none _ j noActs l;
+            };
+      }
+    where
+      -- the steps before each of them, and before the new one
+      front : (j : ℕ) → j ≤ length (v .read .steps) → catalogBefore (v .read) j ≡ catalogBefore (withStep (v .read) s) j
+      front j l = ap (catalogAfter (v .read .catalog)) (sym (take-append-le j (v .read .steps) (s ∷ []) l))
 
-    fits : (j : ℕ) → j < length (w .acts) → ActFits w (placedAt (w .acts) j)
-    fits =
-        each-more (λ j. ActFits w) (record { place = 0; act = Fetch 0 }) (v .acts) a
-        (λ j l. act-fits v w _ refl (omega arith) later (p .so .acts j l))
-        (record { known = k; within = ltb-true place (length (v .steps)) (turn .1); passed = omega (arith, last) })
+      all : catalogAfter (v .read .catalog) (v .read .steps) ≡ catalogBefore (withStep (v .read) s) (length (v .read .steps))
+      all = ap (catalogAfter (v .read .catalog)) (sym (take-append-seam (v .read .steps) (s ∷ [])))
 
-    order : (i j : ℕ) → i ≤ j → j < length (w .acts) → Dec (j ≡ length (v .acts)) → placedAt (w .acts) i .place ≤ placedAt (w .acts) j .place
-    order i j m l (yes z) = rw (z, getD-append-seam (v .acts) a []) (omega (arith, fits i (omega arith) .passed, last))
-    order i j m l (no z) =
-        let b : j < length (v .acts) = omega (arith, length-append (v .acts) (a ∷ [])) in
-        let c : i < length (v .acts) = omega arith in
-        rw (List·getD-append (v .acts) (a ∷ []) _ i c, List·getD-append (v .acts) (a ∷ []) _ j b) (p .so .inOrder i j m b)
+  act-after :
+      (place : ℕ) (act : Act) →
+      3 ≤ v .stage .table →
+      inTurn (v .read) place ≡ true →
+      ifKnown (catalogBefore (v .read) place) (actItem act) 0 ≡ 0 →
+      Still (withAct (v .read) place act)
+  act-after place act table e k =
+      record {
+        few = omega (arith, p .few, length-append (t .acts) (a ∷ []));
+        low = p .low;
+        tables = p .tables;
+        sized = p .sized;
+        noSteps = p .noSteps;
+        noActs = λ l. absurd (omega arith);
+        fits =
+            record {
+              sizes = p .fits .sizes;
+              catalog = p .fits .catalog;
+              fresh = p .fits .fresh;
+              steps = p .fits .steps;
+              acts = fits;
+              inOrder = λ i j m l. order i j m l (ℕ-discrete j (length (t .acts)));
+            };
+      }
+    where
+      t : Tables
+      t = v .read
 
--- any value line, and any line
-takes-after :
-    (u i fields n : ℕ) (v : Sofar) (x : Line) → After u i v → Says (v .table) fields n x → Leading (After u (suc i)) (takes v x n)
-unfolding takes
-takes-after u i fields n v (Sizes k h r) p s =
-    either (Leading (After u (suc i))) (leb h k) _ _ (λ e. sizes-after u i fields n v k h r p s (leb-true h k e)) (λ e. tt)
-takes-after u i fields n v (ItemLine number b l w) p s =
-    either (Leading (After u (suc i))) (eqb number (length (v .catalog))) _ _
-    (λ e. item-after u i fields n v number b l w p s (eqb-true number (length (v .catalog)) e)) (λ e. tt)
-takes-after u i fields n v (StepLine s) p r =
-    let number = itemRefusal (v .k) (catalogAfter (v .catalog) (v .steps)) s in
-    either (Leading (After u (suc i))) (eqb number 0) _ _ (λ e. step-after u i fields n v s p r (eqb-true number 0 e)) (λ e. tt)
-takes-after u i fields n v (ActLine place act) p t =
-    let number = ifKnown (catalogBefore v place) (actItem act) 0 in
-    either (Leading (After u (suc i))) (inTurn v place) _ _
-    (λ e. either (Leading (After u (suc i))) (eqb number 0) _ _
-    (λ k. act-after u i v place act p (t .0) e (eqb-true number 0 k)) (λ k. tt))
-    (λ e. tt)
-takes-after u i fields n v (Refused r) p s = tt
+      a : Placed
+      a = record { place = place; act = act }
+
+      w : Tables
+      w = withAct t place act
+
+      turn : (leb (lastPlace (t .acts)) place ≡ true) × (ltb place (length (t .steps)) ≡ true)
+      turn = and-parts (leb (lastPlace (t .acts)) place) (ltb place (length (t .steps))) e
+
+      last : lastPlace (w .acts) ≡ place
+      last = last-more (t .acts) a
+
+      later : lastPlace (t .acts) ≤ lastPlace (w .acts)
+      later = omega (arith, last, leb-true (lastPlace (t .acts)) place (turn .0))
+
+      fits : (j : ℕ) → j < length (w .acts) → ActFits w (placedAt (w .acts) j)
+      fits =
+          each-more (λ j. ActFits w) (record { place = 0; act = Fetch 0 }) (t .acts) a
+          (λ j l. act-fits t w _ refl (omega arith) later (p .fits .acts j l))
+          (record { known = k; within = ltb-true place (length (t .steps)) (turn .1); passed = omega (arith, last) })
+
+      order : (i j : ℕ) → i ≤ j → j < length (w .acts) → Dec (j ≡ length (t .acts)) → placedAt (w .acts) i .place ≤ placedAt (w .acts) j .place
+      order i j m l (yes z) = rw (z, getD-append-seam (t .acts) a []) (omega (arith, fits i (omega arith) .passed, last))
+      order i j m l (no z) =
+          let b : j < length (t .acts) = omega (arith, length-append (t .acts) (a ∷ [])) in
+          let c : i < length (t .acts) = omega arith in
+          rw (List·getD-append (t .acts) (a ∷ []) _ i c, List·getD-append (t .acts) (a ∷ []) _ j b) (p .fits .inOrder i j m b)
+
+  -- any value line
+  takes-after : (x : Line) → Says (v .stage .table) fields n x → Leading Still (takes (v .read) x n)
+  unfolding takes
+  takes-after (Sizes k h r) s = either (Leading Still) (leb h k) _ _ (λ e. sizes-after k h r s (leb-true h k e)) (λ e. tt)
+  takes-after (ItemLine number b l w) s =
+      either (Leading Still) (eqb number (length (v .read .catalog))) _ _
+      (λ e. item-after number b l w s (eqb-true number (length (v .read .catalog)) e)) (λ e. tt)
+  takes-after (StepLine s) r =
+      let number = itemRefusal (v .read .k) (catalogAfter (v .read .catalog) (v .read .steps)) s in
+      either (Leading Still) (eqb number 0) _ _ (λ e. step-after s r (eqb-true number 0 e)) (λ e. tt)
+  takes-after (ActLine place act) t =
+      let number = ifKnown (catalogBefore (v .read) place) (actItem act) 0 in
+      either (Leading Still) (inTurn (v .read) place) _ _
+      (λ e. either (Leading Still) (eqb number 0) _ _ (λ k. act-after place act (t .0) e (eqb-true number 0 k)) (λ k. tt))
+      (λ e. tt)
+  takes-after (Refused r) s = tt
+
+-- ## Any line
+
+pub goes-on :
+    {A B : Type 0} (P : A → Type 0) (Q : B → Type 0) (x : OrRefusal A) (next : A → OrRefusal B) →
+    Leading P x →
+    ((v : A) → P v → Leading Q (next v)) →
+    Leading Q (goesOn x next)
+goes-on P Q (gives v) next p f = f v p
+goes-on P Q (stops r) next p f = tt
 
 blank : (a b : Bool) → cond a b false ≡ true → b ≡ true
 blank true b e = e
 blank false b e = absurd (false≢true e)
 
-leads-after : (u i n : ℕ) (v : Sofar) (l : List ℕ) → After u i v → Leading (After u (suc i)) (leads u v l n)
-unfolding leads
-leads-after u i n v l p =
-    either Q (v .named) _ _
-    (λ e. either Q (cond (isBlank l) (mayEnd u (v .table) (v .k)) false) _ _
-    (λ b. next-after u i v p (blank (isBlank l) (mayEnd u (v .table) (v .k)) b))
-    (λ b. either Q (mustEnd (v .table) (v .k)) _ _ (λ m. tt)
-    (λ m. takes-after u i (length (fieldsOf l)) n v _ p (line-says (v .table) (v .form) (fieldsOf l) n))))
-    (λ e. names (formOf (v .table) l))
+line-after : (u i n : ℕ) (v : Sofar) (l : List ℕ) → After u i v → Leading (After u (suc i)) (readLine u v l n)
+unfolding readLine
+line-after u i n v l p =
+    either Q (v .stage .named) _ _
+    (λ e. either Q (cond (isBlank l) (mayEnd u (v .stage .table) (v .read .k)) false) _ _
+    (λ b. next-after u i v p (blank (isBlank l) (mayEnd u (v .stage .table) (v .read .k)) b))
+    (λ b. either Q (mustEnd (v .stage .table) (v .read .k)) _ _ (λ m. tt)
+    (λ m. goes-on _ (After u (suc i)) (takes (v .read) _ n) _
+    (takes-after u i (length (fieldsOf l)) n v p _ (line-says (v .stage .table) (v .stage .heading) (fieldsOf l) n)) (λ w q. q))))
+    (λ e. names (formOf (v .stage .table) l))
   where
-    Q : Led → Type 0
+    Q : OrRefusal Sofar → Type 0
     Q = Leading (After u (suc i))
 
-    names : (x : Names) → Q (namedBy v x n)
+    names : (x : Names) → Q (goesOn (namedBy (v .stage) x n) (λ q. gives (record { stage = q; read = v .read })))
     names (Form f) = named-after u i v f p
     names Unknown = tt
 
 -- ## The whole text
 
--- where a reading ends, after b lines at most: in the last table, u
-record Ended (u b : ℕ) (v : Sofar) : Type 0 where
+-- where a reading ends, after b lines at most
+record Ended (b : ℕ) (v : Tables) : Type 0 where
   few : length (v .steps) + length (v .acts) ≤ b
-  so : Partial u v
-  named : v .named ≡ true
-  table : v .table ≡ u
+  sized : 1 ≤ v .k
+  fits : Fits v
 
-end-after : (u i b n : ℕ) (v : Sofar) → i ≤ b → After u i v → Leading (Ended u b) (atEnd u v n)
+end-after : (u i b n : ℕ) (v : Sofar) → i ≤ b → After u i v → Leading (Ended b) (atEnd u v n)
 end-after u i b n v l p =
-    either (Leading (Ended u b)) (v .named && eqb (v .table) u) _ _
-    (λ e. done (and-parts (v .named) (eqb (v .table) u) e)) (λ e. tt)
+    either (Leading (Ended b)) (v .stage .named && eqb (v .stage .table) u) _ _
+    (λ e. done (eqb-true (v .stage .table) u (and-parts (v .stage .named) (eqb (v .stage .table) u) e .1))) (λ e. tt)
   where
-    done : (v .named ≡ true) × (eqb (v .table) u ≡ true) → Ended u b v
-    done e =
-        record {
-          few = omega (arith, p .few);
-          so = p .so;
-          named = e .0;
-          table = eqb-true (v .table) u (e .1);
-        }
-
-pub goes-on :
-    (P Q : Sofar → Type 0) (x : Led) (next : Sofar → Led) →
-    Leading P x →
-    ((v : Sofar) → P v → Leading Q (next v)) →
-    Leading Q (goesOn x next)
-goes-on P Q (on v) next p f = f v p
-goes-on P Q (stop r) next p f = tt
+    done : v .stage .table ≡ u → Ended b (v .read)
+    done e = record { few = omega (arith, p .few); sized = p .sized (omega (arith, p .low)); fits = p .fits }
 
 read-after :
     (u i b n : ℕ) (ls : List (List ℕ)) (v : Sofar) →
     i + (length ls - 1) ≤ b →
     After u i v →
-    Leading (Ended u b) (readFrom u n ls v)
+    Leading (Ended b) (readFrom u n ls v)
 unfolding readFrom
 read-after u i b n [] v l p = end-after u i b n v (omega arith) p
 read-after u i b n (x ∷ []) v l p =
-    either (Leading (Ended u b)) (isBlank x) _ _ (λ e. end-after u i b n v (omega arith) p) (λ e. tt)
+    either (Leading (Ended b)) (isBlank x) _ _ (λ e. end-after u i b n v (omega arith) p) (λ e. tt)
 read-after u i b n (x ∷ y ∷ rest) v l p =
-    goes-on (After u (suc i)) (Ended u b) (leads u v x n) (readFrom u (suc n) (y ∷ rest)) (leads-after u i n v x p)
+    goes-on (After u (suc i)) (Ended b) (readLine u v x n) (readFrom u (suc n) (y ∷ rest)) (line-after u i n v x p)
     (λ w q. read-after u (suc i) b (suc n) (y ∷ rest) w (omega arith) q)
 
 -- a text has at most one piece more than bytes
@@ -452,17 +418,13 @@ split-few b (x ∷ s) =
     ahead [] l = omega arith
     ahead (p ∷ ps) l = omega arith
 
-accepted : (u : ℕ) (s : List ℕ) (v : Sofar) → 1 ≤ u → readingTo u s ≡ on v → Ended u (length s) v
+accepted : (u : ℕ) (s : List ℕ) (v : Tables) → 1 ≤ u → readingTo u s ≡ gives v → Ended (length s) v
 accepted u s v low e =
-    subst (Leading (Ended u (length s))) e
+    subst (Leading (Ended (length s))) e
     (read-after u 0 (length s) 1 (split 10 s) atStart (omega (arith, split-few 10 s)) (start-after u low))
 
--- an accepted text ends behind the names of its last table
-pub accepted-ends : (s : List ℕ) (v : Sofar) → readingOf s ≡ on v → (v .named ≡ true) × (v .table ≡ 3)
-accepted-ends s v e = let a = accepted 3 s v (omega arith) e in (a .named, a .table)
-
 -- it has no more steps and acts than bytes
-pub accepted-few : (s : List ℕ) (v : Sofar) → readingOf s ≡ on v → length (v .steps) + length (v .acts) ≤ length s
+pub accepted-few : (s : List ℕ) (v : Tables) → readingOf s ≡ gives v → length (v .steps) + length (v .acts) ≤ length s
 accepted-few s v e = accepted 3 s v (omega arith) e .few
 
 -- the table lets a step through that is in range, not refused by its item, and not behind too many others
@@ -471,14 +433,13 @@ unfolding refusalAt
 let-through k cat j s l f = rw (lt-leb 1000000 j l, f .ranged, same-step s) (f .taken)
 
 -- and what it says is sound
-pub accepted-sound : (s : List ℕ) (v : Sofar) → length s ≤ 65536 → readingOf s ≡ on v → Sound v
+pub accepted-sound : (s : List ℕ) (v : Tables) → length s ≤ 65536 → readingOf s ≡ gives v → Sound v
 accepted-sound s v l e =
     let a = accepted 3 s v (omega arith) e in
-    let p = a .so in
-    let k : 1 ≤ v .k = p .sized (omega arith) in
+    let p = a .fits in
     record {
-      capacity = capacity-ok (v .k) (record { low = k; high = p .sizes .high });
-      rivalLow = p .sizes .rivalLow k;
+      capacity = capacity-ok (v .k) (record { low = a .sized; high = p .sizes .high });
+      rivalLow = p .sizes .rivalLow (a .sized);
       rivalHigh = p .sizes .rivalHigh;
       catalog = catalog-ok (v .catalog) (p .catalog);
       fresh = p .fresh;

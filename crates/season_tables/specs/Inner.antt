@@ -1,17 +1,18 @@
 -- How the program holds what has been read: the sizes and counts in a struct, with what is known of the items; the items as bytes in one
--- lent slice, the steps and acts as numbers in two; and what a line leaves of them as it was. Assumes nothing.
+-- lent slice, the steps and acts as numbers in two; and what a line leaves of them as it was. The stage of the reading it holds as it is.
+-- Assumes nothing.
 use lib.{ListN.{length, take, drop}, Dec.{eqb, leb}}
 use Rattle.types.specs.{declared.{Step.Step, Act.Act, Deduction.the-variants.WriteFirst, Refusal.{Refusal, the-variants.Heading}}, Types.{numbersOf, actKind, actItem}}
 use Rattle.landlord.specs.{Fold.fold, Catalog.catalogAfter, Calls.inRange}
 use mathlib.Core.{Bool.{Bool, true, false, cond, not, _&&_}, List.{List, [], _∷_, map}, Path._≡_}
-use Rattle.season_tables.specs.declared.{Seen.Seen, Scanned.Scanned, Verdict.{Verdict, the-variants.{Taken, Refused}}}
-use Rattle.season_tables.specs.Tables.{Placed, Sofar, Led, on, stop, mayEnd, mustEnd}
+use Rattle.season_tables.specs.declared.{Stage.Stage, Seen.Seen, Scanned.Scanned, LineRead.LineRead, Verdict.{Verdict, the-variants.{Taken, Refused}}}
+use Rattle.season_tables.specs.Tables.{Placed, Tables, Sofar, OrRefusal, gives, stops, mayEnd, mustEnd, readLine}
 use Prim.Native.Nat.{ℕ, _*_, _≤_}
 use Rattle.catalog_bytes.specs.Inner.{catalogOfFirst}
 use Rattle.line_fields.specs.{declared.Field.Field, Fields.fieldsOf, Inner.heldField}
 use Rattle.season_lines.specs.{declared.Line.{Line, the-variants.{Sizes, Item as ItemLine, Step as StepLine, Act as ActLine, Refused as RefusedLine}}, Inner.Judgeable}
 use Rattle.landlord.specs.CallNumbers.{callNumbers}
-use Rattle.season_items.specs.Inner.{HasItems, Tells, nonePresent}
+use Rattle.season_items.specs.Inner.{callWidth, actWidth, mostNoted, itemRoom, callRoom, actRoom, HasItems, Tells, nonePresent}
 
 -- a blank line
 abbrev pub isBlank : List ℕ → Bool
@@ -31,85 +32,58 @@ actNumbers [] = []
 actNumbers (a ∷ acts) = a .place ∷ actKind (a .act) ∷ actItem (a .act) ∷ actNumbers acts
 
 -- The struct and the slices hold what has been read. Behind the catalog's items the bytes have those that arrived. What is known of the
--- items is known as all steps have left them, and as the steps before the last act's place have; no act stands behind the last step, and
--- no step before the end of the catalog.
-pub record Holds (q : Seen) (catalog calls acts : List ℕ) (v : Sofar) : Type 0 where
-  pub table : q .table ≡ v .table
-  pub named : q .named ≡ v .named
-  pub form : q .form ≡ v .form
+-- items is known as all steps have left them, and as the steps before the last act's place have; no act stands behind the last step.
+pub record Holds (q : Seen) (catalog calls acts : List ℕ) (v : Tables) : Type 0 where
   pub k : q .k ≡ v .k
   pub h : q .h ≡ v .h
+  pub rule : q .rule ≡ v .rule
   pub few : q .present .n ≤ 256
   pub items : catalogOfFirst (q .n) catalog ≡ v .catalog
   pub itemCount : q .n ≡ length (v .catalog)
   pub stepCount : q .steps ≡ length (v .steps)
   pub actCount : q .acts ≡ length (v .acts)
   pub last : q .last ≡ lastPlace (v .acts)
-  pub stepsNoted : take (7 * q .steps) calls ≡ callNumbers (v .steps)
-  pub actsNoted : take (3 * q .acts) acts ≡ actNumbers (v .acts)
-  pub rule : q .rule ≡ v .rule
+  pub stepsNoted : take (callWidth * q .steps) calls ≡ callNumbers (v .steps)
+  pub actsNoted : take (actWidth * q .acts) acts ≡ actNumbers (v .acts)
   pub present : Tells (catalogAfter (v .catalog) (v .steps)) (q .present)
   pub earlier : Tells (catalogAfter (v .catalog) (take (q .last) (v .steps))) (q .earlier)
   pub stored : HasItems (catalogAfter (v .catalog) (v .steps)) catalog
   pub passed : q .last ≤ q .steps
-  pub unstepped : q .table ≤ 1 → q .steps ≡ 0
 
 -- the struct before the first line
 abbrev pub nothingRead : Seen
 nothingRead =
-    record {
-      table = 0;
-      named = false;
-      k = 0;
-      h = 0;
-      n = 0;
-      steps = 0;
-      acts = 0;
-      last = 0;
-      form = 0;
-      rule = WriteFirst;
-      present = nonePresent;
-      earlier = nonePresent;
-    }
+    record { k = 0; h = 0; rule = WriteFirst; n = 0; steps = 0; acts = 0; last = 0; present = nonePresent; earlier = nonePresent }
 
 -- the verdict at the end of an input whose last table is the one numbered `upto`, on line n
-abbrev pub endVerdict : ℕ → Seen → ℕ → Verdict
-endVerdict upto q n = cond (q .named && eqb (q .table) upto) Taken (Refused (Heading n))
+abbrev pub endVerdict : ℕ → Stage → ℕ → Verdict
+endVerdict upto p n = cond (p .named && eqb (p .table) upto) Taken (Refused (Heading n))
 
--- the answer to a line, or to all of them: taken, with what has been read then; or the refusal
-abbrev pub Leads : Led → Scanned → List ℕ → List ℕ → List ℕ → Type 0
-Leads (on v) r catalog calls acts = (r .verdict ≡ Taken) × Holds (r .seen) catalog calls acts v
-Leads (stop x) r catalog calls acts = r .verdict ≡ Refused x
-
--- whether the fields of a line of so many bytes are looked at: a value line is due, and this is not the blank line
-unfoldable pub wantsValues : Bool → ℕ → ℕ → ℕ → ℕ → Bool
-wantsValues isNamed upto table k bytes =
-    cond isNamed (cond (cond (eqb bytes 0) (mayEnd upto table k) false) false (not (mustEnd table k))) false
-
--- if a line is one with values, these are its fields, as the program holds them
-abbrev pub Looked : ℕ → Seen → List ℕ → List Field → Type 0
-Looked upto q l fs = wantsValues (q .named) upto (q .table) (q .k) (length l) ≡ true → fs ≡ map heldField (fieldsOf l)
+-- the answer to a value line, or to all lines: taken, with what has been read then; or the refusal
+abbrev pub Leads : OrRefusal Tables → Scanned → List ℕ → List ℕ → List ℕ → Type 0
+Leads (gives v) r catalog calls acts = (r .verdict ≡ Taken) × Holds (r .seen) catalog calls acts v
+Leads (stops x) r catalog calls acts = r .verdict ≡ Refused x
 
 -- The answer leads where `led` says from what has been read, items, steps and acts being noted in these slices before and after.
-abbrev pub LeadsFrom : Seen → List ℕ → List ℕ → List ℕ → (Sofar → Led) → Scanned → List ℕ → List ℕ → List ℕ → Type 0
+abbrev pub LeadsFrom : Seen → List ℕ → List ℕ → List ℕ → (Tables → OrRefusal Tables) → Scanned → List ℕ → List ℕ → List ℕ → Type 0
 LeadsFrom q catalog calls acts led r catalog-after calls-after acts-after =
-    (v : Sofar) → Holds q catalog calls acts v → Leads (led v) r catalog-after calls-after acts-after
+    (v : Tables) → Holds q catalog calls acts v → Leads (led v) r catalog-after calls-after acts-after
 
 -- and nothing is noted
-abbrev pub LeadsBy : Seen → (Sofar → Led) → Scanned → Type 0
+abbrev pub LeadsBy : Seen → (Tables → OrRefusal Tables) → Scanned → Type 0
 LeadsBy q led r = (catalog calls acts : List ℕ) → LeadsFrom q catalog calls acts led r catalog calls acts
 
 -- and only an item is
-abbrev pub NotesItem : Seen → List ℕ → (Sofar → Led) → Scanned → List ℕ → Type 0
+abbrev pub NotesItem : Seen → List ℕ → (Tables → OrRefusal Tables) → Scanned → List ℕ → Type 0
 NotesItem q catalog led r after = (calls acts : List ℕ) → LeadsFrom q catalog calls acts led r after calls acts
 
 -- and only a step is, with the item that arrives
-abbrev pub NotesStep : Seen → List ℕ → List ℕ → (Sofar → Led) → Scanned → List ℕ → List ℕ → Type 0
+abbrev pub NotesStep : Seen → List ℕ → List ℕ → (Tables → OrRefusal Tables) → Scanned → List ℕ → List ℕ → Type 0
 NotesStep q catalog calls led r catalog-after calls-after =
     (acts : List ℕ) → LeadsFrom q catalog calls acts led r catalog-after calls-after acts
 
 -- and only an act is
-abbrev pub NotesAct : Seen → List ℕ → List ℕ → (Sofar → Led) → Scanned → List ℕ → Type 0
+abbrev pub NotesAct : Seen → List ℕ → List ℕ → (Tables → OrRefusal Tables) → Scanned → List ℕ → Type 0
 NotesAct q calls acts led r after = (catalog : List ℕ) → LeadsFrom q catalog calls acts led r catalog calls after
 
 -- a refusal hands back the struct that was handed in
@@ -124,8 +98,8 @@ KeepsPast m q before r after =
 -- past what has been noted the slices are as they were
 pub record Untouched (q : Seen) (catalog calls acts catalog-after calls-after acts-after : List ℕ) : Type 0 where
   pub pastItems : drop (5 * q .present .n) catalog-after ≡ drop (5 * q .present .n) catalog
-  pub pastSteps : drop (7 * q .steps) calls-after ≡ drop (7 * q .steps) calls
-  pub pastActs : drop (3 * q .acts) acts-after ≡ drop (3 * q .acts) acts
+  pub pastSteps : drop (callWidth * q .steps) calls-after ≡ drop (callWidth * q .steps) calls
+  pub pastActs : drop (actWidth * q .acts) acts-after ≡ drop (actWidth * q .acts) acts
 
 -- the struct and the slices are all as they were
 pub record Unchanged (q : Seen) (catalog calls acts : List ℕ) (p : Seen) (catalog-after calls-after acts-after : List ℕ) : Type 0 where
@@ -139,33 +113,71 @@ pub record Keeps (q : Seen) (catalog calls acts : List ℕ) (r : Scanned) (catal
   pub past : Untouched (r .seen) catalog calls acts catalog-after calls-after acts-after
   pub refused : (x : Refusal) → r .verdict ≡ Refused x → Unchanged q catalog calls acts (r .seen) catalog-after calls-after acts-after
 
--- the slices have at least the places of 256 items, and of the steps and acts that 65,536 bytes can hold, six bytes each, and of
--- one more
-pub record Roomy (catalog calls acts : List ℕ) : Type 0 where
-  pub forItems : 1280 ≤ length catalog
-  pub forSteps : 76461 ≤ length calls
-  pub forActs : 32769 ≤ length acts
+-- ## Any line, with the stage of the reading
 
--- and a place is left
+-- the answer to a line that only leads to another stage, or is refused
+abbrev pub moved : Stage → Seen → OrRefusal Stage → LineRead
+moved p q (gives to) = record { stage = to; scanned = record { verdict = Taken; seen = q } }
+moved p q (stops x) = record { stage = p; scanned = record { verdict = Refused x; seen = q } }
+
+-- the answer to any line: taken, with the stage and what has been read then; or the refusal
+abbrev pub LeadsTo : OrRefusal Sofar → LineRead → List ℕ → List ℕ → List ℕ → Type 0
+LeadsTo (gives v) r catalog calls acts = (r .stage ≡ v .stage) × Leads (gives (v .read)) (r .scanned) catalog calls acts
+LeadsTo (stops x) r catalog calls acts = r .scanned .verdict ≡ Refused x
+
+-- and so from a stage, for line l, the n-th, of a text whose last table is the one numbered `upto`
+abbrev pub ReadsLine : ℕ → Stage → Seen → List ℕ → List ℕ → List ℕ → List ℕ → ℕ → LineRead → List ℕ → List ℕ → List ℕ → Type 0
+ReadsLine upto p q catalog calls acts l n r catalog-after calls-after acts-after =
+    (v : Tables) →
+    Holds q catalog calls acts v →
+    LeadsTo (readLine upto (record { stage = p; read = v }) l n) r catalog-after calls-after acts-after
+
+-- What it leaves as it was; after a refusal the stage too.
+pub record KeepsLine (p : Stage) (q : Seen) (catalog calls acts : List ℕ) (r : LineRead) (catalog-after calls-after acts-after : List ℕ) : Type 0 where
+  pub kept : Keeps q catalog calls acts (r .scanned) catalog-after calls-after acts-after
+  pub refused : (x : Refusal) → r .scanned .verdict ≡ Refused x → r .stage ≡ p
+
+-- whether the fields of a line of so many bytes are looked at: a value line is due, and this is not the blank line
+unfoldable pub wantsValues : ℕ → Stage → ℕ → ℕ → Bool
+wantsValues upto p k bytes =
+    cond (p .named) (cond (cond (eqb bytes 0) (mayEnd upto (p .table) k) false) false (not (mustEnd (p .table) k))) false
+
+-- if a line is one with values, these are its fields, as the program holds them
+abbrev pub Looked : ℕ → Stage → ℕ → List ℕ → List Field → Type 0
+Looked upto p k l fs = wantsValues upto p k (length l) ≡ true → fs ≡ map heldField (fieldsOf l)
+
+-- ## What is asked
+
+-- the slices have at least the places of 256 items, of the steps and acts that a text can have, and of one more
+pub record Roomy (catalog calls acts : List ℕ) : Type 0 where
+  pub forItems : itemRoom ≤ length catalog
+  pub forSteps : callRoom ≤ length calls
+  pub forActs : actRoom ≤ length acts
+
+-- no more steps and acts are read than a text can have
+pub record FewRead (q : Seen) : Type 0 where
+  pub steps : q .steps ≤ mostNoted
+  pub acts : q .acts ≤ mostNoted
+
+-- so a place is left
 pub record Room (q : Seen) (catalog calls acts : List ℕ) : Type 0 where
-  pub forStep : 7 * q .steps ≤ 76454
-  pub forAct : 3 * q .acts ≤ 32766
+  pub few : FewRead q
   pub roomy : Roomy catalog calls acts
 
--- a line of its table: an item has a number that has a place, and stands before the steps; a step is in range, and stands behind the items
-abbrev pub OfTable : ℕ → Line → Type 0
-OfTable table (Sizes k h r) = Unit {0}
-OfTable table (ItemLine i b l w) = (i ≤ 255) × (table ≤ 1)
-OfTable table (StepLine s) = (inRange (numbersOf s) ≡ true) × (2 ≤ table)
-OfTable table (ActLine place act) = Unit {0}
-OfTable table (RefusedLine r) = Unit {0}
+-- what a value line may say here: an item has a number that has a place, and stands before the steps; a step is in range
+abbrev pub Sayable : Seen → Line → Type 0
+Sayable q (Sizes k h r) = Unit {0}
+Sayable q (ItemLine i b l w) = (i ≤ 255) × (q .steps ≡ 0)
+Sayable q (StepLine s) = inRange (numbersOf s) ≡ true
+Sayable q (ActLine place act) = Unit {0}
+Sayable q (RefusedLine r) = Unit {0}
 
 -- a line that a line writer may take
 pub record Takeable (q : Seen) (line : Line) (catalog calls acts : List ℕ) : Type 0 where
   pub room : Room q catalog calls acts
-  pub read : Sofar
+  pub read : Tables
   pub holds : Holds q catalog calls acts read
-  pub ofTable : OfTable (q .table) line
+  pub sayable : Sayable q line
 
 -- a step that may be taken, whatever acts there are
 pub record StepTakeable (q : Seen) (s : Step) (catalog calls : List ℕ) : Type 0 where
@@ -177,13 +189,14 @@ pub record ActTakeable (q : Seen) (place : ℕ) (act : Act) (calls acts : List �
   pub catalog : List ℕ
   pub line : Takeable q (ActLine place act) catalog calls acts
 
--- what a line asks: the struct and the slices hold what has been read, and its fields were looked at
-pub record Leadable (upto : ℕ) (q : Seen) (l : List ℕ) (fields : List Field) (count : ℕ) (catalog calls acts : List ℕ) : Type 0 where
+-- what a line asks: the struct and the slices hold what has been read, no step before the end of the catalog, and its fields were looked at
+pub record LineReadable (upto : ℕ) (p : Stage) (q : Seen) (l : List ℕ) (fields : List Field) (count : ℕ) (catalog calls acts : List ℕ) : Type 0 where
   pub room : Room q catalog calls acts
   pub judgeable : Judgeable fields count
-  pub table : q .table ≤ 3
-  pub looked : Looked upto q l (take count fields)
-  pub read : Sofar
+  pub table : p .table ≤ 3
+  pub looked : Looked upto p (q .k) l (take count fields)
+  pub unstepped : p .table ≤ 1 → q .steps ≡ 0
+  pub read : Tables
   pub holds : Holds q catalog calls acts read
 
 -- what scanning asks: a last table that is not the first, and a text that is not too long

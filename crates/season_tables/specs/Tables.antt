@@ -9,63 +9,61 @@ use Rattle.landlord.specs.{Fold.fold, Catalog.{Catalog, listed, catalogAfter}, 
 use Rattle.season_lines.specs.declared.{Names.{Names, the-variants.{Form, Unknown}}, Line.{Line, the-variants.{Sizes, Item as ItemLine, Step as StepLine, Act as ActLine, Refused}}}
 use Rattle.line_fields.specs.Fields.{split, fieldsOf}
 use Rattle.season_lines.specs.Lines.{formOf, lineIn}
+use Rattle.season_tables.specs.declared.Stage.{Stage}
 
 -- an act of the text: the 0-based step before which it stands, and what it does
 pub record Placed : Type 0 where
   pub place : ℕ
   pub act : Act
 
--- What has been read: in which table, the tables counted from 0; whether behind the table's line of names, and which of its headings that
--- was, 0 before it; and what the value lines said. The catalog is that of its table: what arrives and leaves is among the steps. Before
--- the line of sizes k is 0, and the rule write-first.
-pub record Sofar : Type 0 where
-  pub table : ℕ
-  pub named : Bool
-  pub form : ℕ
+-- What the tables say, as far as they are read. The catalog is that of its table: what arrives and leaves is among the steps. Before the
+-- line of sizes k is 0, and the rule write-first.
+pub record Tables : Type 0 where
   pub k : ℕ
   pub h : ℕ
+  pub rule : Deduction
   pub catalog : Catalog
   pub steps : List Step
   pub acts : List Placed
-  pub rule : Deduction
+
+-- What has been read, and the stage of the reading: in which table, the tables counted from 0; whether behind the table's line of
+-- names; and which of its headings that was, 0 before it.
+pub record Sofar : Type 0 where
+  pub stage : Stage
+  pub read : Tables
 
 -- before the first line
 abbrev pub atStart : Sofar
-atStart = record { table = 0; named = false; form = 0; k = 0; h = 0; catalog = []; steps = []; acts = []; rule = WriteFirst }
+atStart =
+    record { stage = record { table = 0; named = false; heading = 0 }; read = record { k = 0; h = 0; rule = WriteFirst; catalog = []; steps = []; acts = [] } }
 
--- a line leads on, with what has been read then, or stops the reading
-pub data Led : Type 0 where
-  on : Sofar → Led
-  stop : Refusal → Led
+-- what a line or a text gives, or the refusal that stops the reading there
+pub data OrRefusal (A : Type 0) : Type 0 where
+  gives : A → OrRefusal A
+  stops : Refusal → OrRefusal A
 
--- the line of names is read: heading f of its table
-abbrev pub nowNamed : Sofar → ℕ → Sofar
-nowNamed v f =
-    record { table = v .table; named = true; form = f; k = v .k; h = v .h; catalog = v .catalog; steps = v .steps; acts = v .acts; rule = v .rule }
+abbrev pub goesOn : {A B : Type 0} → OrRefusal A → (A → OrRefusal B) → OrRefusal B
+goesOn (gives a) next = next a
+goesOn (stops r) next = stops r
 
--- the blank line is read: the next table's names are due
-abbrev pub nextTable : Sofar → Sofar
-nextTable v =
-    record { table = suc (v .table); named = false; form = 0; k = v .k; h = v .h; catalog = v .catalog; steps = v .steps; acts = v .acts; rule = v .rule }
+-- ## A value line
 
-abbrev pub withSizes : Sofar → ℕ → ℕ → Deduction → Sofar
-withSizes v k h r =
-    record { table = v .table; named = v .named; form = v .form; k = k; h = h; catalog = v .catalog; steps = v .steps; acts = v .acts; rule = r }
+abbrev pub withSizes : Tables → ℕ → ℕ → Deduction → Tables
+withSizes v k h r = record { k = k; h = h; rule = r; catalog = v .catalog; steps = v .steps; acts = v .acts }
 
-abbrev pub withItem : Sofar → ℕ → ℕ → ℕ → Sofar
+abbrev pub withItem : Tables → ℕ → ℕ → ℕ → Tables
 withItem v b l w =
-    record { table = v .table; named = v .named; form = v .form; k = v .k; h = v .h; catalog = v .catalog ++ (listed b l w ∷ []); steps = v .steps; acts = v .acts; rule = v .rule }
+    record { k = v .k; h = v .h; rule = v .rule; catalog = v .catalog ++ (listed b l w ∷ []); steps = v .steps; acts = v .acts }
 
-abbrev pub withStep : Sofar → Step → Sofar
-withStep v s =
-    record { table = v .table; named = v .named; form = v .form; k = v .k; h = v .h; catalog = v .catalog; steps = v .steps ++ (s ∷ []); acts = v .acts; rule = v .rule }
+abbrev pub withStep : Tables → Step → Tables
+withStep v s = record { k = v .k; h = v .h; rule = v .rule; catalog = v .catalog; steps = v .steps ++ (s ∷ []); acts = v .acts }
 
-abbrev pub withAct : Sofar → ℕ → Act → Sofar
+abbrev pub withAct : Tables → ℕ → Act → Tables
 withAct v place act =
-    record { table = v .table; named = v .named; form = v .form; k = v .k; h = v .h; catalog = v .catalog; steps = v .steps; acts = v .acts ++ (record { place = place; act = act } ∷ []); rule = v .rule }
+    record { k = v .k; h = v .h; rule = v .rule; catalog = v .catalog; steps = v .steps; acts = v .acts ++ (record { place = place; act = act } ∷ []) }
 
 -- "10 out of turn: `at` falls, or is not below the number of steps"; before the first act it falls from 0
-abbrev pub inTurn : Sofar → ℕ → Bool
+abbrev pub inTurn : Tables → ℕ → Bool
 inTurn v place = leb (fold (λ (p : ℕ) (a : Placed). a .place) 0 (v .acts)) place && ltb place (length (v .steps))
 
 -- 6, 7, 19 or else 20, told on line n of an item
@@ -77,23 +75,25 @@ itemRefused number n item =
     (RetiredItem n item)))
 
 -- 0 is no refusal
-abbrev pub unlessRefused : ℕ → ℕ → ℕ → Sofar → Led
-unlessRefused number n item w = cond (eqb number 0) (on w) (stop (itemRefused number n item))
+abbrev pub unlessRefused : ℕ → ℕ → ℕ → Tables → OrRefusal Tables
+unlessRefused number n item w = cond (eqb number 0) (gives w) (stops (itemRefused number n item))
 
 -- A value line that is shaped and in range, on line n: "then for `locker rival` 5, for sails 4, for steps 6, 7, for acts 10, 6", with 19
 -- for an arrival, and "20 when a step or act names a sail whose Q is at an earlier step, straight after 6". A step goes by the catalog as
 -- the steps before it have left it, and an act as the steps before its place have: "To steps before its A, and to acts at or before it, a
 -- sail is a stranger".
-unfoldable pub takes : Sofar → Line → ℕ → Led
-takes v (Sizes k h r) n = cond (leb h k) (on (withSizes v k h r)) (stop (PlanTooLarge n))
-takes v (ItemLine i b l w) n = cond (eqb i (length (v .catalog))) (on (withItem v b l w)) (stop (OutOfSequence n))
+unfoldable pub takes : Tables → Line → ℕ → OrRefusal Tables
+takes v (Sizes k h r) n = cond (leb h k) (gives (withSizes v k h r)) (stops (PlanTooLarge n))
+takes v (ItemLine i b l w) n = cond (eqb i (length (v .catalog))) (gives (withItem v b l w)) (stops (OutOfSequence n))
 takes v (StepLine s) n =
     unlessRefused (itemRefusal (v .k) (catalogAfter (v .catalog) (v .steps)) s) n (stepItem s) (withStep v s)
 takes v (ActLine place act) n =
     cond (inTurn v place)
     (unlessRefused (ifKnown (catalogAfter (v .catalog) (take place (v .steps))) (actItem act) 0) n (actItem act) (withAct v place act))
-    (stop (ActOutOfOrder n))
-takes v (Refused r) n = stop r
+    (stops (ActOutOfOrder n))
+takes v (Refused r) n = stops r
+
+-- ## Any line, and the whole text
 
 -- whether a blank line may stand here: behind the one line of `locker rival`, and in each table after it but the last
 abbrev pub mayEnd : ℕ → ℕ → ℕ → Bool
@@ -103,38 +103,40 @@ mayEnd upto table k = cond (eqb table 0) (leb 1 k) (ltb table upto)
 abbrev pub mustEnd : ℕ → ℕ → Bool
 mustEnd table k = cond (eqb table 0) (leb 1 k) false
 
+-- the blank line is read: the next table's names are due
+abbrev pub nextTable : Stage → Stage
+nextTable p = record { table = suc (p .table); named = false; heading = 0 }
+
 -- the line of names, on line n: a heading of its table, or 2
-abbrev pub namedBy : Sofar → Names → ℕ → Led
-namedBy v (Form f) n = on (nowNamed v f)
-namedBy v Unknown n = stop (Heading n)
+abbrev pub namedBy : Stage → Names → ℕ → OrRefusal Stage
+namedBy p (Form f) n = gives (record { table = p .table; named = true; heading = f })
+namedBy p Unknown n = stops (Heading n)
 
 -- a line l, ended by its line feed, on line n of a text whose last table is the one numbered `upto`
-unfoldable pub leads : ℕ → Sofar → List ℕ → ℕ → Led
-leads upto v l n =
-    cond (v .named)
-    (cond (cond (eqb (length l) 0) (mayEnd upto (v .table) (v .k)) false) (on (nextTable v))
-    (cond (mustEnd (v .table) (v .k)) (stop (Malformed n))
-    (takes v (lineIn (v .table) (v .form) (fieldsOf l) n) n)))
-    (namedBy v (formOf (v .table) l) n)
+unfoldable pub readLine : ℕ → Sofar → List ℕ → ℕ → OrRefusal Sofar
+readLine upto v l n =
+    let p = v .stage in
+    let t = v .read in
+    cond (p .named)
+    (cond (cond (eqb (length l) 0) (mayEnd upto (p .table) (t .k)) false) (gives (record { stage = nextTable p; read = t }))
+    (cond (mustEnd (p .table) (t .k)) (stops (Malformed n))
+    (goesOn (takes t (lineIn (p .table) (p .heading) (fieldsOf l) n) n) (λ u. gives (record { stage = p; read = u })))))
+    (goesOn (namedBy p (formOf (p .table) l) n) (λ q. gives (record { stage = q; read = t })))
 
 -- The input's end, on line n: all is read behind the names of the last table, else "the input ends where a line is due".
-abbrev pub atEnd : ℕ → Sofar → ℕ → Led
-atEnd upto v n = cond (v .named && eqb (v .table) upto) (on v) (stop (Heading n))
-
-abbrev pub goesOn : Led → (Sofar → Led) → Led
-goesOn (on v) next = next v
-goesOn (stop r) next = stop r
+abbrev pub atEnd : ℕ → Sofar → ℕ → OrRefusal Tables
+atEnd upto v n = cond (v .stage .named && eqb (v .stage .table) upto) (gives (v .read)) (stops (Heading n))
 
 -- The lines from line n on. The last piece is what stands behind the last line feed: bytes there are a line without one.
-unfoldable pub readFrom : ℕ → ℕ → List (List ℕ) → Sofar → Led
+unfoldable pub readFrom : ℕ → ℕ → List (List ℕ) → Sofar → OrRefusal Tables
 readFrom upto n [] v = atEnd upto v n
-readFrom upto n (l ∷ []) v = cond (eqb (length l) 0) (atEnd upto v n) (stop (Malformed n))
-readFrom upto n (l ∷ m ∷ rest) v = goesOn (leads upto v l n) (readFrom upto (suc n) (m ∷ rest))
+readFrom upto n (l ∷ []) v = cond (eqb (length l) 0) (atEnd upto v n) (stops (Malformed n))
+readFrom upto n (l ∷ m ∷ rest) v = goesOn (readLine upto v l n) (readFrom upto (suc n) (m ∷ rest))
 
 -- what a text says whose last table is the one numbered `upto`, or the refusal of its first faulty line
-abbrev pub readingTo : ℕ → List ℕ → Led
+abbrev pub readingTo : ℕ → List ℕ → OrRefusal Tables
 readingTo upto s = readFrom upto 1 (split 10 s) atStart
 
 -- and a text of all four tables
-abbrev pub readingOf : List ℕ → Led
+abbrev pub readingOf : List ℕ → OrRefusal Tables
 readingOf s = readingTo 3 s

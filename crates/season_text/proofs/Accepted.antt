@@ -9,7 +9,7 @@ use borrow.Author.Tests.{leb-true}
 use Rattle.types.specs.declared.Refusal.{Refusal}
 use Rattle.types.specs.declared.Refusal.the-variants.{InputTooLong}
 use Rattle.landlord.specs.Plan.{Priced, costs, fault}
-use Rattle.season_tables.specs.Tables.{Sofar, Led, on, stop, readingOf}
+use Rattle.season_tables.specs.Tables.{Tables, OrRefusal, gives, stops, readingOf}
 use Rattle.season_tables.proofs.Sound.{accepted-sound}
 use Rattle.season_plan.specs.Plans.{priceOf}
 use Rattle.printed.specs.Printed.{Outcome, refused, prints}
@@ -39,20 +39,20 @@ report-accepted s t e =
     let fits = short (leb (length s) 65536) (readingOutcome (readingOf s)) t e in
     read (readingOf s) refl (leb-true (length s) 65536 (fits .0)) (fits .1)
   where
-    price : (v : Sofar) → readingOf s ≡ on v → length s ≤ 65536 → (p : Priced) → priceOf v ≡ p → priced v p ≡ prints t → Accepted s t
-    price v is few (costs c) at h =
+    price : (v : Tables) → readingOf s ≡ gives v → length s ≤ 65536 → (p : Priced) → priceOf v ≡ p → priced v p ≡ prints t → Accepted s t
+    price v is few (costs c) same h =
         let ok = accepted-sound s v few is in
         record {
           text = v;
           cost = c;
           reads = is;
-          price = at;
+          price = same;
           report = sym (ap textOf h);
           calls = calls-accepted v ok;
-          compared = text-compared v c ok at;
+          compared = text-compared v c ok same;
         }
-    price v is few (fault f) at h = absurd (not-refused _ t h)
+    price v is few (fault f) same h = absurd (not-refused _ t h)
 
-    read : (led : Led) → readingOf s ≡ led → length s ≤ 65536 → readingOutcome led ≡ prints t → Accepted s t
-    read (on v) is few h = price v is few (priceOf v) refl h
-    read (stop r) is few h = absurd (not-refused r t h)
+    read : (led : OrRefusal Tables) → readingOf s ≡ led → length s ≤ 65536 → readingOutcome led ≡ prints t → Accepted s t
+    read (gives v) is few h = price v is few (priceOf v) refl h
+    read (stops r) is few h = absurd (not-refused r t h)

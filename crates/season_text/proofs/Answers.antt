@@ -23,8 +23,8 @@ use Rattle.season_tables.specs.declared.Seen.{Seen}
 use Rattle.season_tables.specs.declared.Scanned.{Scanned}
 use Rattle.season_tables.specs.declared.Verdict.{Verdict}
 use Rattle.season_tables.specs.declared.Verdict.the-variants.{Taken, Refused as Stopped}
-use Rattle.season_tables.specs.Tables.{Sofar, Led, on, stop, readingOf}
-use Rattle.season_tables.specs.Inner.{Holds, Leads}
+use Rattle.season_tables.specs.Tables.{Tables, OrRefusal, gives, stops, readingOf}
+use Rattle.season_tables.specs.Inner.{Holds, Leads, Roomy, FewRead}
 use Rattle.season_tables.specs.InnerSound.{Sound}
 use Rattle.season_scan.specs.Inner.{Few}
 use Rattle.season_plan.specs.declared.Price.{Price}
@@ -41,16 +41,13 @@ use Rattle.season_text.proofs.Season.{season-capacity}
 
 -- an accepted text in the slices
 pub record Reads (s : List ℕ) (x : Seen) (xs calls acts : List ℕ) : Type 0 where
-  pub text : Sofar
-  pub reads : readingOf s ≡ on text
+  pub text : Tables
+  pub reads : readingOf s ≡ gives text
   pub holds : Holds x xs calls acts text
   pub sound : Sound text
   pub fewItems : x .n ≤ 256
-  pub fewSteps : x .steps ≤ 10922
-  pub fewActs : x .acts ≤ 10922
-  pub forItems : length xs ≡ 1280
-  pub forSteps : length calls ≡ 76461
-  pub forActs : length acts ≡ 32769
+  pub few : FewRead x
+  pub roomy : Roomy xs calls acts
 
 -- what a verdict holds, told apart by its case
 abbrev stopOf : Verdict → Refusal
@@ -70,15 +67,13 @@ pub taken-reads :
     length s ≤ 65536 →
     Leads (readingOf s) r catalog calls acts →
     Few (readingOf s) r →
-    length catalog ≡ 1280 →
-    length calls ≡ 76461 →
-    length acts ≡ 32769 →
+    Roomy catalog calls acts →
     r .verdict ≡ Taken →
     Reads s (r .seen) catalog calls acts
-taken-reads s r catalog calls acts short leads few forItems forSteps forActs e = go (readingOf s) refl leads few
+taken-reads s r catalog calls acts short leads few roomy e = go (readingOf s) refl leads few
   where
-    go : (led : Led) → readingOf s ≡ led → Leads led r catalog calls acts → Few led r → Reads s (r .seen) catalog calls acts
-    go (on v) is l f =
+    go : (led : OrRefusal Tables) → readingOf s ≡ led → Leads led r catalog calls acts → Few led r → Reads s (r .seen) catalog calls acts
+    go (gives v) is l f =
         let sound = accepted-sound s v short is in
         record {
           text = v;
@@ -86,40 +81,18 @@ taken-reads s r catalog calls acts short leads few forItems forSteps forActs e =
           holds = l .1;
           sound = sound;
           fewItems = omega (arith, l .1 .itemCount, catalog-facts (v .catalog) (sound .catalog) .few);
-          fewSteps = f .0;
-          fewActs = f .1;
-          forItems = forItems;
-          forSteps = forSteps;
-          forActs = forActs;
+          few = f;
+          roomy = roomy;
         }
-    go (stop x) is l f = absurd (not-taken x (sym l ∙ e))
+    go (stops x) is l f = absurd (not-taken x (sym l ∙ e))
 
 pub priceable : {s : List ℕ} {x : Seen} {xs calls acts : List ℕ} → Reads s x xs calls acts → Priceable x xs calls acts
 priceable r =
-    record {
-      text = r .text;
-      holds = r .holds;
-      sound = r .sound;
-      fewSteps = r .fewSteps;
-      fewActs = r .fewActs;
-      forItems = r .forItems;
-      forSteps = r .forSteps;
-      forActs = r .forActs;
-    }
+    record { text = r .text; holds = r .holds; sound = r .sound; few = r .few; roomy = r .roomy }
 
 pub reportable : {s : List ℕ} {x : Seen} {xs calls acts : List ℕ} {cost : ℕ} → Reads s x xs calls acts → cost ≤ 1000000000000 → Reportable x xs calls cost
 reportable {acts = acts} r small =
-    record {
-      text = r .text;
-      acts = acts;
-      holds = r .holds;
-      sound = r .sound;
-      few = r .fewSteps;
-      fewItems = r .fewItems;
-      places = r .forSteps;
-      items = r .forItems;
-      small = small;
-    }
+    record { text = r .text; acts = acts; holds = r .holds; sound = r .sound; fewItems = r .fewItems; few = r .few; roomy = r .roomy; small = small }
 
 -- what `answer` ensures
 abbrev Tells : List ℕ → List ℕ → Written → List ℕ → Type 0
@@ -144,7 +117,7 @@ long-outcome s l = rw (lt-leb (length s) 65536 l)
 pub too-long : (s page : List ℕ) → 65536 < length s → Tells s page (Refused (InputTooLong 0)) page
 too-long s page l = tells-refusal s page (InputTooLong 0) (InputTooLong 0) (long-outcome s l) refl
 
-short-outcome : (s : List ℕ) (led : Led) → length s ≤ 65536 → readingOf s ≡ led → outcomeOf s ≡ readingOutcome led
+short-outcome : (s : List ℕ) (led : OrRefusal Tables) → length s ≤ 65536 → readingOf s ≡ led → outcomeOf s ≡ readingOutcome led
 unfolding outcomeOf
 short-outcome s led l e = rw (le-leb (length s) 65536 l) (ap readingOutcome e)
 
@@ -157,11 +130,11 @@ pub line-refused :
     Tells s page (Refused x) page
 line-refused s page r catalog calls acts x short leads e = go (readingOf s) refl leads
   where
-    go : (led : Led) → readingOf s ≡ led → Leads led r catalog calls acts → Tells s page (Refused x) page
-    go (on v) is l = absurd (not-taken x (sym e ∙ l .0))
-    go (stop y) is l =
+    go : (led : OrRefusal Tables) → readingOf s ≡ led → Leads led r catalog calls acts → Tells s page (Refused x) page
+    go (gives v) is l = absurd (not-taken x (sym e ∙ l .0))
+    go (stops y) is l =
         let same : x ≡ y = ap stopOf (sym e ∙ l) in
-        tells-refusal s page x y (short-outcome s (stop y) short is) (ap told same)
+        tells-refusal s page x y (short-outcome s (stops y) short is) (ap told same)
 
 -- the price of the plan of the text that the slices hold, for an answer that is known to be q
 priced-as :
@@ -179,12 +152,12 @@ pub plan-refused :
     PricedAs x xs calls acts p →
     p ≡ Faulty y →
     Tells s page (Refused y) page
-plan-refused {s = s} page y short r h told = go (priceOf (r .text)) refl (priced-as r h told)
+plan-refused {s = s} page y short r h answered = go (priceOf (r .text)) refl (priced-as r h answered)
   where
     go : (p : Priced) → priceOf (r .text) ≡ p → PricedBy (r .text) p (Faulty y) → Tells s page (Refused y) page
     go (costs c) is by = absurd (refused-some y (ap (λ (t : Told). t .number) (by .0)))
     go (fault f) is by =
-        tells-refusal s page y (faultRefusal f (faultLine (r .text) f)) (short-outcome s (on (r .text)) short (r .reads) ∙ ap (priced (r .text)) is) by
+        tells-refusal s page y (faultRefusal f (faultLine (r .text) f)) (short-outcome s (gives (r .text)) short (r .reads) ∙ ap (priced (r .text)) is) by
 
 -- else the report
 pub season-reported :
@@ -195,14 +168,14 @@ pub season-reported :
     p ≡ Cost cost →
     Reports x xs calls cost before w after →
     Tells s before w after
-season-reported {s = s} {before = before} {acts = acts} {cost = cost} {w = w} {after = after} short r h told put =
-    go (priceOf (r .text)) refl (priced-as r h told)
+season-reported {s = s} {before = before} {acts = acts} {cost = cost} {w = w} {after = after} short r h answered put =
+    go (priceOf (r .text)) refl (priced-as r h answered)
   where
     go : (p : Priced) → priceOf (r .text) ≡ p → PricedBy (r .text) p (Cost cost) → Tells s before w after
     go (costs c) is by =
         let q : Put (reportAgainst (r .text) c) before w after × (length (reportAgainst (r .text) c) ≤ longest) =
         subst (λ (z : ℕ). Put (reportAgainst (r .text) z) before w after × (length (reportAgainst (r .text) z) ≤ longest)) (by .1) (put acts (r .text) (r .holds) (r .sound)) in
-        tells-report s before after w (reportAgainst (r .text) c) (short-outcome s (on (r .text)) short (r .reads) ∙ ap (priced (r .text)) is) (q .0) (q .1)
+        tells-report s before after w (reportAgainst (r .text) c) (short-outcome s (gives (r .text)) short (r .reads) ∙ ap (priced (r .text)) is) (q .0) (q .1)
     go (fault f) is by = absurd (refused-some (faultRefusal f (faultLine (r .text) f)) (ap (λ (t : Told). t .number) (sym by)))
 
 -- the text's plan has 1 to k blocks
@@ -226,7 +199,7 @@ rival-ok {state = state} h r closes blocks =
 
 -- the report of a state where the closed season stands, against the text's plan, is the text's: so it stands on the page
 pub reports-season :
-    {x : Seen} {xs calls acts : List ℕ} {v : Sofar} {cost : ℕ} {state before : List ℕ} {w : Written} {after : List ℕ} →
+    {x : Seen} {xs calls acts : List ℕ} {v : Tables} {cost : ℕ} {state before : List ℕ} {w : Written} {after : List ℕ} →
     Holds x xs calls acts v →
     ClosedAt (closedSeason v) state →
     RivalOk (view (cacheOf state)) (Against (x .h) cost) →

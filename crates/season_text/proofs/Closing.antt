@@ -1,6 +1,6 @@
 -- Laws of a text's steps as the numbers of calls, with the closing stored behind them: they stand for the text's calls, so the state
 -- that they lead to is that of the closed season. Assumes nothing.
-use mathlib.Core.Path.{_≡_, refl, sym, ap, _∙_}
+use mathlib.Core.Path.{_≡_, sym, ap, _∙_}
 use mathlib.Core.List.{List, _∷_, _++_}
 use Prim.Native.Nat.{ℕ, suc, _+_, _*_, _≤_}
 use native.Mathlib.Omega.{arith}
@@ -37,11 +37,11 @@ pub season-closes :
     Closes x xs calls left
 season-closes x xs calls state before after rule number left c is ran acts v h ok =
     let end : ℕ = 7 * x .steps in
-    let room : end + 7 ≤ length calls = omega (arith, c .few, c .places) in
+    let room : end + 7 ≤ length calls = omega (arith, c .few .steps, c .roomy .forSteps) in
     let more : List ℕ = take 6 (drop (suc end) calls) in
     let six : length more ≡ 6 = length-take-le 6 (drop (suc end) calls) (omega (arith, length-drop (suc end) calls)) in
     let first : List ℕ = take (5 * x .n) xs in
-    let size : length first ≡ 5 * x .n = length-take-le (5 * x .n) xs (omega (arith, c .items, c .fewItems)) in
+    let size : length first ≡ 5 * x .n = length-take-le (5 * x .n) xs (omega (arith, c .roomy .forItems, c .fewItems)) in
     let same : callsOf (take (end + 7) (set calls end 1)) ≡ callsIn v =
     ap callsOf (store-closes calls end room ∙ ap (λ (z : List ℕ). z ++ (1 ∷ more)) (h .stepsNoted)) ∙ numbers-close (v .steps) more six
     in

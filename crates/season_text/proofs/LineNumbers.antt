@@ -11,7 +11,7 @@ use Rattle.types.specs.declared.Refusal.the-variants.{InputTooLong}
 use Rattle.types.specs.Types.{Told, refusalLine}
 use Rattle.landlord.proofs.Faults.{fault-tells}
 use Rattle.landlord.specs.Plan.{Priced, costs, fault}
-use Rattle.season_tables.specs.Tables.{Sofar, Led, on, stop, readingOf}
+use Rattle.season_tables.specs.Tables.{Tables, OrRefusal, gives, stops, readingOf}
 use Rattle.season_tables.proofs.LineNumbers.{stop-line}
 use Rattle.season_plan.specs.Plans.{faultLine, priceOf}
 use Rattle.season_plan.proofs.FaultLines.{fault-line}
@@ -24,13 +24,13 @@ lines-few : (s : List ℕ) → outcomeLine (outcomeOf s) ≤ length s + 1
 unfolding outcomeOf
 lines-few s = whole (leb (length s) 65536) (readingOutcome (readingOf s)) (reading (readingOf s) refl)
   where
-    price : (v : Sofar) → readingOf s ≡ on v → (p : Priced) → priceOf v ≡ p → outcomeLine (priced v p) ≤ length s + 1
-    price v is (costs c) at = omega arith
-    price v is (fault f) at = subst (λ (n : ℕ). n ≤ length s + 1) (ap (λ (t : Told). t .line) (sym (fault-tells f (faultLine v f)))) (fault-line s v f is at)
+    price : (v : Tables) → readingOf s ≡ gives v → (p : Priced) → priceOf v ≡ p → outcomeLine (priced v p) ≤ length s + 1
+    price v is (costs c) same = omega arith
+    price v is (fault f) same = subst (λ (n : ℕ). n ≤ length s + 1) (ap (λ (t : Told). t .line) (sym (fault-tells f (faultLine v f)))) (fault-line s v f is same)
 
-    reading : (led : Led) → readingOf s ≡ led → outcomeLine (readingOutcome led) ≤ length s + 1
-    reading (on v) is = price v is (priceOf v) refl
-    reading (stop r) is = stop-line s r is
+    reading : (led : OrRefusal Tables) → readingOf s ≡ led → outcomeLine (readingOutcome led) ≤ length s + 1
+    reading (gives v) is = price v is (priceOf v) refl
+    reading (stops r) is = stop-line s r is
 
     whole : (b : Bool) (o : Outcome) → outcomeLine o ≤ length s + 1 → outcomeLine (cond b o (refused (InputTooLong 0))) ≤ length s + 1
     whole true o h = h

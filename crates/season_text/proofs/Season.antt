@@ -13,7 +13,6 @@ use Rattle.types.specs.declared.Step.{Step}
 use Rattle.types.specs.declared.Step.the-variants.{Flush}
 use Rattle.landlord.specs.Fold.{fold}
 use Rattle.landlord.specs.Catalog.{Catalog, catalogAfter}
-use Rattle.types.specs.Types.{deductionNumber}
 use Rattle.landlord.specs.Slot.{splitOf}
 use Rattle.landlord.specs.Figures.{start, ran, totalCost, leftSide, rightSide}
 use Rattle.landlord.specs.Plan.{costs}
@@ -26,13 +25,12 @@ use Rattle.landlord.proofs.Calls.{allowed-logged}
 use Rattle.landlord.proofs.Logs.{all-served, ran-stands, closes-stands}
 use Rattle.landlord.proofs.Competitive.{competitive-bound}
 use Rattle.landlord.proofs.Ranges.{opening-accepts}
-use Rattle.catalog_bytes.specs.Catalogs.{catalogIn}
 use Rattle.cache_state.specs.Cache.{view}
 use Rattle.layout.specs.Layout.{cacheOf}
 use Rattle.cache.specs.Contract.{lent}
 use Rattle.cache_run.specs.Season.{Season}
 use Rattle.cache_run.proofs.Season.{season-lent}
-use Rattle.season_tables.specs.Tables.{Sofar}
+use Rattle.season_tables.specs.Tables.{Tables}
 use Rattle.season_tables.specs.InnerSound.{Sound}
 use Rattle.season_plan.specs.Plans.{priceOf}
 use Rattle.season_plan.specs.Inner.{planOf}
@@ -52,14 +50,14 @@ calls-before (s ∷ steps) (suc i) l = ap (λ (z : List Call). callOf s ∷ z) (
 
 -- the first of the steps that the table lets through
 allowed-first : (k : ℕ) (cat : Catalog) (steps : List Step) (i : ℕ) → i ≤ length steps → AllowedLog k cat steps → AllowedLog k cat (take i steps)
-allowed-first k cat steps i l a = record { each = λ j b. at j (omega (arith, length-take-le i steps l)) }
+allowed-first k cat steps i l a = record { each = λ j b. through j (omega (arith, length-take-le i steps l)) }
   where
-    at : (j : ℕ) → j < i → refusalAt k (catalogAfter cat (take j (take i steps))) j false (callOf (getD (take i steps) j Flush)) ≡ 0
-    at j b =
+    through : (j : ℕ) → j < i → refusalAt k (catalogAfter cat (take j (take i steps))) j false (callOf (getD (take i steps) j Flush)) ≡ 0
+    through j b =
         (λ z. refusalAt k (catalogAfter cat (take-take j i steps (omega arith) z)) j false (callOf (getD-take i steps j Flush b z)))
         ∙ a .each j (omega arith)
 
-module _ (v : Sofar) (ok : Sound v) where
+module _ (v : Tables) (ok : Sound v) where
   -- the log before call i: the steps before it, not closed
   log-before : (i : ℕ) → i ≤ length (v .steps) → logOf (v .k) (v .catalog) (take i (callsIn v)) ≡ record { steps = take i (v .steps); closed = false }
   log-before i l =
@@ -102,7 +100,7 @@ module _ (v : Sofar) (ok : Sound v) where
   calls-accepted =
       record {
         opening = text-opens;
-        each = λ i l. at i (ℕ-discrete i (length (v .steps))) (omega (arith, length-append (map callOf (v .steps)) (close ∷ []), length-map (v .steps) callOf));
+        each = λ i l. asked-at i (ℕ-discrete i (length (v .steps))) (omega (arith, length-append (map callOf (v .steps)) (close ∷ []), length-map (v .steps) callOf));
       }
     where
       asked :
@@ -113,14 +111,14 @@ module _ (v : Sofar) (ok : Sound v) where
           ap (λ (z : Log). refusalIn (v .k) (v .catalog) z call) (log-before i l)
           ∙ ap (λ (t : ℕ). refusalAt (v .k) (catalogAfter (v .catalog) (take i (v .steps))) t false call) (length-take-le i (v .steps) l)
 
-      at : (i : ℕ) → Dec (i ≡ length (v .steps)) → i ≤ length (v .steps) → refusal (v .k) (v .catalog) (take i (callsIn v)) (getD (callsIn v) i close) ≡ 0
-      at i (yes e) l = unfold refusalAt in rw (asked i, getD-at (map callOf (v .steps)) close [] close i (length-map (v .steps) callOf ∙ (omega arith)))
-      at i (no e) l =
+      asked-at : (i : ℕ) → Dec (i ≡ length (v .steps)) → i ≤ length (v .steps) → refusal (v .k) (v .catalog) (take i (callsIn v)) (getD (callsIn v) i close) ≡ 0
+      asked-at i (yes e) l = unfold refusalAt in rw (asked i, getD-at (map callOf (v .steps)) close [] close i (length-map (v .steps) callOf ∙ (omega arith)))
+      asked-at i (no e) l =
           let b : i < length (v .steps) = omega arith in
           rw (asked i, call-at-step (v .steps) i b) (ok .allowed .each i b)
 
 -- the figures reported are those of every such state, and left is at most right
-pub text-compared : (v : Sofar) (cost : ℕ) → Sound v → priceOf v ≡ costs cost → Compared v cost
+pub text-compared : (v : Tables) (cost : ℕ) → Sound v → priceOf v ≡ costs cost → Compared v cost
 text-compared v cost ok e =
     record {
       figures = λ xs numbers d same chain.

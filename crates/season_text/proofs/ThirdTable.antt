@@ -26,7 +26,7 @@ use Rattle.season_lines.specs.Lines.{headings, namesIn, formAmong, formOf, shap
 use Rattle.line_fields.proofs.Laws.{and-parts}
 use Rattle.line_fields.proofs.Pieces.{no-bytes}
 use Rattle.season_lines.proofs.Pieces.{empty-malformed, Says, line-says}
-use Rattle.season_tables.specs.Tables.{Sofar, Led, on, atStart, nowNamed, nextTable, withStep, inTurn, takes, mayEnd, mustEnd, namedBy, leads, atEnd, readFrom, readingOf}
+use Rattle.season_tables.specs.Tables.{Tables, Sofar, OrRefusal, gives, goesOn, atStart, withStep, inTurn, takes, mayEnd, mustEnd, nextTable, namedBy, readLine, atEnd, readFrom, readingOf}
 use Rattle.season_tables.specs.Inner.{isBlank}
 use Rattle.season_tables.proofs.Sound.{Leading, goes-on}
 use Rattle.season_log.specs.Log.{Logged, steps, fault, ahead, isHeading, logText, follows, readLines, headed, readTable, readLog, stepsInRange}
@@ -241,134 +241,138 @@ module _ (n : ℕ) (l : List ℕ) (rest : List (List ℕ)) where
 record Kept (x : Logged) (ls : List (List ℕ)) (v : Sofar) : Type 0 where
   line : ℕ
   form : ℕ
-  its : v .table ≡ 2 → v .named ≡ true → form ≡ v .form
-  says : onward (v .steps) (due (v .table) (v .named) form line ls) ≡ x
+  its : v .stage .table ≡ 2 → v .stage .named ≡ true → form ≡ v .stage .heading
+  says : onward (v .read .steps) (due (v .stage .table) (v .stage .named) form line ls) ≡ x
 
 module _ (x : Logged) (l : List ℕ) (rest : List (List ℕ)) (h : lacks 10 l ≡ true) (v : Sofar) (q : Kept x (l ∷ rest) v) where
   -- which is said here, behind the table's names or before them
-  here : (named : Bool) → v .named ≡ named → onward (v .steps) (due (v .table) named (q .form) (q .line) (l ∷ rest)) ≡ x
-  here named b = ap (λ (z : Bool). onward (v .steps) (due (v .table) z (q .form) (q .line) (l ∷ rest))) (sym b) ∙ q .says
+  here : (named : Bool) → v .stage .named ≡ named → onward (v .read .steps) (due (v .stage .table) named (q .form) (q .line) (l ∷ rest)) ≡ x
+  here named b = ap (λ (z : Bool). onward (v .read .steps) (due (v .stage .table) z (q .form) (q .line) (l ∷ rest))) (sym b) ∙ q .says
 
   -- the line of names, or the blank line
-  names-kept : (f : ℕ) → v .named ≡ false → formOf (v .table) l ≡ Form f → Kept x rest (nowNamed v f)
+  names-kept : (f : ℕ) → v .stage .named ≡ false → formOf (v .stage .table) l ≡ Form f → Kept x rest (record { stage = record { table = v .stage .table; named = true; heading = f }; read = v .read })
   names-kept f b e =
       record {
         line = 2;
-        form = headingBehind (v .table) (q .form) f;
+        form = headingBehind (v .stage .table) (q .form) f;
         its = λ t z. ap (λ (table : ℕ). headingBehind table (q .form) f) t;
-        says = ap (onward (v .steps)) (due-names (q .line) l rest (v .table) (q .form) f e h) ∙ here false b;
+        says = ap (onward (v .read .steps)) (due-names (q .line) l rest (v .stage .table) (q .form) f e h) ∙ here false b;
       }
 
-  blank-kept : v .named ≡ true → length l ≡ 0 → Kept x rest (nextTable v)
+  blank-kept : v .stage .named ≡ true → length l ≡ 0 → Kept x rest (record { stage = nextTable (v .stage); read = v .read })
   blank-kept b e =
       record {
         line = q .line;
         form = q .form;
         its = λ t z. absurd (false≢true z);
-        says = ap (onward (v .steps)) (due-blank (q .line) l rest (q .form) (v .table) e) ∙ here true b;
+        says = ap (onward (v .read .steps)) (due-blank (q .line) l rest (q .form) (v .stage .table) e) ∙ here true b;
       }
 
-  -- a value line, which is not blank
-  module _ (b : v .named ≡ true) (some : length l ≡ 0 → ⊥) where
+  -- a value line stays in its table
+  abbrev Still : Tables → Type 0
+  Still w = Kept x rest (record { stage = v .stage; read = w })
+
+  -- one that is not blank
+  module _ (b : v .stage .named ≡ true) (some : length l ≡ 0 → ⊥) where
     -- of another table
-    other : (v .table ≡ 2 → ⊥) → onward (v .steps) (due (v .table) (v .named) (q .form) (q .line) rest) ≡ x
+    other : (v .stage .table ≡ 2 → ⊥) → onward (v .read .steps) (due (v .stage .table) (v .stage .named) (q .form) (q .line) rest) ≡ x
     other t =
-        ap (λ (z : Bool). onward (v .steps) (due (v .table) z (q .form) (q .line) rest)) b
-        ∙ ap (onward (v .steps)) (due-value (q .line) l rest (q .form) (v .table) t some)
+        ap (λ (z : Bool). onward (v .read .steps) (due (v .stage .table) z (q .form) (q .line) rest)) b
+        ∙ ap (onward (v .read .steps)) (due-value (q .line) l rest (q .form) (v .stage .table) t some)
         ∙ here true b
 
     -- or of the third
-    step-kept : (n : ℕ) (s : Step) → v .table ≡ 2 → lineIn (v .table) (v .form) (fieldsOf l) n ≡ StepLine s → Kept x rest (withStep v s)
+    step-kept : (n : ℕ) (s : Step) → v .stage .table ≡ 2 → lineIn (v .stage .table) (v .stage .heading) (fieldsOf l) n ≡ StepLine s → Still (withStep (v .read) s)
     step-kept n s t e =
-        let judged : lineIn (v .table) (q .form) (fieldsOf l) n ≡ StepLine s =
-        ap (λ (form : ℕ). lineIn (v .table) form (fieldsOf l) n) (q .its t b) ∙ e
+        let judged : lineIn (v .stage .table) (q .form) (fieldsOf l) n ≡ StepLine s =
+        ap (λ (form : ℕ). lineIn (v .stage .table) form (fieldsOf l) n) (q .its t b) ∙ e
         in
         record {
           line = suc (q .line);
           form = q .form;
           its = q .its;
           says =
-              onward-more (v .steps) s (due (v .table) (v .named) (q .form) (suc (q .line)) rest)
-              ∙ ap (λ (z : Bool). onward (v .steps) (ahead s (due (v .table) z (q .form) (suc (q .line)) rest))) b
-              ∙ ap (onward (v .steps)) (due-step (q .line) l rest (q .form) (v .table) n s t judged h some)
+              onward-more (v .read .steps) s (due (v .stage .table) (v .stage .named) (q .form) (suc (q .line)) rest)
+              ∙ ap (λ (z : Bool). onward (v .read .steps) (ahead s (due (v .stage .table) z (q .form) (suc (q .line)) rest))) b
+              ∙ ap (onward (v .read .steps)) (due-step (q .line) l rest (q .form) (v .stage .table) n s t judged h some)
               ∙ here true b;
         }
 
     takes-kept :
         (n : ℕ) (y : Line) →
-        lineIn (v .table) (v .form) (fieldsOf l) n ≡ y →
-        Says (v .table) (length (fieldsOf l)) n y →
-        Leading (Kept x rest) (takes v y n)
+        lineIn (v .stage .table) (v .stage .heading) (fieldsOf l) n ≡ y →
+        Says (v .stage .table) (length (fieldsOf l)) n y →
+        Leading Still (takes (v .read) y n)
     unfolding takes
     takes-kept n (Sizes k j r) e s =
-        either (Leading (Kept x rest)) (leb j k) _ _
+        either (Leading Still) (leb j k) _ _
         (λ _. record { line = q .line; form = q .form; its = q .its; says = other (λ t. omega (arith, s .0)) }) (λ _. tt)
     takes-kept n (ItemLine i c d w) e s =
-        either (Leading (Kept x rest)) (eqb i (length (v .catalog))) _ _
+        either (Leading Still) (eqb i (length (v .read .catalog))) _ _
         (λ _. record { line = q .line; form = q .form; its = q .its; says = other (λ t. omega (arith, s .0)) }) (λ _. tt)
     takes-kept n (StepLine z) e s =
-        either (Leading (Kept x rest)) (eqb (itemRefusal (v .k) (catalogAfter (v .catalog) (v .steps)) z) 0) _ _ (λ _. step-kept n z (s .0) e) (λ _. tt)
+        either (Leading Still) (eqb (itemRefusal (v .read .k) (catalogAfter (v .read .catalog) (v .read .steps)) z) 0) _ _ (λ _. step-kept n z (s .0) e) (λ _. tt)
     takes-kept n (ActLine place act) e s =
-        either (Leading (Kept x rest)) (inTurn v place) _ _
-        (λ _. either (Leading (Kept x rest)) (eqb (ifKnown (catalogAfter (v .catalog) (take place (v .steps))) (actItem act) 0) 0) _ _
+        either (Leading Still) (inTurn (v .read) place) _ _
+        (λ _. either (Leading Still) (eqb (ifKnown (catalogAfter (v .read .catalog) (take place (v .read .steps))) (actItem act) 0) 0) _ _
         (λ _. record { line = q .line; form = q .form; its = q .its; says = other (λ t. omega (arith, s .0)) }) (λ _. tt))
         (λ _. tt)
     takes-kept n (Refused r) e s = tt
 
-  values-kept : (n : ℕ) → v .named ≡ true → Leading (Kept x rest) (takes v (lineIn (v .table) (v .form) (fieldsOf l) n) n)
+  values-kept : (n : ℕ) → v .stage .named ≡ true → Leading Still (takes (v .read) (lineIn (v .stage .table) (v .stage .heading) (fieldsOf l) n) n)
   unfolding takes
   values-kept n b = go (isBlank l) refl
     where
       line : Line
-      line = lineIn (v .table) (v .form) (fieldsOf l) n
+      line = lineIn (v .stage .table) (v .stage .heading) (fieldsOf l) n
 
-      go : (t : Bool) → isBlank l ≡ t → Leading (Kept x rest) (takes v line n)
+      go : (t : Bool) → isBlank l ≡ t → Leading Still (takes (v .read) line n)
       go true e =
-          subst (λ (y : Line). Leading (Kept x rest) (takes v y n)) (sym (blank-refused (v .table) (v .form) l n (eqb-true (length l) 0 e))) tt
-      go false e = takes-kept b (eqb-false (length l) 0 e) n line refl (line-says (v .table) (v .form) (fieldsOf l) n)
+          subst (λ (y : Line). Leading Still (takes (v .read) y n)) (sym (blank-refused (v .stage .table) (v .stage .heading) l n (eqb-true (length l) 0 e))) tt
+      go false e = takes-kept b (eqb-false (length l) 0 e) n line refl (line-says (v .stage .table) (v .stage .heading) (fieldsOf l) n)
 
   -- any line
-  leads-kept : (n : ℕ) → Leading (Kept x rest) (leads 3 v l n)
-  unfolding leads
-  leads-kept n =
-      either Q (v .named) _ _
-      (λ b. either Q (cond (isBlank l) (mayEnd 3 (v .table) (v .k)) false) _ _
-      (λ e. blank-kept b (eqb-true (length l) 0 (first (isBlank l) (mayEnd 3 (v .table) (v .k)) e)))
-      (λ e. either Q (mustEnd (v .table) (v .k)) _ _ (λ m. tt) (λ m. values-kept n b)))
-      (λ b. names (formOf (v .table) l) refl b)
+  line-kept : (n : ℕ) → Leading (Kept x rest) (readLine 3 v l n)
+  unfolding readLine
+  line-kept n =
+      either Q (v .stage .named) _ _
+      (λ b. either Q (cond (isBlank l) (mayEnd 3 (v .stage .table) (v .read .k)) false) _ _
+      (λ e. blank-kept b (eqb-true (length l) 0 (first (isBlank l) (mayEnd 3 (v .stage .table) (v .read .k)) e)))
+      (λ e. either Q (mustEnd (v .stage .table) (v .read .k)) _ _ (λ m. tt) (λ m. goes-on Still (Kept x rest) (takes (v .read) _ n) _ (values-kept n b) (λ w k. k))))
+      (λ b. names (formOf (v .stage .table) l) refl b)
     where
-      Q : Led → Type 0
+      Q : OrRefusal Sofar → Type 0
       Q = Leading (Kept x rest)
 
       first : (p q : Bool) → cond p q false ≡ true → p ≡ true
       first true q e = refl
       first false q e = absurd (false≢true e)
 
-      names : (z : Names) → formOf (v .table) l ≡ z → v .named ≡ false → Q (namedBy v z n)
+      names : (z : Names) → formOf (v .stage .table) l ≡ z → v .stage .named ≡ false → Q (goesOn (namedBy (v .stage) z n) (λ p. gives (record { stage = p; read = v .read })))
       names (Form f) e b = names-kept f b e
       names Unknown e b = tt
 
 -- ## The whole text
 
 -- where all is read, the log's reader says the steps, under a heading
-record Agrees (x : Logged) (v : Sofar) : Type 0 where
+record Agrees (x : Logged) (v : Tables) : Type 0 where
   form : ℕ
   says : x ≡ steps form (v .steps)
 
 end-agrees : (x : Logged) (n : ℕ) (ls : List (List ℕ)) (v : Sofar) → Kept x ls v → Leading (Agrees x) (atEnd 3 v n)
 end-agrees x n ls v q =
-    either (Leading (Agrees x)) (v .named && eqb (v .table) 3) _ _
-    (λ e. done (and-parts (v .named) (eqb (v .table) 3) e .1)) (λ e. tt)
+    either (Leading (Agrees x)) (v .stage .named && eqb (v .stage .table) 3) _ _
+    (λ e. done (and-parts (v .stage .named) (eqb (v .stage .table) 3) e .1)) (λ e. tt)
   where
-    done : eqb (v .table) 3 ≡ true → Agrees x v
+    done : eqb (v .stage .table) 3 ≡ true → Agrees x (v .read)
     done e =
-        let t : v .table ≡ 3 = eqb-true (v .table) 3 e in
+        let t : v .stage .table ≡ 3 = eqb-true (v .stage .table) 3 e in
         record {
           form = q .form;
           says =
               sym (q .says)
-              ∙ ap (λ (table : ℕ). onward (v .steps) (due table (v .named) (q .form) (q .line) ls)) t
-              ∙ ap (steps (q .form)) (append-nil (v .steps));
+              ∙ ap (λ (table : ℕ). onward (v .read .steps) (due table (v .stage .named) (q .form) (q .line) ls)) t
+              ∙ ap (steps (q .form)) (append-nil (v .read .steps));
         }
 
 read-agrees : (x : Logged) (n : ℕ) (ls : List (List ℕ)) (v : Sofar) → AllLack ls → Kept x ls v → Leading (Agrees x) (readFrom 3 n ls v)
@@ -376,7 +380,7 @@ unfolding readFrom AllLack
 read-agrees x n [] v h q = end-agrees x n [] v q
 read-agrees x n (l ∷ []) v h q = either (Leading (Agrees x)) (isBlank l) _ _ (λ e. end-agrees x n (l ∷ []) v q) (λ e. tt)
 read-agrees x n (l ∷ m ∷ rest) v h q =
-    goes-on (Kept x (m ∷ rest)) (Agrees x) (leads 3 v l n) (readFrom 3 (suc n) (m ∷ rest)) (leads-kept x l (m ∷ rest) (h .0) v q n)
+    goes-on (Kept x (m ∷ rest)) (Agrees x) (readLine 3 v l n) (readFrom 3 (suc n) (m ∷ rest)) (line-kept x l (m ∷ rest) (h .0) v q n)
     (λ w p. read-agrees x (suc n) (m ∷ rest) w (h .1) p)
 
 -- a text that is not too long
@@ -437,9 +441,9 @@ two-readers s v few e =
 
 -- an accepted text whose third table is what the writer makes of some steps under a heading has those steps
 pub written-is-read :
-    (s : List ℕ) (v : Sofar) (form : ℕ) (ss : List Step) →
+    (s : List ℕ) (v : Tables) (form : ℕ) (ss : List Step) →
     length s ≤ 65536 →
-    readingOf s ≡ on v →
+    readingOf s ≡ gives v →
     isHeading form ≡ true →
     stepsInRange form ss ≡ true →
     thirdTable s ≡ logText form ss →

@@ -5,7 +5,7 @@ use Prim.Native.Nat.{ℕ, _≤_}
 use lib.{ListN.length, Dec.eqb}
 use Rattle.line_fields.specs.Fields.{split}
 use Rattle.season_lines.specs.{declared.Names.{Names, the-variants.{Form, Unknown}}, Lines.formOf}
-use Rattle.season_tables.specs.Tables.{Sofar, on, readingOf}
+use Rattle.season_tables.specs.Tables.{Tables, gives, readingOf}
 use Rattle.season_log.specs.Log.{steps, readLog}
 
 -- a table: the lines up to the first blank one, each with its line feed
@@ -39,7 +39,7 @@ headingIn s = firstForm (split 10 s)
 -- the two readers agree (proofs/ThirdTable.antt)
 abbrev pub TwoReaders : Type 0
 TwoReaders =
-    (s : List ℕ) (v : Sofar) →
+    (s : List ℕ) (v : Tables) →
     length s ≤ 65536 →
-    readingOf s ≡ on v →
+    readingOf s ≡ gives v →
     readLog (thirdTable s) ≡ steps (headingIn (thirdTable s)) (v .steps)

@@ -8,6 +8,7 @@ ghost use Rattle.season_text.specs.Answer.{outcomeOf};
 ghost use Rattle.season_text.specs.Inner.{Closable, Closes, Reportable, Reports};
 use report::Written;
 use report_lines::Rival;
+use season_items::CALL_NUMBERS;
 use season_plan::Price;
 use season_tables::Seen;
 use season_tables::Verdict;
@@ -20,7 +21,7 @@ fn close_season(seen: Seen, catalog: &[u8], calls: &mut [u32], state: &mut [u8])
     ensures { λ _. ⌜ Closes seen (now (catalog .entry)) (now (calls .entry)) (now (state .exit)) ⌝ }
 {
     let steps = seen.steps;
-    let end = 7 * steps;
+    let end = CALL_NUMBERS * steps;
     // The closing stands behind the steps, as a call's seven numbers of which the first is not 0.
     calls[end] = 1;
     // Every call is accepted, so no answer is kept.
@@ -30,8 +31,8 @@ fn close_season(seen: Seen, catalog: &[u8], calls: &mut [u32], state: &mut [u8])
         state,
         seen.k,
         rule.number(),
-        &catalog[..5 * seen.n],
-        &calls[..end + 7],
+        &catalog[..catalog_bytes::ITEM_BYTES * seen.n],
+        &calls[..end + CALL_NUMBERS],
         &mut answers,
     );
 }
@@ -65,8 +66,8 @@ pub fn answer(text: &[u8], page: &mut [u8]) -> Written
         return Written::Refused(Refusal::InputTooLong { line: 0 });
     }
     let mut catalog = [0u8; catalog_bytes::MOST_BYTES];
-    let mut calls = [0u32; 76461];
-    let mut acts = [0u32; 32769];
+    let mut calls = [0u32; season_items::CALL_ROOM];
+    let mut acts = [0u32; season_items::ACT_ROOM];
     let scanned = season_scan::scan(text, 3, &mut catalog, &mut calls, &mut acts);
     let verdict = scanned.verdict;
     let seen = scanned.seen;

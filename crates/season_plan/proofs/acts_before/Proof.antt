@@ -19,37 +19,37 @@ loop-holds c =
     acting-starts (s .args .seen) (s .args .catalog .now) (s .args .acts .now) (s .args .p) (s .args .first) (s .args .step) (s .pre)
 
 mul-if2 : tie.Need-mul-if2 Inv-loop μ-loop
-mul-if2 c = omega (arith, c .before .before .before .before .before .pre .priceable .fewActs)
+mul-if2 c = omega (arith, c .before .before .before .before .before .pre .priceable .few .acts)
 
 mul-if2-2 : tie.Need-mul-if2-2 Inv-loop μ-loop
-mul-if2-2 c = omega (arith, c .before .before .before .before .before .pre .priceable .fewActs)
+mul-if2-2 c = omega (arith, c .before .before .before .before .before .pre .priceable .few .acts)
 
 shared-slice-read-if2 : tie.Need-shared-slice-read-if2 Inv-loop μ-loop
-shared-slice-read-if2 c = omega (arith, c .before .before .before .before .before .before .pre .priceable .fewActs, c .before .before .before .before .before .before .pre .priceable .forActs)
+shared-slice-read-if2 c = omega (arith, c .before .before .before .before .before .before .pre .priceable .few .acts, c .before .before .before .before .before .before .pre .priceable .roomy .forActs)
 
 mul-act : tie.Need-mul-act Inv-loop μ-loop
-mul-act c = omega (arith, c .before .before .before .before .before .before .before .pre .priceable .fewActs)
+mul-act c = omega (arith, c .before .before .before .before .before .before .before .pre .priceable .few .acts)
 
 add-act : tie.Need-add-act Inv-loop μ-loop
-add-act c = omega (arith, c .before .before .before .before .before .before .before .pre .priceable .fewActs)
+add-act c = omega (arith, c .before .before .before .before .before .before .before .pre .priceable .few .acts)
 
 mul-act-2 : tie.Need-mul-act-2 Inv-loop μ-loop
-mul-act-2 c = omega (arith, c .before .before .before .before .before .before .before .pre .priceable .fewActs)
+mul-act-2 c = omega (arith, c .before .before .before .before .before .before .before .pre .priceable .few .acts)
 
 shared-slice-read-act : tie.Need-shared-slice-read-act Inv-loop μ-loop
-shared-slice-read-act c = omega (arith, c .before .before .before .before .before .before .before .before .pre .priceable .fewActs, c .before .before .before .before .before .before .before .before .pre .priceable .forActs)
+shared-slice-read-act c = omega (arith, c .before .before .before .before .before .before .before .before .pre .priceable .few .acts, c .before .before .before .before .before .before .before .before .pre .priceable .roomy .forActs)
 
 mul-act-3 : tie.Need-mul-act-3 Inv-loop μ-loop
-mul-act-3 c = omega (arith, c .before .before .before .before .before .before .before .before .pre .priceable .fewActs)
+mul-act-3 c = omega (arith, c .before .before .before .before .before .before .before .before .pre .priceable .few .acts)
 
 add-act-2 : tie.Need-add-act-2 Inv-loop μ-loop
-add-act-2 c = omega (arith, c .before .before .before .before .before .before .before .before .pre .priceable .fewActs)
+add-act-2 c = omega (arith, c .before .before .before .before .before .before .before .before .pre .priceable .few .acts)
 
 mul-act-4 : tie.Need-mul-act-4 Inv-loop μ-loop
-mul-act-4 c = omega (arith, c .before .before .before .before .before .before .before .before .pre .priceable .fewActs)
+mul-act-4 c = omega (arith, c .before .before .before .before .before .before .before .before .pre .priceable .few .acts)
 
 shared-slice-read-act-2 : tie.Need-shared-slice-read-act-2 Inv-loop μ-loop
-shared-slice-read-act-2 c = omega (arith, c .before .before .before .before .before .before .before .before .before .pre .priceable .fewActs, c .before .before .before .before .before .before .before .before .before .pre .priceable .forActs)
+shared-slice-read-act-2 c = omega (arith, c .before .before .before .before .before .before .before .before .before .pre .priceable .few .acts, c .before .before .before .before .before .before .before .before .before .pre .priceable .roomy .forActs)
 
 cast-act : tie.Need-cast-act Inv-loop μ-loop
 cast-act c = omega (arith, c .shared-slice-known5 .given (3 * c .before .before .before .before .before .before .loop .a + 2))
@@ -65,7 +65,7 @@ returns c =
     let s = c .before .before .before .before .before .before .before .before .before .before .before .before in
     let l = c .before .before .before .before .before .before .before .before .before .loop in (
       acting-fails (s .args .seen) (s .args .catalog .now) (s .args .acts .now) (s .args .p) (s .args .first) (s .args .step) (s .pre) (l .q) (l .a) (l .inv) (omega arith) (c .before .before .before .before .before .if2 .left) (c .before .before .act .result) (c .before .before .act .ensures) _ (c .if3 .taken) refl refl,
-      record { next = omega arith; fault = λ e. omega arith; paid = λ e. absurd (c .if3 .taken e) },
+      record { next = omega arith; inside = λ e. omega arith; paid = λ e. absurd (c .if3 .taken e) },
     )
 
 add-a : tie.Need-add-a Inv-loop μ-loop
@@ -85,7 +85,7 @@ returns-2 c =
     let s = c .before .before .before .before .before in
     let l = c .before .before .loop in (
       acting-ends (s .args .seen) (s .args .catalog .now) (s .args .acts .now) (s .args .p) (s .args .first) (s .args .step) (s .pre) (l .q) (l .a) (l .inv) _ refl refl refl (omega arith),
-      record { next = l .inv .within; fault = λ e. absurd (e refl); paid = λ e. l .inv .low },
+      record { next = l .inv .within; inside = λ e. absurd (e refl); paid = λ e. l .inv .low },
     )
 
 returns-3 : tie.Need-returns-3 Inv-loop μ-loop
@@ -93,7 +93,7 @@ returns-3 c =
     let s = c .before .before .before .before .before .before .before in
     let l = c .before .before .before .before .loop in (
       acting-stops (s .args .seen) (s .args .catalog .now) (s .args .acts .now) (s .args .p) (s .args .first) (s .args .step) (s .pre) (l .q) (l .a) (l .inv) _ refl refl refl (omega arith) (c .if2 .taken),
-      record { next = l .inv .within; fault = λ e. absurd (e refl); paid = λ e. l .inv .low },
+      record { next = l .inv .within; inside = λ e. absurd (e refl); paid = λ e. l .inv .low },
     )
 
 pub acts-before-spec : {M : Type 1} → statement M

@@ -22,7 +22,7 @@ loop-holds c =
     pricing-starts (t .args .seen) (t .args .catalog .now) (t .args .calls .now) (t .args .acts .now) (t .pre) _ refl refl refl refl
 
 cast-acts-before : tie.Need-cast-acts-before Inv-loop μ-loop
-cast-acts-before c = omega (arith, c .before .before .before .before .before .pre .fewSteps, c .before .before .before .before .before .pre .fewActs, few (c .before .before .before .before .before))
+cast-acts-before c = omega (arith, c .before .before .before .before .before .pre .few .steps, c .before .before .before .before .before .pre .few .acts, few (c .before .before .before .before .before))
 
 acts-before-requires : tie.Need-acts-before-requires Inv-loop μ-loop
 acts-before-requires c κs =
@@ -31,28 +31,28 @@ acts-before-requires c κs =
     pricing-acts (t .args .seen) (t .args .catalog .now) (t .args .calls .now) (t .args .acts .now) (t .pre) (l .p) (l .a) (l .s) (l .inv) (omega arith)
 
 add-refusal-of : tie.Need-add-refusal-of Inv-loop μ-loop
-add-refusal-of c = omega (arith, c .before .before .before .before .before .before .before .before .pre .fewSteps, c .before .before .before .before .before .before .before .before .pre .fewActs, few (c .before .before .before .before .before .before .before .before), c .before .before .acts-before .ensures .1 .next)
+add-refusal-of c = omega (arith, c .before .before .before .before .before .before .before .before .pre .few .steps, c .before .before .before .before .before .before .before .before .pre .few .acts, few (c .before .before .before .before .before .before .before .before), c .before .before .acts-before .ensures .1 .next)
 
 add-refusal-of-2 : tie.Need-add-refusal-of-2 Inv-loop μ-loop
-add-refusal-of-2 c = omega (arith, c .before .before .before .before .before .before .before .before .pre .fewSteps, c .before .before .before .before .before .before .before .before .pre .fewActs, few (c .before .before .before .before .before .before .before .before), c .before .before .acts-before .ensures .1 .next)
+add-refusal-of-2 c = omega (arith, c .before .before .before .before .before .before .before .before .pre .few .steps, c .before .before .before .before .before .before .before .before .pre .few .acts, few (c .before .before .before .before .before .before .before .before), c .before .before .acts-before .ensures .1 .next)
 
 add-refusal-of-3 : tie.Need-add-refusal-of-3 Inv-loop μ-loop
-add-refusal-of-3 c = omega (arith, c .before .before .before .before .before .before .before .before .pre .fewSteps, c .before .before .before .before .before .before .before .before .pre .fewActs, few (c .before .before .before .before .before .before .before .before), c .before .before .acts-before .ensures .1 .next)
+add-refusal-of-3 c = omega (arith, c .before .before .before .before .before .before .before .before .pre .few .steps, c .before .before .before .before .before .before .before .before .pre .few .acts, few (c .before .before .before .before .before .before .before .before), c .before .before .acts-before .ensures .1 .next)
 
 cast-refusal-of : tie.Need-cast-refusal-of Inv-loop μ-loop
-cast-refusal-of c = omega (arith, c .before .before .before .before .before .before .before .before .pre .fewSteps, c .before .before .before .before .before .before .before .before .pre .fewActs, few (c .before .before .before .before .before .before .before .before), c .before .before .acts-before .ensures .1 .next)
+cast-refusal-of c = omega (arith, c .before .before .before .before .before .before .before .before .pre .few .steps, c .before .before .before .before .before .before .before .before .pre .few .acts, few (c .before .before .before .before .before .before .before .before), c .before .before .acts-before .ensures .1 .next)
 
 mul-refusal-of : tie.Need-mul-refusal-of Inv-loop μ-loop
-mul-refusal-of c = omega (arith, c .before .before .before .before .before .before .before .before .pre .fewSteps, c .before .before .before .before .before .before .before .before .pre .fewActs, few (c .before .before .before .before .before .before .before .before), c .before .before .acts-before .ensures .1 .next)
+mul-refusal-of c = omega (arith, c .before .before .before .before .before .before .before .before .pre .few .steps, c .before .before .before .before .before .before .before .before .pre .few .acts, few (c .before .before .before .before .before .before .before .before), c .before .before .acts-before .ensures .1 .next)
 
 add-refusal-of-4 : tie.Need-add-refusal-of-4 Inv-loop μ-loop
-add-refusal-of-4 c = omega (arith, c .before .before .before .before .before .before .before .before .pre .fewSteps, c .before .before .before .before .before .before .before .before .pre .fewActs, few (c .before .before .before .before .before .before .before .before), c .before .before .acts-before .ensures .1 .next)
+add-refusal-of-4 c = omega (arith, c .before .before .before .before .before .before .before .before .pre .few .steps, c .before .before .before .before .before .before .before .before .pre .few .acts, few (c .before .before .before .before .before .before .before .before), c .before .before .acts-before .ensures .1 .next)
 
 mul-refusal-of-2 : tie.Need-mul-refusal-of-2 Inv-loop μ-loop
-mul-refusal-of-2 c = omega (arith, c .before .before .before .before .before .before .before .before .pre .fewSteps, c .before .before .before .before .before .before .before .before .pre .fewActs, few (c .before .before .before .before .before .before .before .before), c .before .before .acts-before .ensures .1 .next)
+mul-refusal-of-2 c = omega (arith, c .before .before .before .before .before .before .before .before .pre .few .steps, c .before .before .before .before .before .before .before .before .pre .few .acts, few (c .before .before .before .before .before .before .before .before), c .before .before .acts-before .ensures .1 .next)
 
 shared-slice-read-refusal-of : tie.Need-shared-slice-read-refusal-of Inv-loop μ-loop
-shared-slice-read-refusal-of c = omega (arith, c .before .before .before .before .before .before .before .before .before .pre .fewActs, c .before .before .before .before .before .before .before .before .before .pre .forActs, c .before .before .before .acts-before .ensures .1 .next)
+shared-slice-read-refusal-of c = omega (arith, c .before .before .before .before .before .before .before .before .before .pre .few .acts, c .before .before .before .before .before .before .before .before .before .pre .roomy .forActs, c .before .before .before .acts-before .ensures .1 .next)
 
 refusal-of-requires : tie.Need-refusal-of-requires Inv-loop μ-loop
 refusal-of-requires c κs =
@@ -67,28 +67,28 @@ returns c =
     (pricing-act-fails (t .args .seen) (t .args .catalog .now) (t .args .calls .now) (t .args .acts .now) (t .pre) (l .p) (l .a) (l .s) (l .inv) (omega arith) (c .before .before .before .before .acts-before .result) (c .before .before .before .before .acts-before .ensures .0) (c .before .before .before .before .acts-before .ensures .1) _ _ (c .refusal-of .ensures) (c .before .before .before .if1 .taken) (omega arith), tt)
 
 mul-kind : tie.Need-mul-kind Inv-loop μ-loop
-mul-kind c = omega (arith, c .before .before .before .before .before .before .before .before .pre .fewSteps, c .before .before .before .before .before .before .before .before .pre .fewActs, few (c .before .before .before .before .before .before .before .before))
+mul-kind c = omega (arith, c .before .before .before .before .before .before .before .before .pre .few .steps, c .before .before .before .before .before .before .before .before .pre .few .acts, few (c .before .before .before .before .before .before .before .before))
 
 add-kind : tie.Need-add-kind Inv-loop μ-loop
-add-kind c = omega (arith, c .before .before .before .before .before .before .before .before .pre .fewSteps, c .before .before .before .before .before .before .before .before .pre .fewActs, few (c .before .before .before .before .before .before .before .before))
+add-kind c = omega (arith, c .before .before .before .before .before .before .before .before .pre .few .steps, c .before .before .before .before .before .before .before .before .pre .few .acts, few (c .before .before .before .before .before .before .before .before))
 
 mul-kind-2 : tie.Need-mul-kind-2 Inv-loop μ-loop
-mul-kind-2 c = omega (arith, c .before .before .before .before .before .before .before .before .pre .fewSteps, c .before .before .before .before .before .before .before .before .pre .fewActs, few (c .before .before .before .before .before .before .before .before))
+mul-kind-2 c = omega (arith, c .before .before .before .before .before .before .before .before .pre .few .steps, c .before .before .before .before .before .before .before .before .pre .few .acts, few (c .before .before .before .before .before .before .before .before))
 
 shared-slice-read-kind : tie.Need-shared-slice-read-kind Inv-loop μ-loop
-shared-slice-read-kind c = omega (arith, c .before .before .before .before .before .before .before .before .before .pre .fewSteps, c .before .before .before .before .before .before .before .before .before .pre .forSteps)
+shared-slice-read-kind c = omega (arith, c .before .before .before .before .before .before .before .before .before .pre .few .steps, c .before .before .before .before .before .before .before .before .before .pre .roomy .forSteps)
 
 mul-item : tie.Need-mul-item Inv-loop μ-loop
-mul-item c = omega (arith, c .before .before .before .before .before .before .before .before .before .pre .fewSteps, c .before .before .before .before .before .before .before .before .before .pre .fewActs, few (c .before .before .before .before .before .before .before .before .before))
+mul-item c = omega (arith, c .before .before .before .before .before .before .before .before .before .pre .few .steps, c .before .before .before .before .before .before .before .before .before .pre .few .acts, few (c .before .before .before .before .before .before .before .before .before))
 
 add-item : tie.Need-add-item Inv-loop μ-loop
-add-item c = omega (arith, c .before .before .before .before .before .before .before .before .before .pre .fewSteps, c .before .before .before .before .before .before .before .before .before .pre .fewActs, few (c .before .before .before .before .before .before .before .before .before))
+add-item c = omega (arith, c .before .before .before .before .before .before .before .before .before .pre .few .steps, c .before .before .before .before .before .before .before .before .before .pre .few .acts, few (c .before .before .before .before .before .before .before .before .before))
 
 mul-item-2 : tie.Need-mul-item-2 Inv-loop μ-loop
-mul-item-2 c = omega (arith, c .before .before .before .before .before .before .before .before .before .pre .fewSteps, c .before .before .before .before .before .before .before .before .before .pre .fewActs, few (c .before .before .before .before .before .before .before .before .before))
+mul-item-2 c = omega (arith, c .before .before .before .before .before .before .before .before .before .pre .few .steps, c .before .before .before .before .before .before .before .before .before .pre .few .acts, few (c .before .before .before .before .before .before .before .before .before))
 
 shared-slice-read-item : tie.Need-shared-slice-read-item Inv-loop μ-loop
-shared-slice-read-item c = omega (arith, c .before .before .before .before .before .before .before .before .before .before .pre .fewSteps, c .before .before .before .before .before .before .before .before .before .before .pre .forSteps)
+shared-slice-read-item c = omega (arith, c .before .before .before .before .before .before .before .before .before .before .pre .few .steps, c .before .before .before .before .before .before .before .before .before .before .pre .roomy .forSteps)
 
 cast-serve : tie.Need-cast-serve Inv-loop μ-loop
 cast-serve c = omega (arith, c .shared-slice-known6 .given (7 * c .before .before .before .before .before .before .loop .s + 2))
@@ -100,13 +100,13 @@ serve-requires c κs =
     pricing-serves (t .args .seen) (t .args .catalog .now) (t .args .calls .now) (t .args .acts .now) (t .pre) (l .p) (l .a) (l .s) (l .inv) (omega arith) (c .before .before .before .before .acts-before .result) (c .before .before .before .before .acts-before .ensures .0) (c .before .before .before .before .acts-before .ensures .1) (c .before .before .before .if1 .left)
 
 add-refusal-of-5 : tie.Need-add-refusal-of-5 Inv-loop μ-loop
-add-refusal-of-5 c = omega (arith, c .before .before .before .before .before .before .before .before .before .before .before .before .before .pre .fewSteps, c .before .before .before .before .before .before .before .before .before .before .before .before .before .pre .fewActs, few (c .before .before .before .before .before .before .before .before .before .before .before .before .before))
+add-refusal-of-5 c = omega (arith, c .before .before .before .before .before .before .before .before .before .before .before .before .before .pre .few .steps, c .before .before .before .before .before .before .before .before .before .before .before .before .before .pre .few .acts, few (c .before .before .before .before .before .before .before .before .before .before .before .before .before))
 
 add-refusal-of-6 : tie.Need-add-refusal-of-6 Inv-loop μ-loop
-add-refusal-of-6 c = omega (arith, c .before .before .before .before .before .before .before .before .before .before .before .before .before .pre .fewSteps, c .before .before .before .before .before .before .before .before .before .before .before .before .before .pre .fewActs, few (c .before .before .before .before .before .before .before .before .before .before .before .before .before))
+add-refusal-of-6 c = omega (arith, c .before .before .before .before .before .before .before .before .before .before .before .before .before .pre .few .steps, c .before .before .before .before .before .before .before .before .before .before .before .before .before .pre .few .acts, few (c .before .before .before .before .before .before .before .before .before .before .before .before .before))
 
 cast-refusal-of-2 : tie.Need-cast-refusal-of-2 Inv-loop μ-loop
-cast-refusal-of-2 c = omega (arith, c .before .before .before .before .before .before .before .before .before .before .before .before .before .pre .fewSteps, c .before .before .before .before .before .before .before .before .before .before .before .before .before .pre .fewActs, few (c .before .before .before .before .before .before .before .before .before .before .before .before .before))
+cast-refusal-of-2 c = omega (arith, c .before .before .before .before .before .before .before .before .before .before .before .before .before .pre .few .steps, c .before .before .before .before .before .before .before .before .before .before .before .before .before .pre .few .acts, few (c .before .before .before .before .before .before .before .before .before .before .before .before .before))
 
 refusal-of-requires-2 : tie.Need-refusal-of-requires-2 Inv-loop μ-loop
 refusal-of-requires-2 c κs =
@@ -121,7 +121,7 @@ returns-2 c =
     (pricing-step-fails (t .args .seen) (t .args .catalog .now) (t .args .calls .now) (t .args .acts .now) (t .pre) (l .p) (l .a) (l .s) (l .inv) (omega arith) (c .before .before .before .before .before .before .before .before .acts-before .result) (c .before .before .before .before .before .before .before .before .acts-before .ensures .0) (c .before .before .before .before .before .before .before .before .acts-before .ensures .1) (c .before .before .before .before .before .before .before .if1 .left) (c .before .before .before .serve .result) (c .before .before .before .serve .ensures) _ _ (c .refusal-of2 .ensures) (c .before .before .if2 .taken) (omega arith), tt)
 
 add-s : tie.Need-add-s Inv-loop μ-loop
-add-s c = omega (arith, c .before .before .before .before .before .before .before .before .before .before .before .before .before .pre .fewSteps, c .before .before .before .before .before .before .before .before .before .before .before .before .before .pre .fewActs, few (c .before .before .before .before .before .before .before .before .before .before .before .before .before))
+add-s c = omega (arith, c .before .before .before .before .before .before .before .before .before .before .before .before .before .pre .few .steps, c .before .before .before .before .before .before .before .before .before .before .before .before .before .pre .few .acts, few (c .before .before .before .before .before .before .before .before .before .before .before .before .before))
 
 loop-less : tie.Need-loop-less Inv-loop μ-loop
 loop-less c = omega arith

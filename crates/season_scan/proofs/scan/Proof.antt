@@ -14,41 +14,41 @@ use Rattle.line_fields.specs.Fields.{fieldOf}
 use Rattle.line_fields.specs.Inner.{before, heldField}
 use Rattle.line_fields.proofs.Pieces.{before-le}
 use Rattle.season_scan.proofs.Laws.{line-end, length-part}
-use Rattle.season_scan.proofs.Turns.{AsLong, Lined, Fielded, begins, ends, no-line-feed, field-none, field-more, field-malformed, malformed-here, can-lead, line-refused, line-taken}
+use Rattle.season_scan.proofs.Turns.{AsLong, Lined, Fielded, begins, ends, no-line-feed, field-none, field-more, field-malformed, malformed-here, can-read, line-refused, line-taken}
 use Rattle.season_scan.proofs.scan.Statement.{statement}
 use Rattle.season_scan.proofs.scan.Tie as tie
 
 abbrev Inv-loop : tie.InvT-loop
-Inv-loop s upto catalog calls acts seen at line end names fields₀ count₀ i₀ more₀ fields count i more = Fielded upto s seen at end names fields count i more
+Inv-loop s upto catalog calls acts stage seen at line end names fields₀ count₀ i₀ more₀ fields count i more = Fielded upto s stage seen at end names fields count i more
 
 abbrev μ-loop : tie.MeasureT-loop
-μ-loop s upto catalog calls acts seen at line end names fields₀ count₀ i₀ more₀ fields count i more = end + 1 - i
+μ-loop s upto catalog calls acts stage seen at line end names fields₀ count₀ i₀ more₀ fields count i more = end + 1 - i
 
 abbrev Inv-lines : tie.InvT-lines
-Inv-lines s upto catalog₀ calls₀ acts₀ seen₀ at₀ line₀ catalog calls acts seen at line = Lined upto s catalog₀ calls₀ acts₀ catalog calls acts seen at line
+Inv-lines s upto catalog₀ calls₀ acts₀ stage₀ seen₀ at₀ line₀ catalog calls acts stage seen at line = Lined upto s catalog₀ calls₀ acts₀ catalog calls acts stage seen at line
 
 abbrev μ-lines : tie.MeasureT-lines
-μ-lines s upto catalog₀ calls₀ acts₀ seen₀ at₀ line₀ catalog calls acts seen at line = length s - at
+μ-lines s upto catalog₀ calls₀ acts₀ stage₀ seen₀ at₀ line₀ catalog calls acts stage seen at line = length s - at
 
 -- the slices are as long as they were
 same-items :
     (c : tie.At-lines Inv-loop μ-loop Inv-lines μ-lines) →
-    length (c .lines .catalog) ≡ length (c .before .before .before .before .before .before .args .catalog .now)
+    length (c .lines .catalog) ≡ length (c .before .before .before .before .before .before .before .args .catalog .now)
 same-items c = c .lines .inv .long .0
 
 same-steps :
     (c : tie.At-lines Inv-loop μ-loop Inv-lines μ-lines) →
-    length (c .lines .calls) ≡ length (c .before .before .before .before .before .before .args .calls .now)
+    length (c .lines .calls) ≡ length (c .before .before .before .before .before .before .before .args .calls .now)
 same-steps c = c .lines .inv .long .1
 
 same-acts :
     (c : tie.At-lines Inv-loop μ-loop Inv-lines μ-lines) →
-    length (c .lines .acts) ≡ length (c .before .before .before .before .before .before .args .acts .now)
+    length (c .lines .acts) ≡ length (c .before .before .before .before .before .before .before .args .acts .now)
 same-acts c = c .lines .inv .long .2
 
 -- the text, and where in it the line begins and ends
 abbrev text : tie.After-find Inv-loop μ-loop Inv-lines μ-lines → List ℕ
-text c = c .before .before .before .before .before .before .before .before .before .args .s .now
+text c = c .before .before .before .before .before .before .before .before .before .before .args .s .now
 
 abbrev from : tie.After-find Inv-loop μ-loop Inv-lines μ-lines → ℕ
 from c = c .before .before .before .lines .at
@@ -57,7 +57,7 @@ abbrev to : tie.After-find Inv-loop μ-loop Inv-lines μ-lines → ℕ
 to c = from c + c .find .result
 
 short : (c : tie.After-find Inv-loop μ-loop Inv-lines μ-lines) → length (text c) ≤ 65536
-short c = c .before .before .before .before .before .before .before .before .before .pre .short
+short c = c .before .before .before .before .before .before .before .before .before .before .pre .short
 
 found : (c : tie.After-find Inv-loop μ-loop Inv-lines μ-lines) → to c ≡ from c + length (before 10 (drop (from c) (text c)))
 found c = line-end (text c) (from c) (c .find .result) (c .find .ensures)
@@ -73,7 +73,7 @@ fielded :
     c .loop .more ≡ t →
     (let a = c .before .before .before .before in
     let l = c .loop in
-    Fielded (a .before .before .before .before .before .before .before .before .before .args .upto) (text a) (a .before .before .before .lines .seen) (from a) (to a) (c .before .before .names-in .result) (l .fields) (l .count) (l .i) t)
+    Fielded (a .before .before .before .before .before .before .before .before .before .before .args .upto) (text a) (a .before .before .before .lines .stage) (a .before .before .before .lines .seen) (from a) (to a) (c .before .before .names-in .result) (l .fields) (l .count) (l .i) t)
 fielded c t e = rw e at (c .loop .inv)
 
 -- where the field ends, and what it is
@@ -104,23 +104,26 @@ field-is c =
     c .field-of .ensures ∙ ap (λ (k : ℕ). heldField (fieldOf (take k (drop i (text a))))) e
 
 -- the line that was led from, and the slices behind it
-abbrev lines-of : tie.After-lead Inv-loop μ-loop Inv-lines μ-lines → tie.At-lines Inv-loop μ-loop Inv-lines μ-lines
+abbrev lines-of : tie.After-read-line Inv-loop μ-loop Inv-lines μ-lines → tie.At-lines Inv-loop μ-loop Inv-lines μ-lines
 lines-of r = r .before .before .before .before .before .before .before .before .before .before .before .before .before
 
 as-long :
-    (r : tie.After-lead Inv-loop μ-loop Inv-lines μ-lines) →
+    (r : tie.After-read-line Inv-loop μ-loop Inv-lines μ-lines) →
     (let l = lines-of r .lines in
-    let p = r .lead .last .1 .1 .1 .1 .1 .1 in
+    let p = r .read-line .last .1 .1 .1 .1 .1 .1 .1 in
     AsLong (l .catalog) (l .calls) (l .acts) (p .0) (p .1 .0) (p .1 .1 .0))
-as-long r = let k = r .lead .kept .1 .1 .1 .1 .1 .1 in (k .0, k .1 .0, k .1 .1 .0)
+as-long r = let k = r .read-line .kept .1 .1 .1 .1 .1 .1 .1 in (k .0, k .1 .0, k .1 .1 .0)
 
 at-start-requires : tie.Need-at-start-requires Inv-loop μ-loop Inv-lines μ-lines
 at-start-requires c κs = search needs
 
+nothing-read-requires : tie.Need-nothing-read-requires Inv-loop μ-loop Inv-lines μ-lines
+nothing-read-requires c κs = search needs
+
 lines-holds : tie.Need-lines-holds Inv-loop μ-loop Inv-lines μ-lines
 lines-holds c =
-    let p = c .before .before .before .before .before .pre in
-    begins _ _ _ _ _ _ (p .low) (p .high) (p .roomy) (c .at-start .ensures)
+    let p = c .before .before .before .before .before .before .pre in
+    begins _ _ _ _ _ _ _ (p .low) (p .high) (p .roomy) (c .before .at-start .ensures) (c .nothing-read .ensures)
 
 ended-requires : tie.Need-ended-requires Inv-loop μ-loop Inv-lines μ-lines
 ended-requires c κs = search needs
@@ -155,7 +158,7 @@ wants-values-requires c κs = search needs
 loop-holds : tie.Need-loop-holds Inv-loop μ-loop Inv-lines μ-lines
 loop-holds c =
     let names = c .before .names-in in
-    field-none _ _ _ _ _ _ _ _ refl (names .ensures .0) (names .ensures .1) (omega arith) (c .wants-values .ensures)
+    field-none _ _ _ _ _ _ _ _ _ refl (names .ensures .0) (names .ensures .1) (omega arith) (c .wants-values .ensures)
 
 sub-find-2 : tie.Need-sub-find-2 Inv-loop μ-loop Inv-lines μ-lines
 sub-find-2 c = fielded (c .before) true (c .loop-test .taken) .going refl .0
@@ -223,24 +226,24 @@ loop-again : tie.Need-loop-again Inv-loop μ-loop Inv-lines μ-lines
 loop-again c =
     let f = c .before .before .before in
     let b = f .before .before in
-    field-more _ _ _ _ _ _ _ _ _ _ _ (found-le (b .before .before .before .before .before .before .before))
+    field-more _ _ _ _ _ _ _ _ _ _ _ _ (found-le (b .before .before .before .before .before .before .before))
     (fielded (b .before .before .before) true (b .before .before .loop-test .taken)) (b .find2 .ensures) (field-is f) _
     (cc) (leb-false _ _ (c .if4 .left)) (sym (c .before .before .is-empty .ensures) ∙ c .before .if3 .left)
 
-sub-lead : tie.Need-sub-lead Inv-loop μ-loop Inv-lines μ-lines
-sub-lead c = omega arith
+sub-read-line : tie.Need-sub-read-line Inv-loop μ-loop Inv-lines μ-lines
+sub-read-line c = omega arith
 
-part-lead-start : tie.Need-part-lead-start Inv-loop μ-loop Inv-lines μ-lines
-part-lead-start c = omega arith
+part-read-line-start : tie.Need-part-read-line-start Inv-loop μ-loop Inv-lines μ-lines
+part-read-line-start c = omega arith
 
-part-lead-end : tie.Need-part-lead-end Inv-loop μ-loop Inv-lines μ-lines
-part-lead-end c = found-le (c .before .before .before .before .before)
+part-read-line-end : tie.Need-part-read-line-end Inv-loop μ-loop Inv-lines μ-lines
+part-read-line-end c = found-le (c .before .before .before .before .before)
 
-lead-requires : tie.Need-lead-requires Inv-loop μ-loop Inv-lines μ-lines
-lead-requires c κs =
+read-line-requires : tie.Need-read-line-requires Inv-loop μ-loop Inv-lines μ-lines
+read-line-requires c κs =
     let l = c .before .before .before .before in
     let a = l .before .before .before .before .before in
-    can-lead _ _ _ _ _ _ _ _ _ _ _ (a .before .before .before .lines .inv) _ (found a) (l .before .before .before .before .if2 .left) _ _ _ _
+    can-read _ _ _ _ _ _ _ _ _ _ _ _ (a .before .before .before .lines .inv) _ (found a) (l .before .before .before .before .if2 .left) _ _ _ _
     (fielded (l .before) false (l .loop-test .left)) (short a)
 
 enum-told : tie.Need-enum-told Inv-loop μ-loop Inv-lines μ-lines
@@ -251,30 +254,30 @@ enum-told-2 c = search needs
 
 add-at : tie.Need-add-at Inv-loop μ-loop Inv-lines μ-lines
 add-at c =
-    let l = c .before .before .before .before .before .before .before .before .before .before .before .before .before .before in
+    let l = c .before .before .before .before .before .before .before .before .before .before .before .before .before .before .before .before in
     let a = l .before .before .before .before .before in
     omega (arith, found-le a, short a)
 
 add-line : tie.Need-add-line Inv-loop μ-loop Inv-lines μ-lines
 add-line c =
-    let l = c .before .before .before .before .before .before .before .before .before .before .before .before .before .before in
+    let l = c .before .before .before .before .before .before .before .before .before .before .before .before .before .before .before .before in
     let a = l .before .before .before .before .before in
     let h = a .before .before .before .lines .inv in
     omega (arith, h .counted, h .within, short a)
 
 lines-less : tie.Need-lines-less Inv-loop μ-loop Inv-lines μ-lines
 lines-less c =
-    let l = c .before .before .before .before .before .before .before .before .before .before .before .before .before .before in
+    let l = c .before .before .before .before .before .before .before .before .before .before .before .before .before .before .before .before in
     omega (arith, l .before .before .before .before .if2 .left)
 
 lines-again : tie.Need-lines-again Inv-loop μ-loop Inv-lines μ-lines
 lines-again c =
-    let r = c .before .before .before .before .before .before .before .before .before in
+    let r = c .before .before .before .before .before .before .before .before .before .before .before in
     let l = r .before .before .before .before .before in
     let a = l .before .before .before .before .before in
-    line-taken _ _ _ _ _ _ _ _ _ _ _ (a .before .before .before .lines .inv) _ (found a) (l .before .before .before .before .if2 .left) _ _ _ _
-    (fielded (l .before) false (l .loop-test .left)) (r .lead .result) _ _ _ (r .lead .ensures .0) (r .lead .ensures .1)
-    (as-long r) (c .before .enum-told2 .given .1)
+    line-taken _ _ _ _ _ _ _ _ _ _ _ _ (a .before .before .before .lines .inv) _ (found a) (l .before .before .before .before .if2 .left) _ _ _ _
+    (fielded (l .before) false (l .loop-test .left)) (r .read-line .result) _ _ _ (r .read-line .ensures .0) (r .read-line .ensures .1)
+    (as-long r) (c .before .before .enum-told2 .given .1)
 
 same-length : tie.Need-same-length Inv-loop μ-loop Inv-lines μ-lines
 same-length c = same-items (c .before .before)
@@ -287,7 +290,7 @@ same-length-3 c = same-acts (c .before .before)
 
 returns : tie.Need-returns Inv-loop μ-loop Inv-lines μ-lines
 returns c =
-    ends _ _ _ _ _ _ _ _ _ _ _ (c .before .before .lines .inv) _ (c .before .before .before .before .before .before .before .before .pre .short)
+    ends _ _ _ _ _ _ _ _ _ _ _ _ (c .before .before .lines .inv) _ (c .before .before .before .before .before .before .before .before .before .pre .short)
     (omega (arith, c .before .if1 .taken)) (c .ended .ensures .0 .1) (c .ended .ensures .1)
 
 same-length-4 : tie.Need-same-length-4 Inv-loop μ-loop Inv-lines μ-lines
@@ -302,7 +305,7 @@ same-length-6 c = same-acts (c .before .before .before .before .before)
 returns-2 : tie.Need-returns-2 Inv-loop μ-loop Inv-lines μ-lines
 returns-2 c =
     let a = c .before .before in
-    no-line-feed _ _ _ _ _ _ _ _ _ _ _ (a .before .before .before .lines .inv) (c .stopped .result)
+    no-line-feed _ _ _ _ _ _ _ _ _ _ _ _ (a .before .before .before .lines .inv) (c .stopped .result)
     (omega (arith, a .before .before .if1 .left))
     (omega (arith, found a, c .before .if2 .taken)) (c .stopped .ensures .0) (c .stopped .ensures .1)
 
@@ -325,33 +328,33 @@ returns-3 c =
     let bad =
     ⊎-elim (λ w. inl (sym (c .before .before .is-empty .ensures) ∙ w .taken))
     (λ w. inr (leb-true (l .before .before .names-in .result) (l .loop .count) (w .1 .taken))) (c .before .if3 .came) in
-    malformed-here _ _ _ _ _ _ _ _ _ _ _ (a .before .before .before .lines .inv) _ (found a) (l .before .before .before .if2 .left)
+    malformed-here _ _ _ _ _ _ _ _ _ _ _ _ (a .before .before .before .lines .inv) _ (found a) (l .before .before .before .if2 .left)
     (c .stopped2 .result)
-    (h .going refl .1) (field-malformed _ _ _ _ _ _ _ _ _ _ _ (found-le a) h (b .find2 .ensures) (field-is f) _ bad)
+    (h .going refl .1) (field-malformed _ _ _ _ _ _ _ _ _ _ _ _ (found-le a) h (b .find2 .ensures) (field-is f) _ bad)
     (c .stopped2 .ensures .0) (c .stopped2 .ensures .1)
 
 same-length-10 : tie.Need-same-length-10 Inv-loop μ-loop Inv-lines μ-lines
 same-length-10 c =
-    let r = c .before .before .before .before .before .before .before .before in
+    let r = c .before .before .before .before .before .before .before .before .before in
     as-long r .0 ∙ same-items (lines-of r)
 
 same-length-11 : tie.Need-same-length-11 Inv-loop μ-loop Inv-lines μ-lines
 same-length-11 c =
-    let r = c .before .before .before .before .before .before .before .before in
+    let r = c .before .before .before .before .before .before .before .before .before in
     as-long r .1 ∙ same-steps (lines-of r)
 
 same-length-12 : tie.Need-same-length-12 Inv-loop μ-loop Inv-lines μ-lines
 same-length-12 c =
-    let r = c .before .before .before .before .before .before .before .before in
+    let r = c .before .before .before .before .before .before .before .before .before in
     as-long r .2 ∙ same-acts (lines-of r)
 
 returns-4 : tie.Need-returns-4 Inv-loop μ-loop Inv-lines μ-lines
 returns-4 c =
-    let r = c .before .before .before .before .before .before .before .before in
+    let r = c .before .before .before .before .before .before .before .before .before in
     let l = r .before .before .before .before .before in
     let a = l .before .before .before .before .before in
-    line-refused _ _ _ _ _ _ _ _ _ _ _ (a .before .before .before .lines .inv) _ (found a) (l .before .before .before .before .if2 .left) _ _ _ _
-    (fielded (l .before) false (l .loop-test .left)) (r .lead .result) _ _ _ (r .lead .ensures .0) (r .lead .ensures .1) _
+    line-refused _ _ _ _ _ _ _ _ _ _ _ _ (a .before .before .before .lines .inv) _ (found a) (l .before .before .before .before .if2 .left) _ _ _ _
+    (fielded (l .before) false (l .loop-test .left)) (r .read-line .result) _ _ _ (r .read-line .ensures .0) (r .read-line .ensures .1) _
     (c .enum-told .given .1)
 
 pub scan-spec : {M : Type 1} → statement M
@@ -363,6 +366,7 @@ scan-spec =
     Inv-lines
     μ-lines
     at-start-requires
+    nothing-read-requires
     lines-holds
     ended-requires
     sub-find
@@ -392,10 +396,10 @@ scan-spec =
     add-i
     loop-less
     loop-again
-    sub-lead
-    part-lead-start
-    part-lead-end
-    lead-requires
+    sub-read-line
+    part-read-line-start
+    part-read-line-end
+    read-line-requires
     enum-told
     enum-told-2
     add-at

@@ -20,9 +20,9 @@ taken-requires c κs = search needs
 returns : tie.Need-returns
 returns c =
     let a = c .before .before .before .before .args in
-    let told : c .taken .result .verdict ≡ endVerdict (a .upto) (a .seen) (a .at) =
-    rw (c .before .before .before .if1 .taken, eq-eqb (a .seen .table) (a .upto) (c .before .if2 .taken)) (c .taken .ensures .0) in
-    ((told, c .taken .ensures .1), end-leads (a .upto) (a .seen) (a .at) (c .taken .result) told (c .taken .ensures .1))
+    let verdict : c .taken .result .verdict ≡ endVerdict (a .upto) (a .stage) (a .line) =
+    rw (c .before .before .before .if1 .taken, eq-eqb (a .stage .table) (a .upto) (c .before .if2 .taken)) (c .taken .ensures .0) in
+    ((verdict, c .taken .ensures .1), end-leads (a .upto) (a .stage) (a .seen) (a .line) (c .taken .result) verdict (c .taken .ensures .1))
 
 stopped-requires : tie.Need-stopped-requires
 stopped-requires c κs = search needs
@@ -30,10 +30,10 @@ stopped-requires c κs = search needs
 returns-2 : tie.Need-returns-2
 returns-2 c =
     let a = c .before .before .args in
-    let due : (a .seen .named && eqb (a .seen .table) (a .upto)) ≡ false =
-    ⊎-elim (λ w. rw (w .0 .taken, ne-eqb (a .seen .table) (a .upto) (w .2 .left))) (λ w. rw (w .left)) (c .before .if1 .came) in
-    let told : c .stopped .result .verdict ≡ endVerdict (a .upto) (a .seen) (a .at) = rw due (c .stopped .ensures .0) in
-    ((told, c .stopped .ensures .1), end-leads (a .upto) (a .seen) (a .at) (c .stopped .result) told (c .stopped .ensures .1))
+    let due : (a .stage .named && eqb (a .stage .table) (a .upto)) ≡ false =
+    ⊎-elim (λ w. rw (w .0 .taken, ne-eqb (a .stage .table) (a .upto) (w .2 .left))) (λ w. rw (w .left)) (c .before .if1 .came) in
+    let verdict : c .stopped .result .verdict ≡ endVerdict (a .upto) (a .stage) (a .line) = rw due (c .stopped .ensures .0) in
+    ((verdict, c .stopped .ensures .1), end-leads (a .upto) (a .stage) (a .seen) (a .line) (c .stopped .result) verdict (c .stopped .ensures .1))
 
 pub ended-spec : {M : Type 1} → statement M
 ended-spec = tie.close (tie.spec taken-requires returns stopped-requires returns-2)

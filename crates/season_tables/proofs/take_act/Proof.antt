@@ -30,8 +30,8 @@ stopped-requires c κs = search needs
 returns : tie.Need-returns
 returns c =
     let a = c .before .before .before .before .before .before .args in (
-      ⊎-elim (λ w. act-early (a .seen) (a .calls .now) (a .acts .now) (a .place) (a .act) (a .at) (c .stopped .result) (w .taken) (c .stopped .ensures .0))
-          (λ w. act-late (a .seen) (a .calls .now) (a .acts .now) (a .place) (a .act) (a .at) (c .stopped .result) (w .0 .left) (leb-true _ _ (w .2 .taken)) (c .stopped .ensures .0))
+      ⊎-elim (λ w. act-early (a .seen) (a .calls .now) (a .acts .now) (a .place) (a .act) (a .line) (c .stopped .result) (w .taken) (c .stopped .ensures .0))
+          (λ w. act-late (a .seen) (a .calls .now) (a .acts .now) (a .place) (a .act) (a .line) (c .stopped .result) (w .0 .left) (leb-true _ _ (w .2 .taken)) (c .stopped .ensures .0))
           (c .before .if1 .came),
       (refl, λ x t. (c .stopped .ensures .1, refl)),
     )
@@ -63,19 +63,19 @@ returns-2 : tie.Need-returns-2
 returns-2 c =
     let a = c .before .before .before .before .before .before .before .before .before .before .before .before .before .args in
     let k = known-of (c .before .before .before .before .caught-up .result) (c .before .before .before .before .before .before .before .before .before .before .item .result) (c .before .before .before .known .result) (a .act) (c .before .before .before .before .before .before .before .before .before .before .item .ensures) (c .before .before .before .known .ensures) in
-    let told = c .before .refusal-of .ensures ∙ ap (telling (c .before .before .before .known .result) (a .at)) (c .before .before .before .before .before .before .before .before .before .before .item .ensures) in (
-      act-refuses (a .seen) (a .calls .now) (a .acts .now) (a .place) (a .act) (a .at) (c .stopped2 .result) (c .before .before .before .before .before .before .before .before .if1 .left) (leb-false _ _ (c .before .before .before .before .before .before .if2 .left)) (c .before .before .before .before .caught-up .result) (c .before .before .before .before .caught-up .ensures) (c .before .before .before .known .result) k _ (c .before .before .if3 .taken) told (c .stopped2 .ensures .0),
+    let told = c .before .refusal-of .ensures ∙ ap (telling (c .before .before .before .known .result) (a .line)) (c .before .before .before .before .before .before .before .before .before .before .item .ensures) in (
+      act-refuses (a .seen) (a .calls .now) (a .acts .now) (a .place) (a .act) (a .line) (c .stopped2 .result) (c .before .before .before .before .before .before .before .before .if1 .left) (leb-false _ _ (c .before .before .before .before .before .before .if2 .left)) (c .before .before .before .before .caught-up .result) (c .before .before .before .before .caught-up .ensures) (c .before .before .before .known .result) k _ (c .before .before .if3 .taken) told (c .stopped2 .ensures .0),
       (refl, λ x t. (c .stopped2 .ensures .1, refl)),
     )
 
 mul-put-act : tie.Need-mul-put-act
-mul-put-act c = omega (arith, c .before .before .before .before .before .before .before .before .before .before .before .before .pre .line .room .forAct)
+mul-put-act c = omega (arith, c .before .before .before .before .before .before .before .before .before .before .before .before .pre .line .room .few .acts)
 
 put-act-requires : tie.Need-put-act-requires
-put-act-requires c κs = (omega (arith, c .before .before .before .before .before .before .before .before .before .before .before .before .pre .line .room .forAct, c .before .before .before .before .before .before .before .before .before .before .before .before .pre .line .room .roomy .forActs), c .before .before .before .before .before .before .before .before .before .before .before .before .pre .line .room .forAct)
+put-act-requires c κs = (omega (arith, c .before .before .before .before .before .before .before .before .before .before .before .before .pre .line .room .few .acts, c .before .before .before .before .before .before .before .before .before .before .before .before .pre .line .room .roomy .forActs), omega (arith, c .before .before .before .before .before .before .before .before .before .before .before .before .pre .line .room .few .acts))
 
 add-q : tie.Need-add-q
-add-q c = omega (arith, c .before .before .before .before .before .before .before .before .before .before .before .before .before .before .before .pre .line .room .forAct)
+add-q c = omega (arith, c .before .before .before .before .before .before .before .before .before .before .before .before .before .before .before .pre .line .room .few .acts)
 
 taken-requires : tie.Need-taken-requires
 taken-requires c κs = search needs
@@ -89,9 +89,9 @@ returns-3 c =
     let t = c .before .before .before .before .before .before .before .before .before .before .before .before .before .before .before .before .pre .line in
     let p = c .before .before .before .put-act in
     let k = known-of (c .before .before .before .before .before .before .before .caught-up .result) (c .before .before .before .before .before .before .before .before .before .before .before .before .before .item .result) (c .before .before .before .before .before .before .known .result) (a .act) (c .before .before .before .before .before .before .before .before .before .before .before .before .before .item .ensures) (c .before .before .before .before .before .before .known .ensures) in
-    let room : 3 * a .seen .acts + 3 ≤ length (a .acts .now) = omega (arith, t .room .forAct, t .room .roomy .forActs) in (
-      act-noted (a .seen) (a .calls .now) (a .acts .now) (a .place) (a .act) (a .at) (c .taken .result) (c .before .before .before .before .before .before .before .before .before .before .before .if1 .left) (leb-false _ _ (c .before .before .before .before .before .before .before .before .before .if2 .left)) (c .before .before .before .before .before .before .before .caught-up .result) (c .before .before .before .before .before .before .before .caught-up .ensures) (c .before .before .before .before .before .before .known .result) k (p .last .0) (c .before .before .before .before .before .if3 .left) room (c .taken .ensures .0) (c .taken .ensures .1) (p .ensures),
-      act-past (a .seen) (a .calls .now) (a .acts .now) (a .place) (a .act) (a .at) (c .taken .result) (c .before .before .before .before .before .before .before .before .before .before .before .if1 .left) (leb-false _ _ (c .before .before .before .before .before .before .before .before .before .if2 .left)) (c .before .before .before .before .before .before .before .caught-up .result) (c .before .before .before .before .before .before .before .caught-up .ensures) (c .before .before .before .before .before .before .known .result) k (p .last .0) room (c .taken .ensures .0) (c .taken .ensures .1) (p .ensures),
+    let room : 3 * a .seen .acts + 3 ≤ length (a .acts .now) = omega (arith, t .room .few .acts, t .room .roomy .forActs) in (
+      act-noted (a .seen) (a .calls .now) (a .acts .now) (a .place) (a .act) (a .line) (c .taken .result) (c .before .before .before .before .before .before .before .before .before .before .before .if1 .left) (leb-false _ _ (c .before .before .before .before .before .before .before .before .before .if2 .left)) (c .before .before .before .before .before .before .before .caught-up .result) (c .before .before .before .before .before .before .before .caught-up .ensures) (c .before .before .before .before .before .before .known .result) k (p .last .0) (c .before .before .before .before .before .if3 .left) room (c .taken .ensures .0) (c .taken .ensures .1) (p .ensures),
+      act-past (a .seen) (a .calls .now) (a .acts .now) (a .place) (a .act) (a .line) (c .taken .result) (c .before .before .before .before .before .before .before .before .before .before .before .if1 .left) (leb-false _ _ (c .before .before .before .before .before .before .before .before .before .if2 .left)) (c .before .before .before .before .before .before .before .caught-up .result) (c .before .before .before .before .before .before .before .caught-up .ensures) (c .before .before .before .before .before .before .known .result) k (p .last .0) room (c .taken .ensures .0) (c .taken .ensures .1) (p .ensures),
     )
 
 pub take-act-spec : {M : Type 1} → statement M

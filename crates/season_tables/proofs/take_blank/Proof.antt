@@ -1,7 +1,7 @@
--- `season_tables::take_blank` meets its contract: each return is a law of proofs/Held.antt. Assumes nothing.
+-- `season_tables::take_blank` meets its contract: each return is a law of proofs/Leads.antt. Assumes nothing.
 use borrow.Author.Needs.{needs}
-use Rattle.season_tables.proofs.Held.{blank-there, blank-missing}
-use Rattle.season_tables.proofs.Keeps.{stopped-keeps, taken-keeps}
+use borrow.Author.Tests.{eq-eqb, ne-eqb}
+use Rattle.season_tables.proofs.Leads.{moves-next, moves-not}
 use Rattle.season_tables.proofs.take_blank.Statement.{statement}
 use Rattle.season_tables.proofs.take_blank.Tie as tie
 use Rattle.season_tables.proofs.take_blank.Reads as reads
@@ -14,19 +14,19 @@ stopped-requires c κs = search needs
 
 returns : tie.Need-returns
 returns c =
-    let a = c .before .before .args in
-    (blank-missing (a .seen) (a .bytes) (a .at) (c .stopped .result) (c .before .if1 .taken) (c .stopped .ensures .0), stopped-keeps (a .seen) (c .stopped .result) (c .stopped .ensures .1))
+    let a = (c .before .before .args) in
+    rw (ne-eqb (a .bytes) 0 (c .before .if1 .taken)) (moves-not (a .stage) (a .seen) (c .stopped .result) _ (c .stopped .ensures .0) (c .stopped .ensures .1))
 
-add-q : tie.Need-add-q
-add-q c = search needs
+add-t9 : tie.Need-add-t9
+add-t9 c = search needs
 
 taken-requires : tie.Need-taken-requires
 taken-requires c κs = search needs
 
 returns-2 : tie.Need-returns-2
 returns-2 c =
-    let a = c .before .before .before .args in
-    (blank-there (a .seen) (a .bytes) (a .at) (c .taken .result) (c .before .before .if1 .left) (c .taken .ensures .0) (c .taken .ensures .1), taken-keeps (a .seen) (c .taken .result) (c .taken .ensures .0))
+    let a = (c .before .before .before .args) in
+    rw (eq-eqb (a .bytes) 0 (c .before .before .if1 .left)) (moves-next (a .stage) (a .seen) (c .taken .result) (c .taken .ensures .0) (c .taken .ensures .1))
 
 pub take-blank-spec : {M : Type 1} → statement M
-take-blank-spec = tie.close (tie.spec stopped-requires returns add-q taken-requires returns-2)
+take-blank-spec = tie.close (tie.spec stopped-requires returns add-t9 taken-requires returns-2)

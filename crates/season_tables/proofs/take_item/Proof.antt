@@ -16,7 +16,7 @@ stopped-requires c κs = search needs
 returns : tie.Need-returns
 returns c =
     let a = c .before .before .before .before .args in
-    (item-skipped (a .seen) (a .catalog .now) (a .number) (a .blocks) (a .load) (a .write) (a .at) (c .stopped .result) (c .before .if1 .taken) (c .stopped .ensures .0), (refl, λ x t. (c .stopped .ensures .1, refl)))
+    (item-skipped (a .seen) (a .catalog .now) (a .number) (a .blocks) (a .load) (a .write) (a .line) (c .stopped .result) (c .before .if1 .taken) (c .stopped .ensures .0), (refl, λ x t. (c .stopped .ensures .1, refl)))
 
 put-requires : tie.Need-put-requires
 put-requires c κs = search needs
@@ -35,8 +35,8 @@ returns-2 c =
     let a = c .before .before .before .before .before .before .before .before .before .before .args in
     let p = c .before .before .before .before .before .put in
     let asked = c .before .before .before .before .before .before .before .before .before .before .pre in (
-      item-next (a .seen) (a .catalog .now) (a .number) (a .blocks) (a .load) (a .write) (a .at) (c .taken .result) (p .last .0) (asked .2) (asked .0) (asked .1) (c .before .before .before .before .before .before .before .if1 .left) (c .taken .ensures .0) (c .taken .ensures .1) (p .ensures),
-      item-past (a .seen) (a .catalog .now) (a .number) (a .blocks) (a .load) (a .write) (a .at) (c .taken .result) (p .last .0) (asked .2) (asked .0) (c .taken .ensures .0) (c .taken .ensures .1) (p .ensures),
+      item-next (a .seen) (a .catalog .now) (a .number) (a .blocks) (a .load) (a .write) (a .line) (c .taken .result) (p .last .0) (asked .2) (asked .0) (asked .1) (c .before .before .before .before .before .before .before .if1 .left) (c .taken .ensures .0) (c .taken .ensures .1) (p .ensures),
+      item-past (a .seen) (a .catalog .now) (a .number) (a .blocks) (a .load) (a .write) (a .line) (c .taken .result) (p .last .0) (asked .2) (asked .0) (c .taken .ensures .0) (c .taken .ensures .1) (p .ensures),
     )
 
 pub take-item-spec : {M : Type 1} → statement M

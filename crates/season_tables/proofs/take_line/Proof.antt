@@ -12,39 +12,39 @@ use Rattle.season_tables.proofs.take_item.Reads as take-item-reads
 use Rattle.season_tables.proofs.take_sizes.Reads as take-sizes-reads
 use Rattle.season_tables.proofs.take_step.Reads as take-step-reads
 
-enum-known-line : tie.Need-enum-known-line
-enum-known-line c = search needs
+enum-known-values : tie.Need-enum-known-values
+enum-known-values c = search needs
 
 take-sizes-requires : tie.Need-take-sizes-requires
 take-sizes-requires c κs = search needs
 
-enum-known-line-2 : tie.Need-enum-known-line-2
-enum-known-line-2 c = search needs
+enum-known-values-2 : tie.Need-enum-known-values-2
+enum-known-values-2 c = search needs
 
 take-item-requires : tie.Need-take-item-requires
 take-item-requires c κs =
     let a = c .before .before .before .before .before .before .before .args in
-    let t = line-takeable (a .seen) (a .line) _ (a .catalog .now) (a .calls .now) (a .acts .now) (c .before .before .line2 .given .1) (c .before .before .before .before .before .before .before .pre) in
-    (t .ofTable .0, t .ofTable .1, t .room .roomy .forItems)
+    let t = line-takeable (a .seen) (a .values) _ (a .catalog .now) (a .calls .now) (a .acts .now) (c .before .before .values2 .given .1) (c .before .before .before .before .before .before .before .pre) in
+    (t .sayable .0, t .sayable .1, t .room .roomy .forItems)
 
-enum-known-line-3 : tie.Need-enum-known-line-3
-enum-known-line-3 c = search needs
+enum-known-values-3 : tie.Need-enum-known-values-3
+enum-known-values-3 c = search needs
 
 take-step-requires : tie.Need-take-step-requires
 take-step-requires c κs =
     let a = c .before .before .before .before .before .before .before .before .args in
-    record { acts = a .acts .now; line = line-takeable (a .seen) (a .line) _ (a .catalog .now) (a .calls .now) (a .acts .now) (c .before .before .before .line3 .given .1) (c .before .before .before .before .before .before .before .before .pre) }
+    record { acts = a .acts .now; line = line-takeable (a .seen) (a .values) _ (a .catalog .now) (a .calls .now) (a .acts .now) (c .before .before .before .values3 .given .1) (c .before .before .before .before .before .before .before .before .pre) }
 
-enum-known-line-4 : tie.Need-enum-known-line-4
-enum-known-line-4 c = search needs
+enum-known-values-4 : tie.Need-enum-known-values-4
+enum-known-values-4 c = search needs
 
 take-act-requires : tie.Need-take-act-requires
 take-act-requires c κs =
     let a = c .before .before .before .before .before .before .before .before .args in
-    record { catalog = a .catalog .now; line = line-takeable (a .seen) (a .line) _ (a .catalog .now) (a .calls .now) (a .acts .now) (c .before .before .before .line4 .given .1) (c .before .before .before .before .before .before .before .before .pre) }
+    record { catalog = a .catalog .now; line = line-takeable (a .seen) (a .values) _ (a .catalog .now) (a .calls .now) (a .acts .now) (c .before .before .before .values4 .given .1) (c .before .before .before .before .before .before .before .before .pre) }
 
-enum-known-line-5 : tie.Need-enum-known-line-5
-enum-known-line-5 c = search needs
+enum-known-values-5 : tie.Need-enum-known-values-5
+enum-known-values-5 c = search needs
 
 stopped-requires : tie.Need-stopped-requires
 stopped-requires c κs = search needs
@@ -52,7 +52,7 @@ stopped-requires c κs = search needs
 returns : tie.Need-returns
 returns c =
     let a = c .before .before .before .before .before .before .before .args in (
-      line-says (a .seen) (a .line) _ (a .at) (c .take-sizes .result) (a .catalog .now) (a .calls .now) (a .acts .now) (a .catalog .now) (a .calls .now) (a .acts .now) (c .before .before .line .given .1) (c .take-sizes .ensures .0 (a .catalog .now) (a .calls .now) (a .acts .now)),
+      line-says (a .seen) (a .values) _ (a .line) (c .take-sizes .result) (a .catalog .now) (a .calls .now) (a .acts .now) (a .catalog .now) (a .calls .now) (a .acts .now) (c .before .before .values .given .1) (c .take-sizes .ensures .0 (a .catalog .now) (a .calls .now) (a .acts .now)),
       keeps-all (a .seen) (a .catalog .now) (a .calls .now) (a .acts .now) (c .take-sizes .result) (c .take-sizes .ensures .1),
     )
 
@@ -63,7 +63,7 @@ returns-2 : tie.Need-returns-2
 returns-2 c =
     let a = c .before .before .before .before .before .before .before .before .before .before .args in
     let p = c .before .before .take-item in (
-      line-says (a .seen) (a .line) _ (a .at) (p .result) (a .catalog .now) (a .calls .now) (a .acts .now) (p .last .1 .1 .1 .1 .1 .1 .0) (a .calls .now) (a .acts .now) (c .before .before .before .before .before .line2 .given .1) (p .ensures .0 (a .calls .now) (a .acts .now)),
+      line-says (a .seen) (a .values) _ (a .line) (p .result) (a .catalog .now) (a .calls .now) (a .acts .now) (p .last .1 .1 .1 .1 .1 .1 .0) (a .calls .now) (a .acts .now) (c .before .before .before .before .before .values2 .given .1) (p .ensures .0 (a .calls .now) (a .acts .now)),
       keeps-items (a .seen) (a .catalog .now) (a .calls .now) (a .acts .now) (p .result) (p .last .1 .1 .1 .1 .1 .1 .0) (p .ensures .1),
     )
 
@@ -77,7 +77,7 @@ returns-3 : tie.Need-returns-3
 returns-3 c =
     let a = c .before .before .before .before .before .before .before .before .before .before .before .before .before .args in
     let p = c .before .before .before .before .take-step in (
-      line-says (a .seen) (a .line) _ (a .at) (p .result) (a .catalog .now) (a .calls .now) (a .acts .now) (p .last .1 .1 .1 .0) (p .last .1 .1 .1 .1 .0) (a .acts .now) (c .before .before .before .before .before .before .before .before .line3 .given .1) (p .ensures .0 (a .acts .now)),
+      line-says (a .seen) (a .values) _ (a .line) (p .result) (a .catalog .now) (a .calls .now) (a .acts .now) (p .last .1 .1 .1 .0) (p .last .1 .1 .1 .1 .0) (a .acts .now) (c .before .before .before .before .before .before .before .before .values3 .given .1) (p .ensures .0 (a .acts .now)),
       keeps-steps (a .seen) (a .catalog .now) (a .calls .now) (a .acts .now) (p .result) (p .last .1 .1 .1 .0) (p .last .1 .1 .1 .1 .0) (p .ensures .1 .0) (p .ensures .1 .1),
     )
 
@@ -91,14 +91,14 @@ returns-4 : tie.Need-returns-4
 returns-4 c =
     let a = c .before .before .before .before .before .before .before .before .before .before .before .args in
     let p = c .before .before .take-act in (
-      line-says (a .seen) (a .line) _ (a .at) (p .result) (a .catalog .now) (a .calls .now) (a .acts .now) (a .catalog .now) (a .calls .now) (p .last .1 .1 .1 .1 .1 .0) (c .before .before .before .before .before .before .line4 .given .1) (p .ensures .0 (a .catalog .now)),
+      line-says (a .seen) (a .values) _ (a .line) (p .result) (a .catalog .now) (a .calls .now) (a .acts .now) (a .catalog .now) (a .calls .now) (p .last .1 .1 .1 .1 .1 .0) (c .before .before .before .before .before .before .values4 .given .1) (p .ensures .0 (a .catalog .now)),
       keeps-acts (a .seen) (a .catalog .now) (a .calls .now) (a .acts .now) (p .result) (p .last .1 .1 .1 .1 .1 .0) (p .ensures .1),
     )
 
 returns-5 : tie.Need-returns-5
 returns-5 c =
     let a = c .before .before .before .before .before .before .before .args in (
-      line-says (a .seen) (a .line) _ (a .at) (c .stopped .result) (a .catalog .now) (a .calls .now) (a .acts .now) (a .catalog .now) (a .calls .now) (a .acts .now) (c .before .before .line5 .given .1) (line-refused (a .seen) _ (a .at) (c .stopped .result) (a .catalog .now) (a .calls .now) (a .acts .now) (c .stopped .ensures .0)),
+      line-says (a .seen) (a .values) _ (a .line) (c .stopped .result) (a .catalog .now) (a .calls .now) (a .acts .now) (a .catalog .now) (a .calls .now) (a .acts .now) (c .before .before .values5 .given .1) (line-refused (a .seen) _ (a .line) (c .stopped .result) (a .catalog .now) (a .calls .now) (a .acts .now) (c .stopped .ensures .0)),
       keeps-all (a .seen) (a .catalog .now) (a .calls .now) (a .acts .now) (c .stopped .result) (stopped-keeps (a .seen) (c .stopped .result) (c .stopped .ensures .1)),
     )
 
@@ -106,15 +106,15 @@ pub take-line-spec : {M : Type 1} → statement M
 take-line-spec =
     tie.close
     (tie.spec
-    enum-known-line
+    enum-known-values
     take-sizes-requires
-    enum-known-line-2
+    enum-known-values-2
     take-item-requires
-    enum-known-line-3
+    enum-known-values-3
     take-step-requires
-    enum-known-line-4
+    enum-known-values-4
     take-act-requires
-    enum-known-line-5
+    enum-known-values-5
     stopped-requires
     returns
     same-length

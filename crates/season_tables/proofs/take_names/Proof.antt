@@ -1,7 +1,10 @@
--- `season_tables::take_names` meets its contract: each return is a law of proofs/Held.antt. Assumes nothing.
+-- `season_tables::take_names` meets its contract: each return is a law of proofs/Leads.antt. Assumes nothing.
 use borrow.Author.Needs.{needs}
-use Rattle.season_tables.proofs.Held.{names-right, names-wrong}
-use Rattle.season_tables.proofs.Keeps.{stopped-keeps, taken-keeps}
+use mathlib.Core.Path.{sym, ap, _∙_}
+use Rattle.season_lines.specs.declared.Names.{Names}
+use Rattle.season_tables.specs.Tables.{namedBy}
+use Rattle.season_tables.specs.Inner.{moved}
+use Rattle.season_tables.proofs.Leads.{moves-on, moves-not}
 use Rattle.season_tables.proofs.take_names.Statement.{statement}
 use Rattle.season_tables.proofs.take_names.Tie as tie
 use Rattle.season_tables.proofs.take_names.Reads as reads
@@ -23,13 +26,15 @@ stopped-requires c κs = search needs
 
 returns : tie.Need-returns
 returns c =
-    let a = c .before .before .before .before .args in
-    (names-right (a .seen) (a .names) (a .at) (c .taken .result) _ (c .before .before .names .given .1) (c .taken .ensures .0) (c .taken .ensures .1), taken-keeps (a .seen) (c .taken .result) (c .taken .ensures .0))
+    let a = (c .before .before .before .before .args) in
+    moves-on (a .stage) (a .seen) (c .taken .result) _ (c .taken .ensures .0) (c .taken .ensures .1)
+    ∙ ap (λ (x : Names). moved (a .stage) (a .seen) (namedBy (a .stage) x (a .line))) (sym (c .before .before .names .given .1))
 
 returns-2 : tie.Need-returns-2
 returns-2 c =
-    let a = c .before .before .before .args in
-    (names-wrong (a .seen) (a .names) (a .at) (c .stopped .result) (c .before .enum-told .given .1) (c .stopped .ensures .0), stopped-keeps (a .seen) (c .stopped .result) (c .stopped .ensures .1))
+    let a = (c .before .before .before .args) in
+    moves-not (a .stage) (a .seen) (c .stopped .result) _ (c .stopped .ensures .0) (c .stopped .ensures .1)
+    ∙ ap (λ (x : Names). moved (a .stage) (a .seen) (namedBy (a .stage) x (a .line))) (sym (c .before .enum-told .given .1))
 
 pub take-names-spec : {M : Type 1} → statement M
 take-names-spec =

@@ -15,7 +15,7 @@ stopped-requires c κs = search needs
 returns : tie.Need-returns
 returns c =
     let a = c .before .before .args in
-    (sizes-too-large (a .seen) (a .k) (a .h) (a .rule) (a .at) (c .stopped .result) (c .before .if1 .taken) (c .stopped .ensures .0), stopped-keeps (a .seen) (c .stopped .result) (c .stopped .ensures .1))
+    (sizes-too-large (a .seen) (a .k) (a .h) (a .rule) (a .line) (c .stopped .result) (c .before .if1 .taken) (c .stopped .ensures .0), stopped-keeps (a .seen) (c .stopped .result) (c .stopped .ensures .1))
 
 taken-requires : tie.Need-taken-requires
 taken-requires c κs = search needs
@@ -23,7 +23,7 @@ taken-requires c κs = search needs
 returns-2 : tie.Need-returns-2
 returns-2 c =
     let a = c .before .before .before .before .args in
-    (sizes-fit (a .seen) (a .k) (a .h) (a .rule) (a .at) (c .taken .result) (c .before .before .before .if1 .left) (c .taken .ensures .0) (c .taken .ensures .1), taken-keeps (a .seen) (c .taken .result) (c .taken .ensures .0))
+    (sizes-fit (a .seen) (a .k) (a .h) (a .rule) (a .line) (c .taken .result) (c .before .before .before .if1 .left) (c .taken .ensures .0) (c .taken .ensures .1), taken-keeps (a .seen) (c .taken .result) (c .taken .ensures .0))
 
 pub take-sizes-spec : {M : Type 1} → statement M
 take-sizes-spec = tie.close (tie.spec stopped-requires returns taken-requires returns-2)

@@ -30,7 +30,7 @@ refusal-of-requires : tie.Need-refusal-of-requires
 refusal-of-requires c κs =
     let a = c .before .before .before .before .before .before .args in
     let number = c .before .before .step-refused in
-    step-in-range (a .seen) (a .catalog .now) (a .calls .now) (a .step) (a .at) (number .result) (number .ensures) (c .before .before .before .before .before .before .pre) (c .before .if1 .taken)
+    step-in-range (a .seen) (a .catalog .now) (a .calls .now) (a .step) (a .line) (number .result) (number .ensures) (c .before .before .before .before .before .before .pre) (c .before .if1 .taken)
 
 stopped-requires : tie.Need-stopped-requires
 stopped-requires c κs = search needs
@@ -42,8 +42,8 @@ returns : tie.Need-returns
 returns c =
     let a = c .before .before .before .before .before .before .before .before .args in
     let number = c .before .before .before .before .step-refused in
-    let told = c .before .refusal-of .ensures ∙ ap (telling (number .result) (a .at)) (c .before .before .item .ensures) in (
-      step-refuses (a .seen) (a .catalog .now) (a .calls .now) (a .step) (a .at) (number .result) (number .ensures) (c .stopped .result) _ (c .before .before .before .if1 .taken) told (c .stopped .ensures .0),
+    let told = c .before .refusal-of .ensures ∙ ap (telling (number .result) (a .line)) (c .before .before .item .ensures) in (
+      step-refuses (a .seen) (a .catalog .now) (a .calls .now) (a .step) (a .line) (number .result) (number .ensures) (c .stopped .result) _ (c .before .before .before .if1 .taken) told (c .stopped .ensures .0),
       ((refl, λ x t. (c .stopped .ensures .1, refl)), (refl, λ x t. (c .stopped .ensures .1, refl))),
     )
 
@@ -51,19 +51,19 @@ numbers-requires : tie.Need-numbers-requires
 numbers-requires c κs = search needs
 
 put-arrival-requires : tie.Need-put-arrival-requires
-put-arrival-requires c κs = (rw (c .before .numbers .ensures) (c .before .before .before .before .before .before .before .pre .line .ofTable .0), c .before .before .before .before .before .before .before .pre .line .room .roomy .forItems)
+put-arrival-requires c κs = (rw (c .before .numbers .ensures) (c .before .before .before .before .before .before .before .pre .line .sayable), c .before .before .before .before .before .before .before .pre .line .room .roomy .forItems)
 
 mul-put-step : tie.Need-mul-put-step
-mul-put-step c = omega (arith, c .before .before .before .before .before .before .before .before .before .before .before .pre .line .room .forStep)
+mul-put-step c = omega (arith, c .before .before .before .before .before .before .before .before .before .before .before .pre .line .room .few .steps)
 
 put-step-requires : tie.Need-put-step-requires
-put-step-requires c κs = (omega (arith, c .before .before .before .before .before .before .before .before .before .before .before .pre .line .room .forStep, c .before .before .before .before .before .before .before .before .before .before .before .pre .line .room .roomy .forSteps), omega (arith, c .before .before .before .before .before .before .before .before .before .before .before .pre .line .room .forStep))
+put-step-requires c κs = (omega (arith, c .before .before .before .before .before .before .before .before .before .before .before .pre .line .room .few .steps, c .before .before .before .before .before .before .before .before .before .before .before .pre .line .room .roomy .forSteps), omega (arith, c .before .before .before .before .before .before .before .before .before .before .before .pre .line .room .few .steps))
 
 advanced-requires : tie.Need-advanced-requires
 advanced-requires c κs = c .before .before .before .before .before .before .before .before .before .before .before .before .before .before .pre .line .holds .few
 
 add-q : tie.Need-add-q
-add-q c = omega (arith, c .before .before .before .before .before .before .before .before .before .before .before .before .before .before .before .pre .line .room .forStep)
+add-q c = omega (arith, c .before .before .before .before .before .before .before .before .before .before .before .before .before .before .before .pre .line .room .few .steps)
 
 taken-requires : tie.Need-taken-requires
 taken-requires c κs = search needs
@@ -79,11 +79,11 @@ returns-2 c =
     let a = c .before .before .before .before .before .before .before .before .before .before .before .before .before .before .before .before .args in
     let t = c .before .before .before .before .before .before .before .before .before .before .before .before .before .before .before .before .pre .line in
     let number = c .before .before .before .before .before .before .before .before .before .before .before .before .step-refused in
-    let room : 7 * a .seen .steps + 7 ≤ length (a .calls .now) = omega (arith, t .room .forStep, t .room .roomy .forSteps) in
+    let room : 7 * a .seen .steps + 7 ≤ length (a .calls .now) = omega (arith, t .room .few .steps, t .room .roomy .forSteps) in
     let stored = c .before .before .before .before .before .before .before .before .put-arrival .ensures ∙ step-items (a .step) (c .before .before .before .before .before .before .before .before .before .before .numbers .result) (a .catalog .now) (c .before .before .before .before .before .before .before .before .before .before .numbers .ensures) in
     let past =
-    step-past (a .seen) (a .catalog .now) (a .calls .now) (a .step) (a .at) (number .result) (number .ensures) (c .before .before .before .before .before .before .before .before .before .before .before .if1 .left) (t .ofTable .0) (t .room .roomy .forItems) (c .before .before .before .before .before .before .before .before .before .before .numbers .result) (c .before .advanced .result) (c .before .before .before .before .before .before .before .before .before .before .numbers .ensures) (c .before .advanced .ensures) (c .taken .result) (c .before .before .before .before .before .before .before .before .before .before .before .before .before .before .before .before .pre .acts) (t .read) (c .before .before .before .before .before .before .before .before .put-arrival .last .0) (c .before .before .before .before .put-step .last .0) (t .holds) room (c .taken .ensures .0) (c .taken .ensures .1) stored (c .before .before .before .before .put-step .ensures) in (
-      step-noted (a .seen) (a .catalog .now) (a .calls .now) (a .step) (a .at) (number .result) (number .ensures) (c .before .before .before .before .before .before .before .before .before .before .before .if1 .left) (t .ofTable .0) (t .room .roomy .forItems) (c .before .before .before .before .before .before .before .before .before .before .numbers .result) (c .before .advanced .result) (c .before .before .before .before .before .before .before .before .before .before .numbers .ensures) (c .before .advanced .ensures) (c .taken .result) (c .before .before .before .before .before .before .before .before .put-arrival .last .0) (c .before .before .before .before .put-step .last .0) (t .ofTable .1) room (c .taken .ensures .0) (c .taken .ensures .1) stored (c .before .before .before .before .put-step .ensures),
+    step-past (a .seen) (a .catalog .now) (a .calls .now) (a .step) (a .line) (number .result) (number .ensures) (c .before .before .before .before .before .before .before .before .before .before .before .if1 .left) (t .sayable) (t .room .roomy .forItems) (c .before .before .before .before .before .before .before .before .before .before .numbers .result) (c .before .advanced .result) (c .before .before .before .before .before .before .before .before .before .before .numbers .ensures) (c .before .advanced .ensures) (c .taken .result) (c .before .before .before .before .before .before .before .before .before .before .before .before .before .before .before .before .pre .acts) (t .read) (c .before .before .before .before .before .before .before .before .put-arrival .last .0) (c .before .before .before .before .put-step .last .0) (t .holds) room (c .taken .ensures .0) (c .taken .ensures .1) stored (c .before .before .before .before .put-step .ensures) in (
+      step-noted (a .seen) (a .catalog .now) (a .calls .now) (a .step) (a .line) (number .result) (number .ensures) (c .before .before .before .before .before .before .before .before .before .before .before .if1 .left) (t .sayable) (t .room .roomy .forItems) (c .before .before .before .before .before .before .before .before .before .before .numbers .result) (c .before .advanced .result) (c .before .before .before .before .before .before .before .before .before .before .numbers .ensures) (c .before .advanced .ensures) (c .taken .result) (c .before .before .before .before .before .before .before .before .put-arrival .last .0) (c .before .before .before .before .put-step .last .0) room (c .taken .ensures .0) (c .taken .ensures .1) stored (c .before .before .before .before .put-step .ensures),
       past,
     )
 

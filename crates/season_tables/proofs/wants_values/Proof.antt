@@ -14,27 +14,27 @@ use Rattle.season_tables.proofs.must_end.Reads as must-end-reads
 
 returns : tie.Need-returns
 returns c =
-    let a = c .before .args in
-    wants-unnamed (a .named) (a .upto) (a .table) (a .k) (a .bytes) (not-true _ (c .if1 .taken))
+    let a = (c .before .before .args) in
+    wants-unnamed (a .upto) (a .stage) (a .k) (a .bytes) (not-true _ (c .if1 .taken))
 
 may-end-requires : tie.Need-may-end-requires
 may-end-requires c κs = search needs
 
 returns-2 : tie.Need-returns-2
 returns-2 c =
-    let a = c .before .before .before .before .args in
-    wants-blank (a .named) (a .upto) (a .table) (a .k) (a .bytes) (not-false _ (c .before .before .before .if1 .left)) (c .before .before .if2 .taken) (sym (c .before .may-end .ensures) ∙ c .if3 .taken)
+    let a = (c .before .before .before .before .before .args) in
+    wants-blank (a .upto) (a .stage) (a .k) (a .bytes) (not-false _ (c .before .before .before .if1 .left)) (c .before .before .if2 .taken) (sym (c .before .may-end .ensures) ∙ (c .if3) .taken)
 
 must-end-requires : tie.Need-must-end-requires
 must-end-requires c κs = search needs
 
 returns-3 : tie.Need-returns-3
 returns-3 c =
-    let a = c .before .before .before .args in
+    let a = (c .before .before .before .before .args) in
     let named = not-false _ (c .before .before .if1 .left) in
     ap not (c .must-end .ensures)
-    ∙ ⊎-elim (λ w. wants-none (a .named) (a .upto) (a .table) (a .k) (a .bytes) named (w .0 .taken) (sym (w .1 .ensures) ∙ w .2 .left))
-    (λ w. wants-bytes (a .named) (a .upto) (a .table) (a .k) (a .bytes) named (w .left)) (c .before .if2 .came)
+    ∙ ⊎-elim (λ w. wants-none (a .upto) (a .stage) (a .k) (a .bytes) named (w .0 .taken) (sym (w .1 .ensures) ∙ w .2 .left))
+    (λ w. wants-bytes (a .upto) (a .stage) (a .k) (a .bytes) named (w .left)) (c .before .if2 .came)
 
 pub wants-values-spec : {M : Type 1} → statement M
 wants-values-spec =

@@ -1,7 +1,7 @@
 -- `season_text::answer` meets its contract. Assumes nothing.
-use mathlib.Core.Path.{_≡_, subst}
-use lib.ListN.{length}
+use mathlib.Core.Path.{subst}
 use borrow.Author.Needs.{needs}
+use Rattle.season_tables.specs.Inner.{Roomy}
 use Rattle.season_plan.specs.Inner.{PriceSmall}
 use Rattle.season_text.proofs.Answers.{Reads, too-long, taken-reads, priceable, reportable, line-refused, plan-refused, season-reported}
 use Rattle.season_text.proofs.answer.Statement.{statement}
@@ -29,21 +29,17 @@ enum-told : tie.Need-enum-told
 enum-told c = search needs
 
 -- where the scan took every line: the slices are as long as the arrays, and the text is in them
-for-items : (c : tie.After-enum-told) → length (c .before .before .before .before .before .before .scan .last .1 .1 .0) ≡ 1280
-for-items c = search needs
-
-for-steps : (c : tie.After-enum-told) → length (c .before .before .before .before .before .before .scan .last .1 .1 .1 .0) ≡ 76461
-for-steps c = search needs
-
-for-acts : (c : tie.After-enum-told) → length (c .before .before .before .before .before .before .scan .last .1 .1 .1 .1 .0) ≡ 32769
-for-acts c = search needs
+roomy :
+    (c : tie.After-enum-told) →
+    (let r = c .before .before .before .before .before .before .scan in Roomy (r .last .1 .1 .0) (r .last .1 .1 .1 .0) (r .last .1 .1 .1 .1 .0))
+roomy c = search needs
 
 read :
     (c : tie.After-enum-told) →
     (let r = c .before .before .before .before .before .before .scan in Reads (c .before .before .before .before .before .before .before .before .before .before .before .before .before .args .text .now) (r .result .seen) (r .last .1 .1 .0) (r .last .1 .1 .1 .0) (r .last .1 .1 .1 .1 .0))
 read c =
     let r = c .before .before .before .before .before .before .scan in
-    taken-reads (c .before .before .before .before .before .before .before .before .before .before .before .before .before .args .text .now) (r .result) (r .last .1 .1 .0) (r .last .1 .1 .1 .0) (r .last .1 .1 .1 .1 .0) (c .before .before .before .before .before .before .before .before .before .before .if1 .left) (r .ensures .0) (r .ensures .1 .0) (for-items c) (for-steps c) (for-acts c) (c .enum-told .given .1)
+    taken-reads (c .before .before .before .before .before .before .before .before .before .before .before .before .before .args .text .now) (r .result) (r .last .1 .1 .0) (r .last .1 .1 .1 .0) (r .last .1 .1 .1 .1 .0) (c .before .before .before .before .before .before .before .before .before .before .if1 .left) (r .ensures .0) (r .ensures .1 .0) (roomy c) (c .enum-told .given .1)
 
 slice-aggregate-price-plan : tie.Need-slice-aggregate-price-plan
 slice-aggregate-price-plan c = search needs

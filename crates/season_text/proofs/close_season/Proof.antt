@@ -27,7 +27,7 @@ mul-run c = search needs
 slice-aggregate-run : tie.Need-slice-aggregate-run
 slice-aggregate-run c =
     let s = c .before .before .before .before .before .before .before in
-    sym (length-take-le (5 * s .args .seen .n) (s .args .catalog .now) (omega (arith, s .pre .items, s .pre .fewItems)))
+    sym (length-take-le (5 * s .args .seen .n) (s .args .catalog .now) (omega (arith, s .pre .roomy .forItems, s .pre .fewItems)))
 
 add-run : tie.Need-add-run
 add-run c = search needs
