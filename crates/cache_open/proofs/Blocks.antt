@@ -1,5 +1,4 @@
--- Laws of `BlocksOk`: of the loop that tests the items in turn, and of their catalog. Both openings cite them, that in lent bytes and
--- that by value. Assumes nothing.
+-- Laws of `BlocksOk`: of the loop that tests the items in turn, and of their catalog. Assumes nothing.
 use mathlib.Core.Path.{_≡_, sym, subst}
 use mathlib.Core.Bool.{true}
 use Prim.Native.Nat.{ℕ, _+_, _≤_, _<_}

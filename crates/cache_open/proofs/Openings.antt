@@ -26,7 +26,7 @@ use Rattle.cache_state.specs.InnerBecomes.{Becomes}
 use Rattle.cache_state.specs.InnerWith.{withCapacity, withCount, withRule, withCatalog, withBlocks, withItemLoadCost, withItemWriteCost}
 use Rattle.layout.specs.Layout.{stateBytes, cacheOf}
 use Rattle.layout.specs.Inner.{Stands, cleared}
-use Rattle.layout.proofs.Places.{stands-as, stands-become, becomes-valid}
+use Rattle.layout.proofs.Places.{stands-as, stands-on, stands-become, becomes-valid}
 use Rattle.basis.specs.InnerStores.{storeTo}
 use Rattle.basis.proofs.Stores.{store-more, store-past, store-at}
 use Rattle.cache_open.specs.Opening.{openingIn, openingNumber, OpenedLent}
@@ -137,12 +137,10 @@ pub entered-more :
     Stands two (withItemLoadCost (cacheOf one) i y) →
     Stands left (withItemWriteCost (cacheOf two) i z) →
     Stands left (enteredOf c xs (i + 1))
-entered-more c xs i {x = x} {y = y} {z = z} s ex ey ez p q r =
-    stands-as r
-    (ap (λ (d : Cache). withItemWriteCost d i z) (q .cache)
-    ∙ ap (λ (d : Cache). withItemWriteCost (withItemLoadCost d i y) i z) (p .cache)
-    ∙ ap (λ (d : Cache). withItemWriteCost (withItemLoadCost (withBlocks d i x) i y) i z) (s .cache)
-    ∙ (λ j. withCatalog c (c .k) (c .n) (stored (λ n. itemIn xs n .blocks) (c .blocks) ex j) (stored (λ n. itemIn xs n .load) (c .load) ey j) (stored (λ n. itemIn xs n .write) (c .write) ez j) (c .left)))
+entered-more c xs i s ex ey ez p q r =
+    stands-as
+    (stands-on (λ d v. withItemWriteCost d i v) r (stands-on (λ d v. withItemLoadCost d i v) q (stands-on (λ d v. withBlocks d i v) p s)))
+    (λ j. withCatalog c (c .k) (c .n) (stored (λ n. itemIn xs n .blocks) (c .blocks) ex j) (stored (λ n. itemIn xs n .load) (c .load) ey j) (stored (λ n. itemIn xs n .write) (c .write) ez j) (c .left))
   where
     stored : (f : ℕ → ℕ) (l : List ℕ) {v : ℕ} → v ≡ f i → set (storeTo i f l) i v ≡ storeTo (i + 1) f l
     stored f l e = ap (set (storeTo i f l) i) e ∙ sym (store-more i f l)
@@ -181,18 +179,13 @@ pub opening-done :
     Stands four (withRule (cacheOf three) r) →
     Stands left (enteredOf (cacheOf four) (o .catalog) (length (o .catalog) / 5)) →
     OpenedLent b o 0 left
-opening-done b o n {r = r} {left = left} e z p q u is t s =
+opening-done b o n {left = left} e z p q u is t s =
     let k = o .k in
     let xs = o .catalog in
     let rule = o .rule in
     let ranges = right e z in
     let so : Stands left (openedOf k (deductionOf rule) xs) =
-    stands-as s
-    (ap (λ (d : Cache). enteredOf d xs (length xs / 5)) (t .cache)
-    ∙ ap (λ (d : Cache). enteredOf (withRule d r) xs (length xs / 5)) (u .cache)
-    ∙ ap (λ (d : Cache). enteredOf (withRule (withCount d (length xs / 5)) r) xs (length xs / 5)) (q .cache)
-    ∙ ap (λ (d : Cache). enteredOf (withRule (withCount (withCapacity d k) (length xs / 5)) r) xs (length xs / 5)) (p .cache)
-    ∙ ap (λ (d : Deduction). openedOf k d xs) is)
+    stands-as (stands-on (λ d v. enteredOf d xs v) s (stands-on withRule t (stands-on withCount u (stands-on withCapacity q p)))) (ap (λ (d : Deduction). openedOf k d xs) is)
     in
     let stood = stands-become so (opened-becomes k (deductionOf rule) xs (omega (arith, ranges .lengths .few))) in
     record {

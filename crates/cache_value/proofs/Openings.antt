@@ -1,33 +1,38 @@
--- Laws of an opening: its tests are the table's, and the cache that it hands back. Assumes nothing.
+-- Laws of an opening by value: its arrays as a catalog in bytes, the opening in place of that, and the cache of a refused one.
+-- Assumes nothing.
 use mathlib.Core.Path.{_≡_, refl, sym, ap, subst, _∙_}
+use mathlib.Core.Logic.{_≢_}
 use mathlib.Core.Bool.{true, false, cond}
-use mathlib.Core.List.{List, []}
-use Prim.Native.Nat.{ℕ, _≤_, _<_}
+use mathlib.Core.List.{List, [], _∷_, _++_}
+use Prim.Native.Nat.{ℕ, _+_, _*_, _≤_, _<_}
+use native.Mathlib.Numerals.{add-one}
 use native.Mathlib.Omega.{arith}
 use lib.Dec.{eqb}
-use lib.ListN.{getD, replicate}
-use borrow.Author.Tests.{le-leb, lt-leb}
-use Rattle.types.specs.declared.Deduction.{Deduction}
+use lib.ListN.{length, take, getD, replicate, getD-replicate}
+use lib.Seq.{sets, length-take-le}
+use borrow.Author.Tests.{ne-eqb}
 use Rattle.types.specs.declared.Deduction.the-variants.{WriteFirst}
-use Rattle.types.specs.Types.{deductionOf}
 use Rattle.landlord.specs.Fold.{tabFrom, fold}
 use Rattle.landlord.specs.Catalog.{Catalog, Item, listed, noneLeft, CapacityOk, CatalogOk, allInRange, catalogInRange}
 use Rattle.landlord.specs.Slot.{writeFirst}
 use Rattle.landlord.specs.Rule.{flush, writeBacks}
 use Rattle.landlord.specs.Figures.{Standing, start, opened, closes}
 use Rattle.landlord.specs.Calls.{Opening, opening, openingRefusal, startsAt}
-use Rattle.landlord.specs.Inner.{OpeningRanges}
 use Rattle.landlord.specs.Valid.{StandingOk}
-use Rattle.landlord.proofs.Valid.{ok-opened, ok-starts, ok-closes}
-use Rattle.landlord.proofs.Ranges.{listed-none-left, opening-accepts, range-refused, rule-refused}
-use Rattle.cache_state.specs.Cache.{EmptyPlace}
+use Rattle.landlord.proofs.Folds.{tab-more}
+use Rattle.landlord.proofs.Valid.{ok-opened, ok-closes}
+use Rattle.landlord.proofs.Ranges.{range-refused}
+use Rattle.catalog_bytes.specs.Inner.{catalogOfFirst, itemBytes}
+use Rattle.catalog_bytes.proofs.Laws.{none-first, one-more}
+use Rattle.cache_state.specs.Cache.{view, Valid, EmptyPlace}
 use Rattle.cache_state.specs.InnerBecomes.{Becomes}
 use Rattle.cache_state.specs.Cache as records
-use Rattle.cache_open.specs.Inner.{emptyWith}
-use Rattle.cache_open.proofs.Blocks.{catalog-few, catalog-blocks, blocks-catalog}
+use Rattle.layout.specs.Layout.{stateBytes, cacheOf}
+use Rattle.cache_open.specs.Opening.{OpenedLent}
+use Rattle.cache_open.specs.Inner.{Column}
+use Rattle.cache_open.proofs.Blocks.{catalog-few}
 use Rattle.cache_open.proofs.Empty.{empty-place, empty-becomes}
-use Rattle.cache_parts.specs.Inner.{FirstOf, Opens}
-use Rattle.cache_parts.proofs.Arrays.{first-none}
+use Rattle.cache_open.proofs.Openings.{asks}
 use Rattle.cache_value.specs.declared.Cache.{Cache}
 use Rattle.cache_value.specs.Contract.{recordOf, catalogFrom, refusedOpening}
 use Rattle.cache_value.specs.Inner.{nothingOpened, Opened}
@@ -35,24 +40,6 @@ use Rattle.cache_value.specs.Inner.{nothingOpened, Opened}
 -- where an opening stands, by the number of its answer
 abbrev pub atOpening : Opening Catalog → ℕ → Standing
 atOpening o number = cond (eqb number 0) (startsAt o) refusedOpening
-
--- a struct that stands there in order, all its places empty
-stood :
-    (o : Opening Catalog) (number : ℕ) (c : Cache) {d : records.Cache} →
-    number ≡ openingRefusal o →
-    StandingOk (atOpening o number) →
-    Becomes (atOpening o number) d →
-    ((i : ℕ) → i < 256 → EmptyPlace d i) →
-    recordOf c ≡ d →
-    Opened o number c
-stood o number c asked ok h empty e =
-    let so : Becomes (atOpening o number) (recordOf c) = subst (Becomes (atOpening o number)) (sym e) h in
-    record {
-      answer = asked;
-      valid = record { fields = so .fields; rule = subst StandingOk (sym (so .stands)) ok };
-      stands = so .stands;
-      empty = λ i l. subst (λ (z : records.Cache). EmptyPlace z i) (sym e) (empty i l);
-    }
 
 -- a closed cache of 1 block with no items is in order
 refused-ok : StandingOk refusedOpening
@@ -64,7 +51,9 @@ refused-ok = unfold closes flush writeBacks tabFrom fold in ok-closes (opened (s
     none : CatalogOk []
     none = unfold catalogInRange allInRange in refl
 
--- the opening's tests are the table's: costs of 16 bits are in range
+no-column : (f : ℕ → ℕ) → Column 0 f (replicate 256 0)
+no-column f = record { front = λ i l. absurd (let z : i < 0 = l in omega arith); rest = λ i l u. getD-replicate 256 i 0 0 u }
+
 module _ (k rule n : ℕ) (blocks load write : List ℕ) where
   abbrev cat : Catalog
   cat = catalogFrom n blocks load write
@@ -75,10 +64,6 @@ module _ (k rule n : ℕ) (blocks load write : List ℕ) where
   abbrev item : ℕ → Item
   item i = listed (getD blocks i 0) (getD load i 0) (getD write i 0)
 
-  opens-from : OpeningRanges asked → Opens k n blocks
-  unfolding catalogFrom
-  opens-from f = record { capacity = f .capacity; few = catalog-few n item (f .catalog); each = catalog-blocks n item (f .catalog) }
-
   -- refused with a number that the table gives
   refused-with :
       (number : ℕ) (c : Cache) →
@@ -88,54 +73,61 @@ module _ (k rule n : ℕ) (blocks load write : List ℕ) where
       Opened asked number c
   unfolding tabFrom
   refused-with number c same some e =
-      stood asked number c same (rw some refused-ok)
-      (rw some
-      (empty-becomes 1 0 item true WriteFirst (replicate 256 0) (replicate 256 0) (replicate 256 0) (omega arith) (first-none blocks) (first-none load) (first-none write) (λ i. refl)))
-      (empty-place 1 0 (replicate 256 0) (replicate 256 0) (replicate 256 0) true WriteFirst) e
+      record {
+        answer = same;
+        valid = record { fields = so .fields; rule = subst StandingOk (sym (so .stands)) refused-ok };
+        stands = rw some (so .stands);
+        empty = λ i l. subst (λ (z : records.Cache). EmptyPlace z i) (sym e) (empty-place 1 0 (replicate 256 0) (replicate 256 0) (replicate 256 0) true WriteFirst i l);
+      }
+    where
+      so : Becomes refusedOpening (recordOf c)
+      so =
+          subst (Becomes refusedOpening) (sym e)
+          (empty-becomes 1 0 item true WriteFirst (replicate 256 0) (replicate 256 0) (replicate 256 0) (omega arith) (no-column (λ i. item i .blocks)) (no-column (λ i. item i .load)) (no-column (λ i. item i .write)) (λ i. refl))
 
-  -- out of range, whatever the rule's number
-  pub open-refused :
-      (number : ℕ) (c : Cache) →
-      (Opens k n blocks → ⊥) →
-      number ≡ 3 →
-      recordOf c ≡ nothingOpened →
-      Opened asked number c
-  open-refused number c none is e =
-      refused-with number c (is ∙ range-refused asked (λ f. none (opens-from f))) (rw is) e
+  -- more items than there are places are out of range
+  pub open-many : (number : ℕ) (c : Cache) → 256 < n → number ≡ 3 → recordOf c ≡ nothingOpened → Opened asked number c
+  unfolding catalogFrom
+  open-many number c many is e =
+      refused-with number c (is ∙ range-refused asked (λ f. omega (arith, catalog-few n item (f .catalog)))) (rw is) e
 
-  -- in range, the rule's number decides
-  module _ (o : Opens k n blocks) (ll : (i : ℕ) → getD load i 0 ≤ 65535) (lw : (i : ℕ) → getD write i 0 ≤ 65535) where
-    good : CatalogOk cat
-    unfolding catalogFrom
-    good = blocks-catalog n item (o .few) (o .each) ll lw
+  -- the opening in place, of the same catalog in bytes
+  module _ (b xs : List ℕ) {number : ℕ} {left : List ℕ} (few : n ≤ 256) (size : length b ≡ stateBytes) (long : length xs ≡ 1280) (same : catalogOfFirst n xs ≡ cat) (h : OpenedLent b (opening k rule (take (5 * n) xs)) number left) where
+    table : number ≡ openingRefusal asked
+    table =
+        let items : length (take (5 * n) xs) ≡ 5 * n = length-take-le (5 * n) xs (omega arith) in
+        h .answer
+        ∙ asks (length b) (opening k rule (take (5 * n) xs)) (record { state = size; whole = omega arith; few = omega arith })
+        ∙ ap (λ (d : Catalog). openingRefusal (opening k rule d)) same
 
-    new : noneLeft cat ≡ true
-    unfolding catalogFrom
-    new = listed-none-left n (λ i. getD blocks i 0) (λ i. getD load i 0) (λ i. getD write i 0)
+    pub open-refused : (r : ℕ) (c : Cache) → number ≢ 0 → r ≡ number → recordOf c ≡ nothingOpened → Opened asked r c
+    open-refused r c some is e = refused-with r c (is ∙ table) (ne-eqb r 0 (λ z. some (sym is ∙ z))) e
 
-    fine : OpeningRanges asked
-    fine = record { capacity = o .capacity; catalog = good; fresh = new }
+    pub open-taken : (c : Cache) → number ≡ 0 → recordOf c ≡ cacheOf left → Opened asked 0 c
+    open-taken c none e =
+        record {
+          answer = sym none ∙ table;
+          valid = subst Valid (sym e) (h .valid none .cache);
+          stands = ap view e ∙ h .stands none ∙ ap (λ (d : Catalog). startsAt (opening k rule d)) same;
+          empty = λ i l. subst (λ (z : records.Cache). EmptyPlace z i) (sym e) (h .empty none i l);
+        }
 
-    pub open-odd :
-        (number : ℕ) (c : Cache) →
-        1 < rule →
-        number ≡ 18 →
-        recordOf c ≡ nothingOpened →
-        Opened asked number c
-    open-odd number c odd is e =
-        refused-with number c (is ∙ rule-refused asked fine (lt-leb rule 1 odd)) (rw is) e
+-- ---- the arrays as a catalog in bytes
 
-    pub open-taken :
-        {b l w : List ℕ} {r : Deduction} (c : Cache) →
-        rule ≤ 1 →
-        FirstOf n blocks b →
-        FirstOf n load l →
-        FirstOf n write w →
-        r ≡ deductionOf rule →
-        recordOf c ≡ emptyWith k n b l w false r →
-        Opened asked 0 c
-    unfolding catalogFrom
-    open-taken {b = b} {l = l} {w = w} c known fb fl fw is e =
-        stood asked 0 c (sym (opening-accepts asked (record { ranges = fine; rule = le-leb rule 1 known }))) (ok-starts asked (record { ranges = fine; rule = le-leb rule 1 known }))
-        (empty-becomes k n item false (deductionOf rule) b l w (o .few) fb fl fw (λ i. refl)) (empty-place k n b l w false (deductionOf rule))
-        (e ∙ ap (emptyWith k n b l w false) is)
+module _ (blocks load write : List ℕ) where
+  pub catalog-none : (xs : List ℕ) → catalogOfFirst 0 xs ≡ catalogFrom 0 blocks load write
+  unfolding catalogFrom tabFrom
+  catalog-none xs = none-first xs
+
+  pub catalog-more :
+      {next : List ℕ} (xs : List ℕ) (i : ℕ) →
+      5 * i + 5 ≤ length xs →
+      catalogOfFirst i xs ≡ catalogFrom i blocks load write →
+      next ≡ sets xs (5 * i) (itemBytes (listed (getD blocks i 0) (getD load i 0) (getD write i 0))) →
+      catalogOfFirst (i + 1) next ≡ catalogFrom (i + 1) blocks load write
+  unfolding catalogFrom
+  catalog-more xs i room so is =
+      ap (catalogOfFirst (i + 1)) is
+      ∙ one-more i xs (getD blocks i 0) (getD load i 0) (getD write i 0) room
+      ∙ ap (λ (c : Catalog). c ++ (listed (getD blocks i 0) (getD load i 0) (getD write i 0) ∷ [])) so
+      ∙ rw add-one (sym (tab-more i (λ j. listed (getD blocks j 0) (getD load j 0) (getD write j 0))))

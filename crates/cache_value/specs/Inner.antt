@@ -1,4 +1,4 @@
--- What the functions of an opening give. Assumes nothing.
+-- What the functions of an opening give, and a cache of which some places are filled. Assumes nothing.
 use mathlib.Core.{Path._≡_, Bool.{Bool, cond, true, false}, List.{List, _++_}}
 use Prim.Native.Nat.{ℕ, _<_}
 use lib.{ListN.{take, drop, replicate}, Dec.eqb}
@@ -29,8 +29,8 @@ pub record Chain (o : Opening Catalog) (calls : List Call) (numbers : List ℕ) 
 -- ---- the struct stored and read place by place
 
 -- the first n of a list, and z at the other places of 256
-unfoldable pub first : {A : Type 0} → A → ℕ → List A → List A
-first z n xs = take n xs ++ drop n (replicate 256 z)
+unfoldable pub firstOf : {A : Type 0} → A → ℕ → List A → List A
+firstOf z n xs = take n xs ++ drop n (replicate 256 z)
 
 -- a cache with each list of numbers and of flags that its items have changed
 abbrev pub placesBy : (List ℕ → List ℕ) → (List Bool → List Bool) → Record → Record
@@ -43,4 +43,4 @@ placesBy f g c =
 
 -- a cache of which only the first n places are filled
 abbrev pub placesTo : ℕ → Record → Record
-placesTo n c = placesBy (first 0 n) (first false n) c
+placesTo n c = placesBy (firstOf 0 n) (firstOf false n) c

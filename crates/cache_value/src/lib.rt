@@ -2,9 +2,10 @@
 // A method stores the struct in bytes, makes the call in place there, and reads it back; only this form pays for that.
 ghost use mathlib.Core.Path.{_≡_};
 ghost use Prim.Native.Nat.{_≤_};
+ghost use lib.ListN.{length};
 ghost use Rattle.types.specs.Types.{telling};
 ghost use Rattle.landlord.specs.Calls.{opening, close, callOf};
-ghost use Rattle.cache_open.specs.Inner.{emptyWith};
+ghost use Rattle.catalog_bytes.specs.Inner.{catalogOfFirst};
 ghost use Rattle.cache.specs.Contract.{lent, Called};
 ghost use Rattle.landlord.specs.CallNumbers.{callFrom, callsOf};
 ghost use Rattle.cache_value.specs.Contract.{recordOf, byValue, catalogFrom, answerTold, CalledBy, OpenedBy, Ran};
@@ -71,68 +72,34 @@ struct Reply {
 
 // ---- the opening
 
-// A cache in which nothing is held and nothing counted, and from which no item has left.
-fn empty(
-    k: u32,
-    n: usize,
-    blocks: [u8; 256],
-    load: [u16; 256],
-    write: [u16; 256],
-    closed: bool,
-    rule: Deduction,
-) -> Cache
-    ensures { λ r. ⌜ recordOf r ≡ emptyWith k n blocks load write closed rule ⌝ }
-{
-    Cache {
-        k: k,
-        n: n,
-        blocks: blocks,
-        load: load,
-        write: write,
-        held: [false; 256],
-        loadcredit: [0; 256],
-        writecredit: [0; 256],
-        dirty: [0; 4],
-        minutes: [0; 256],
-        itemloads: [0; 256],
-        itemwritebacks: [0; 256],
-        steps: 0,
-        hits: 0,
-        loads: 0,
-        loadcost: 0,
-        evictions: 0,
-        dirtyevictions: 0,
-        writebacks: 0,
-        writecost: 0,
-        flushes: 0,
-        closed: closed,
-        rule: rule,
-        left: [0; 4],
-        arrivals: 0,
-        retirements: 0,
-    }
-}
-
 // A refused opening, with the refusal's number: a closed cache of 1 block with no items, write-first.
 fn refused_opening(number: u32) -> Reply
     ensures { λ r. ⌜ (r .number ≡ number) × (recordOf (r .cache) ≡ nothingOpened) ⌝ }
 {
+    let mut b = [0u8; layout::STATE_BYTES];
+    layout::clear(&mut b);
+    layout::put_capacity(&mut b, 1);
+    layout::put_closed(&mut b, true);
     Reply {
         number: number,
-        cache: empty(
-            1,
-            0,
-            [0; 256],
-            [0; 256],
-            [0; 256],
-            true,
-            Deduction::WriteFirst,
-        ),
+        cache: bytes::decode(&b),
+    }
+}
+
+// Stores the first `n` items of the three arrays as a catalog in bytes.
+fn put_catalog(catalog: &mut [u8], n: usize, blocks: [u8; 256], load: [u16; 256], write: [u16; 256])
+    requires { ⌜ (length (now catalog) ≡ 1280) × (n ≤ 256) ⌝ }
+    ensures { λ _. ⌜ catalogOfFirst n (now (catalog .exit)) ≡ catalogFrom n blocks load write ⌝ }
+{
+    let mut i = 0;
+    while i < n {
+        catalog_bytes::put(catalog, i, blocks[i], load[i], write[i]);
+        i += 1;
     }
 }
 
 // Opens a cache of `k` blocks, with a rule of deduction by its number, for the first `n` items of the three arrays; entries past them
-// are not looked at. What is out of range comes first (3), then a number that is no rule's (18).
+// are not looked at. More items than there are places are out of range, whatever else is.
 fn opening(
     k: u32,
     rule: u32,
@@ -143,18 +110,19 @@ fn opening(
 ) -> Reply
     ensures { λ r. ⌜ Opened (opening k rule (catalogFrom n blocks load write)) (r .number) (r .cache) ⌝ }
 {
-    if !cache_parts::opens(k, n, blocks) {
+    if n > 256 {
         return refused_opening(3);
     }
-    if 1 < rule {
-        return refused_opening(18);
+    let mut catalog = [0u8; catalog_bytes::MOST_BYTES];
+    put_catalog(&mut catalog, n, blocks, load, write);
+    let mut b = [0u8; layout::STATE_BYTES];
+    let answer = cache_open::open(&mut b, k, rule, &catalog[..5 * n]);
+    if answer != 0 {
+        return refused_opening(answer);
     }
-    let b = cache_parts::first_bytes(n, blocks);
-    let l = cache_parts::first_costs(n, load);
-    let w = cache_parts::first_costs(n, write);
     Reply {
         number: 0,
-        cache: empty(k, n, b, l, w, false, types::deduction_of(rule)),
+        cache: bytes::decode(&b),
     }
 }
 

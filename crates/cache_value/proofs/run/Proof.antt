@@ -1,5 +1,4 @@
 -- `cache_value::run` meets its contract: the season theorem of its arguments. Assumes nothing.
-use native.Mathlib.Omega.{arith}
 use borrow.Author.Needs.{needs}
 use Rattle.landlord.specs.CallNumbers.{callsOf}
 use Rattle.cache_value.proofs.Answers.{opening-number}

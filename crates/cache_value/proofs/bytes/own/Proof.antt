@@ -2,13 +2,13 @@
 use borrow.Author.Needs.{needs}
 use Rattle.cache_state.specs.InnerWith.{withCapacity, withCount, withClosed, withSteps, withHits, withLoads, withEvictions, withDirtyEvictions, withWritebacks, withFlushes, withLoadCost, withWriteCost, withDirty, withRule, withLeft, withArrivals, withRetirements}
 use Rattle.layout.specs.Inner.{cleared}
-use Rattle.cache_value.specs.Inner.{first}
+use Rattle.cache_value.specs.Inner.{firstOf}
 use Rattle.cache_value.proofs.Places.{reads-on}
 use Rattle.cache_value.proofs.bytes.own.Statement.{statement}
 use Rattle.cache_value.proofs.bytes.own.Tie as tie
 
 returns : tie.Need-returns
-unfolding first
+unfolding firstOf
 returns c =
     reads-on withRetirements (c .retirements .ensures)
     (reads-on withArrivals (c .before .arrivals .ensures)

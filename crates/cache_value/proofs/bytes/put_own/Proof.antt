@@ -3,7 +3,7 @@ use mathlib.Core.Path.{_≡_, sym, _∙_}
 use borrow.Author.Needs.{needs}
 use Rattle.cache_state.specs.InnerWith.{withCapacity, withCount, withClosed, withSteps, withHits, withLoads, withEvictions, withDirtyEvictions, withWritebacks, withFlushes, withLoadCost, withWriteCost, withDirty, withRule, withLeft, withArrivals, withRetirements}
 use Rattle.layout.proofs.Places.{stands-on}
-use Rattle.cache_value.specs.Inner.{first}
+use Rattle.cache_value.specs.Inner.{firstOf}
 use Rattle.cache_value.proofs.bytes.put_own.Statement.{statement}
 use Rattle.cache_value.proofs.bytes.put_own.Tie as tie
 
@@ -11,7 +11,7 @@ same-length : tie.Need-same-length
 same-length c = (c .before .before .put-retirements) .ensures .size ∙ sym (c .before .before .before .before .before .before .before .before .before .before .before .before .before .before .before .before .before .before .before .before .before .before .before .before .before .before .before .before .before .before .before .before .before .before .before .before .before .before .before .before .before .before .before .before .before .before .before .before .before .before .before .before .before .before .before .before .before .before .before .before .before .before .before .before .before .before .before .before .before .before .before .before .before .before .before .pre .0)
 
 returns : tie.Need-returns
-unfolding first
+unfolding firstOf
 returns c =
     stands-on withRetirements (c .before .before .put-retirements .ensures)
     (stands-on withArrivals (c .before .before .before .before .before .before .put-arrivals .ensures)
