@@ -2,7 +2,6 @@
 -- n lines have been read (linesRead); the line leads on, and adds at most one, or stops the reading and is the line named. Assumes
 -- nothing.
 use mathlib.Core.Path.{_≡_, refl, ap, subst}
-use mathlib.Core.Logic.{⊎-elim}
 use mathlib.Core.Bool.{Bool, true, false, cond, _&&_, false≢true}
 use mathlib.Core.List.{List, [], _∷_}
 use Prim.Native.Nat.{ℕ, zero, suc, _+_, _*_, _-_, _≤_, _<_}
@@ -12,7 +11,7 @@ use lib.Dec.{leb, eqb}
 use Rattle.types.specs.declared.Refusal.{Refusal}
 use Rattle.types.specs.Types.{stepItem, actItem, refusalLine}
 use Rattle.landlord.specs.Catalog.{listed, catalogAfter}
-use Rattle.landlord.specs.Calls.{ifKnown, itemRefusal}
+use Rattle.landlord.specs.Steps.{ifKnown, itemRefusal}
 use Rattle.landlord.proofs.Folds.{either}
 use Rattle.season_lines.specs.declared.Names.{Names}
 use Rattle.season_lines.specs.declared.Names.the-variants.{Form, Unknown}
@@ -84,8 +83,7 @@ takes-by table fields n v (ActLine place act) l o =
     let number = ifKnown (catalogAfter (v .catalog) (take place (v .steps))) (actItem act) 0 in
     either (ByLine n) (inTurn v place) _ _
     (λ e. unless-by n number (actItem act) _ (omega (arith, length-append (v .acts) (a ∷ [])))) (λ e. refl)
-takes-by table fields n v (Refused r) l o =
-    ⊎-elim (λ m. ap refusalLine m) (⊎-elim (λ m. ap refusalLine m) (λ m. ap refusalLine m)) o
+takes-by table fields n v (Refused r) l o = o
 
 leads-by : (upto n : ℕ) (v : Sofar) (l : List ℕ) → linesRead v < n → ByLine n (leads upto v l n)
 unfolding leads
