@@ -6,9 +6,9 @@ use mathlib.Core.Bool.{Bool, true, false, cond, _&&_, false≢true}
 use mathlib.Core.List.{List}
 use Prim.Native.Nat.{ℕ, _≤_, _<_}
 use native.Mathlib.Omega.{arith}
-use lib.Dec.{leb, ltb, eqb}
+use lib.Dec.{ltb, eqb}
 use lib.ListN.{getD}
-use borrow.Author.Tests.{eqb-true, ltb-true, leb-true, leb-false}
+use borrow.Author.Tests.{eqb-true, ltb-true, leb-true}
 use Rattle.types.specs.declared.Step.the-variants.{Read, Write, Flush, Arrive, Retire}
 use Rattle.types.specs.declared.Numbers.{Numbers}
 use Rattle.types.specs.Types.{stepOf}
@@ -17,9 +17,12 @@ use Rattle.landlord.specs.Catalog.{itemAt, listed, itemInRange}
 use Rattle.landlord.specs.Slot.{splitOf}
 use Rattle.landlord.specs.Rule.{State, Moved, size, blocksAt, makeRoom, serveRead, serveWrite, step, joined}
 use Rattle.landlord.specs.Figures.{Standing, moved, took}
-use Rattle.landlord.specs.Calls.{isItemNumber, inRange, refusalAt}
+use Rattle.landlord.specs.Steps.{isItemNumber, inRange}
+use Rattle.landlord.specs.Calls.{stepCall}
 use Rattle.landlord.specs.Inner.{ItemFacts}
 use Rattle.landlord.proofs.Ranges.{item-facts}
+use Rattle.landlord.proofs.Steps.{free-range, passes}
+use Rattle.landlord.proofs.Calls.{open-log, open-step}
 use Rattle.landlord.proofs.Slots.{deduction-ok}
 use Rattle.landlord.proofs.Keeps.{make-room}
 use Rattle.landlord.proofs.Valid.{CanServe, room-ready, moved-joined}
@@ -35,16 +38,7 @@ use Rattle.cache_arrivals.specs.InnerReady.{ArrivableAt}
 use Rattle.cache.specs.Inner.{TablePasses}
 use Rattle.cache.proofs.Table.{Names, reads, writes, retires, names, Ranged, answer, itemAnswer, table-item, arrival-asked, asked, request-asked}
 
--- the tests that an answer of 0 has passed
-passes :
-    (a b c : Bool) (n : ℕ) →
-    cond a 9 (cond b 8 (cond c n 3)) ≡ 0 →
-    (a ≡ false) × (b ≡ false) × (c ≡ true)
-passes true b c n e = absurd (omega arith)
-passes false true c n e = absurd (omega arith)
-passes false false true n e = (refl, refl, refl)
-passes false false false n e = absurd (omega arith)
-
+-- the tests of an item that an answer of 0 has passed
 next-passes : (a : Bool) → _≡_ {A = ℕ} (cond a 0 19) 0 → a ≡ true
 next-passes true e = refl
 next-passes false e = absurd (omega arith)
@@ -66,10 +60,12 @@ both false b e = absurd (false≢true e)
 -- a step that the table does not refuse
 module _ (c : Cache) (n : Numbers) (free : answer c n ≡ 0) where
   free-ranged : Ranged c n
-  unfolding refusalAt
   free-ranged =
-      let f = passes (c .closed) (leb 1000000 (c .steps)) (inRange n) _ free in
-      record { isOpen = f .0; few = leb-false 1000000 (c .steps) (f .1); ranged = f .2 }
+      let p = passes (c .k) (catalogOf c) (c .steps) n (open-step (c .k) (catalogOf c) (c .steps) (c .closed) n free) in
+      record { isOpen = open-log (c .k) (catalogOf c) (c .steps) (c .closed) (stepCall n) free; few = p .few; ranged = p .range }
+
+  free-in-range : inRange n ≡ true
+  free-in-range = free-range n (free-ranged .ranged)
 
   item-free : itemAnswer c n ≡ 0
   item-free = table-item c n free-ranged ∙ free
@@ -80,7 +76,7 @@ module _ (c : Cache) (n : Numbers) (free : answer c n ≡ 0) where
     free-next = eqb-true (n .item) (c .n) (next-passes (eqb (n .item) (c .n)) (sym (arrival-asked c n e) ∙ item-free))
 
     arrival-ranged : (isItemNumber (n .item) ≡ true) × (itemInRange (listed (n .blocks) (n .load) (n .write)) ≡ true)
-    arrival-ranged = both (isItemNumber (n .item)) _ (rw e at (free-ranged .ranged))
+    arrival-ranged = both (isItemNumber (n .item)) _ (rw e at free-in-range)
 
     free-place : c .n < 256
     free-place = omega (arith, free-next, leb-true (n .item) 255 (arrival-ranged .0))
@@ -100,23 +96,23 @@ module _ (c : Cache) (n : Numbers) (free : answer c n ≡ 0) where
   -- the item of any other step is in the catalog
   free-known : n .kind ≢ 76 → n .kind ≢ 65 → n .item < c .n
   free-known f a =
-      let asks = asked c n (names n (free-ranged .ranged) f a) in
+      let asks = asked c n (names n free-in-range f a) in
       ltb-true (n .item) (c .n) (item-passes (ltb (n .item) (c .n)) (itemAt (catalogOf c) (n .item) .left) (asks .0) (sym (asks .1) ∙ item-free) .0)
 
   -- a read or a write: its item has not left, and has room
   module _ (f : n .kind ≢ 76) (a : n .kind ≢ 65) (q : n .kind ≢ 81) where
     free-stays : itemAt (catalogOf c) (n .item) .left ≡ false
-    free-stays = item-passes (ltb (n .item) (c .n)) _ _ (sym (request-asked c n (free-ranged .ranged) f a q) ∙ item-free) .1
+    free-stays = item-passes (ltb (n .item) (c .n)) _ _ (sym (request-asked c n free-in-range f a q) ∙ item-free) .1
 
     free-fits : getD (c .blocks) (n .item) 0 ≤ c .k
     free-fits =
-        let asks = item-passes (ltb (n .item) (c .n)) (itemAt (catalogOf c) (n .item) .left) _ (sym (request-asked c n (free-ranged .ranged) f a q) ∙ item-free) in
+        let asks = item-passes (ltb (n .item) (c .n)) (itemAt (catalogOf c) (n .item) .left) _ (sym (request-asked c n free-in-range f a q) ∙ item-free) in
         let b : itemAt (catalogOf c) (n .item) .blocks ≤ c .k = leb-true _ (c .k) (room-passes _ (asks .2)) in
         subst (λ (z : ℕ). z ≤ c .k) (blocks-is c (n .item) (free-known f a)) b
 
     -- the minutes of a write are in range
     free-write : n .kind ≢ 82 → n .kind ≡ 87
-    free-write r = go (names n (free-ranged .ranged) f a)
+    free-write r = go (names n free-in-range f a)
       where
         go : Names n → n .kind ≡ 87
         go (reads e) = absurd (r e)
@@ -124,7 +120,7 @@ module _ (c : Cache) (n : Numbers) (free : answer c n ≡ 0) where
         go (retires e) = absurd (q e)
 
     free-minutes : n .kind ≢ 82 → n .minutes ≤ 1440
-    free-minutes r = leb-true (n .minutes) 1440 (both (isItemNumber (n .item)) _ (rw (free-write r) at (free-ranged .ranged)) .1)
+    free-minutes r = leb-true (n .minutes) 1440 (both (isItemNumber (n .item)) _ (rw (free-write r) at free-in-range) .1)
 
     -- the room that was made: the item can be served there
     module _ (ok : Valid c) where

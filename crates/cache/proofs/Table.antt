@@ -14,7 +14,8 @@ use Rattle.types.specs.declared.Numbers.{Numbers}
 use Rattle.types.specs.Types.{stepOf}
 use Rattle.types.proofs.Steps.{step-read, step-write, step-arrive, step-retire}
 use Rattle.landlord.specs.Catalog.{Item, itemAt}
-use Rattle.landlord.specs.Calls.{stepCall, inRange, ifKnown, itemRefusal, refusalAt, refusalNow}
+use Rattle.landlord.specs.Steps.{inRange, rangeRefusal, ifKnown, itemRefusal, stepRefusal}
+use Rattle.landlord.specs.Calls.{stepCall, refusalAt, refusalNow}
 use Rattle.cache_state.specs.Cache.{Cache, leftAt, catalogOf, view}
 use Rattle.cache_state.proofs.Views.{size-is, item-is, blocks-is}
 use Rattle.layout.specs.Layout.{cacheOf, ValidBytes}
@@ -54,21 +55,21 @@ module _ (c : Cache) (n : Numbers) where
   table-closed e = rw e
 
   pub table-full : c .closed ≡ false → 1000000 ≤ c .steps → 8 ≡ answer
-  unfolding refusalAt
+  unfolding refusalAt stepRefusal
   table-full e l = rw (e, le-leb 1000000 (c .steps) l)
 
-  pub table-range : c .closed ≡ false → c .steps < 1000000 → inRange n ≡ false → 3 ≡ answer
-  unfolding refusalAt
-  table-range e l r = rw (e, lt-leb 1000000 (c .steps) l, r)
+  pub table-range : c .closed ≡ false → c .steps < 1000000 → (number : ℕ) → number ≡ rangeRefusal n → number ≢ 0 → number ≡ answer
+  unfolding refusalAt stepRefusal
+  table-range e l number is r = rw (e, lt-leb 1000000 (c .steps) l, ← is, ne-eqb number 0 r)
 
   -- an open cache with room in its log, asked for a step in range
   pub record Ranged : Type 0 where
     pub isOpen : c .closed ≡ false
     pub few : c .steps < 1000000
-    pub ranged : inRange n ≡ true
+    pub ranged : rangeRefusal n ≡ 0
 
   pub table-item : Ranged → itemAnswer ≡ answer
-  unfolding refusalAt
+  unfolding refusalAt stepRefusal
   table-item s = rw (s .isOpen, lt-leb 1000000 (c .steps) (s .few), s .ranged)
 
   -- ---- of the item

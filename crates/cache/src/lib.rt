@@ -4,7 +4,8 @@ ghost use mathlib.Core.Path.{_≡_};
 ghost use mathlib.Core.Bool.{true};
 ghost use Rattle.types.specs.Types.{stepOf};
 ghost use Rattle.landlord.specs.Figures.{took};
-ghost use Rattle.landlord.specs.Calls.{inRange, itemRefusal, refusalNow, stepCall, close};
+ghost use Rattle.landlord.specs.Steps.{inRange, itemRefusal};
+ghost use Rattle.landlord.specs.Calls.{refusalNow, stepCall, close};
 ghost use Rattle.cache_state.specs.Cache.{catalogOf, view};
 ghost use Rattle.layout.specs.Layout.{cacheOf, ValidBytes};
 ghost use Rattle.layout.specs.Inner.{BecomesAt};
@@ -20,12 +21,12 @@ fn item_refused(b: &[u8], n: Numbers) -> u32
     ensures { λ r. ⌜ r ≡ itemRefusal (cacheOf (now (b .entry)) .k) (catalogOf (cacheOf (now (b .entry)))) (stepOf n) ⌝ }
 {
     // A flush has no item.
-    if n.kind == 76 {
+    if n.kind == types::FLUSH {
         return 0;
     }
     let i = n.item as usize;
     let count = layout::count(b);
-    if n.kind == 65 {
+    if n.kind == types::ARRIVE {
         if i == count {
             return 0;
         }
@@ -38,7 +39,7 @@ fn item_refused(b: &[u8], n: Numbers) -> u32
         return 20;
     }
     // A retirement needs no room.
-    if n.kind == 81 {
+    if n.kind == types::RETIRE {
         return 0;
     }
     if layout::capacity(b) < (layout::blocks(b, i) as u32) {
@@ -58,8 +59,9 @@ fn refused(b: &[u8], n: Numbers) -> u32
     if 1000000 <= layout::steps(b) {
         return 8;
     }
-    if !landlord::in_range(n) {
-        return 3;
+    let range = landlord::range_refusal(n);
+    if range != 0 {
+        return range;
     }
     item_refused(b, n)
 }
@@ -69,21 +71,21 @@ fn serve(b: &mut [u8], n: Numbers)
     requires { ⌜ TablePasses (now b) n ⌝ }
     ensures { λ _. ⌜ BecomesAt (took (view (cacheOf (now (b .entry)))) (stepOf n)) (now (b .exit)) ⌝ }
 {
-    if n.kind == 76 {
+    if n.kind == types::FLUSH {
         cache_serve::flush_step(b);
         return;
     }
-    if n.kind == 65 {
+    if n.kind == types::ARRIVE {
         cache_arrivals::arrive(b, n.blocks as u8, n.load as u16, n.write as u16);
         return;
     }
     let i = n.item as usize;
-    if n.kind == 81 {
+    if n.kind == types::RETIRE {
         cache_arrivals::retire(b, i);
         return;
     }
     cache_room::make_room(b, i);
-    if n.kind == 82 {
+    if n.kind == types::READ {
         cache_serve::serve_read(b, i);
         return;
     }
@@ -103,8 +105,7 @@ pub fn step_valid(b: &mut [u8], n: Numbers) -> u32
     0
 }
 
-// A step by its numbers, on any bytes: 17 if they are no valid state, else as the table says. Its kind is the code of its letter, 82 for R,
-// 87 for W, 76 for L, 65 for A, 81 for Q.
+// A step by its numbers, on any bytes: 17 if they are no valid state, else as the table says.
 pub fn step(b: &mut [u8], n: Numbers) -> u32
     ensures { λ r. ⌜ Called lent (now (b .entry)) (stepCall n) r (now (b .exit)) ⌝ }
 {

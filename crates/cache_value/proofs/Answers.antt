@@ -10,7 +10,9 @@ use Rattle.types.specs.declared.Step.the-variants.{Read, Write, Flush, Arrive, 
 use Rattle.types.specs.Types.{Told, telling, stepOf, isDeduction}
 use Rattle.landlord.specs.Catalog.{Catalog, itemAt, capacityInRange, catalogInRange, noneLeft}
 use Rattle.landlord.specs.Figures.{Standing}
-use Rattle.landlord.specs.Calls.{Call, stepCall, close, callItem, inRange, ifKnown, itemRefusal, refusalAt, refusalNow, Opening, openingRefusal}
+use Rattle.landlord.specs.Steps.{rangeRefusal, ifKnown, itemRefusal, stepRefusal}
+use Rattle.landlord.specs.Calls.{Call, stepCall, close, callItem, refusalAt, refusalNow, Opening, openingRefusal}
+use Rattle.landlord.proofs.Steps.{range-few}
 use Rattle.cache.specs.Contract.{Called}
 use Rattle.cache_value.specs.declared.Cache.{Cache}
 use Rattle.cache_value.specs.declared.Answered.{Answered}
@@ -26,11 +28,11 @@ chosen false p q = q
 
 -- each number of the table is, whatever its tests say: a law of the rule's table alone
 table-number : (v : Standing) (call : Call) → refusalNow v call ≤ 20
-unfolding refusalAt
+unfolding refusalAt stepRefusal
 table-number v close = chosen (v .closed) (omega arith) (omega arith)
 table-number v (stepCall n) =
     chosen (v .closed) (omega arith)
-    (chosen (leb 1000000 (v .figures .totals .steps)) (omega arith) (chosen (inRange n) (asks (stepOf n)) (omega arith)))
+    (chosen (leb 1000000 (v .figures .totals .steps)) (omega arith) (chosen (eqb (rangeRefusal n) 0) (asks (stepOf n)) (range-few n)))
   where
     cat : Catalog
     cat = v .state .catalog

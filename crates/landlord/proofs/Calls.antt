@@ -1,67 +1,29 @@
 -- A list of calls against its log: the table lets the log through, every list of steps that the table lets through is the log
 -- of some calls, and the rule, asked call by call, stands where it stands over the log. Assumes nothing.
 use mathlib.Core.Path.{_≡_, refl, sym, ap, _∙_}
-use mathlib.Core.Bool.{Bool, true, false, cond, _&&_}
+use mathlib.Core.Bool.{Bool, true, false, cond}
 use mathlib.Core.List.{List, [], _∷_, _++_, append-nil, map}
 use Prim.Native.Nat.{ℕ, zero, suc, _≤_, _<_}
 use native.Mathlib.Omega.{arith}
 use native.Mathlib.Decide.{ℕ-discrete}
 use lib.ListN.{length, getD, drop, length-append, List·getD-append}
 use lib.Seq.{getD-append-seam, append-snoc, split-at}
-use lib.Dec.{leb, eqb}
+use lib.Dec.{eqb}
 use borrow.Author.Tests.{eqb-true, eq-eqb}
 use Rattle.types.specs.declared.Step.{Step}
-use Rattle.types.specs.declared.Step.the-variants.{Read, Write, Flush, Arrive, Retire}
+use Rattle.types.specs.declared.Step.the-variants.{Flush}
 use Rattle.types.specs.declared.Numbers.{Numbers}
-use Rattle.types.specs.Types.{stepOf}
+use Rattle.types.specs.Types.{numbersOf, stepOf}
 use Rattle.types.proofs.Steps.{same-step}
 use Rattle.landlord.specs.Fold.{fold}
-use Rattle.landlord.specs.Catalog.{Catalog, CatalogOk, listed, itemInRange, catalogAfter}
-use Rattle.landlord.specs.Slot.{Split}
+use Rattle.landlord.specs.Catalog.{Catalog, CatalogOk, catalogAfter}
 use Rattle.landlord.specs.Figures.{Standing, Start, opened, took, ran, season}
-use Rattle.landlord.specs.Calls.{Call, stepCall, close, Log, noLog, callOf, itemRefusal, refusalAt, refusalIn, refusal, refusalNow, logged, joins, logOf, ruleOver, accepted, after}
+use Rattle.landlord.specs.Steps.{stepRefusal}
+use Rattle.landlord.specs.Calls.{Call, stepCall, close, Log, noLog, callOf, refusalAt, refusalIn, refusal, refusalNow, logged, joins, logOf, ruleOver, accepted, after}
 use Rattle.landlord.specs.Claims.{SplitOk, AllowedLog}
 use Rattle.landlord.proofs.Folds.{either, fold-append, fold-more}
+use Rattle.landlord.proofs.Steps.{means}
 use Rattle.landlord.proofs.Logs.{StandsAfter, all-served, ran-stands, closes-stands}
-
--- A call of a known kind in range is answered as the step that it means: values that a step lacks are not looked at.
-pub means :
-    (k : ℕ) (cat : Catalog) (t : ℕ) (n : Numbers) →
-    refusalAt k cat t false (stepCall n) ≡ 0 →
-    refusalAt k cat t false (callOf (stepOf n)) ≡ 0
-unfolding refusalAt stepOf
-means k cat t n e = go (eqb (n .kind) 82) (eqb (n .kind) 87) (eqb (n .kind) 65) (eqb (n .kind) 81) (eqb (n .kind) 76) e
-  where
-    late : (a : Bool) → _≡_ {A = ℕ} (cond a 8 3) 0 → _≡_ {A = ℕ} (cond a 8 0) 0
-    late true e = e
-    late false e = absurd (omega arith)
-
-    meant : Bool → Bool → Bool → Bool → Step
-    meant a b c d =
-        cond a (Read (n .item))
-        (cond b (Write (n .item) (n .minutes))
-        (cond c (Arrive (n .item) (n .blocks) (n .load) (n .write))
-        (cond d (Retire (n .item))
-        Flush)))
-
-    ranged : Bool → Bool → Bool → Bool → Bool → Bool
-    ranged a b c d f =
-        cond a (leb (n .item) 255)
-        (cond b (leb (n .item) 255 && leb (n .minutes) 1440)
-        (cond c (leb (n .item) 255 && itemInRange (listed (n .blocks) (n .load) (n .write)))
-        (cond d (leb (n .item) 255)
-        f)))
-
-    go :
-        (a b c d f : Bool) →
-        _≡_ {A = ℕ} (cond (leb 1000000 t) 8 (cond (ranged a b c d f) (itemRefusal k cat (meant a b c d)) 3)) 0 →
-        refusalAt k cat t false (callOf (meant a b c d)) ≡ 0
-    go true b c d f e = e
-    go false true c d f e = e
-    go false false true d f e = e
-    go false false false true f e = e
-    go false false false false true e = e
-    go false false false false false e = late (leb 1000000 t) e
 
 -- an open log: a refused step on a closed one is refused with 9
 pub open-log : (k : ℕ) (cat : Catalog) (t : ℕ) (c : Bool) (call : Call) → refusalAt k cat t c call ≡ 0 → c ≡ false
@@ -70,6 +32,12 @@ open-log k cat t true (stepCall n) e = absurd (omega arith)
 open-log k cat t false (stepCall n) e = refl
 open-log k cat t true close e = absurd (omega arith)
 open-log k cat t false close e = refl
+
+-- and what the table says to a step then
+pub open-step : (k : ℕ) (cat : Catalog) (t : ℕ) (c : Bool) (n : Numbers) → refusalAt k cat t c (stepCall n) ≡ 0 → stepRefusal k cat t n ≡ 0
+unfolding refusalAt
+open-step k cat t true n e = absurd (omega arith)
+open-step k cat t false n e = e
 
 -- the first i of two lists joined, where the first list has so many
 take-front {ℓ} : {A : Type ℓ} (xs ys : List A) (i : ℕ) → i ≤ length xs → lib.ListN.take i (xs ++ ys) ≡ lib.ListN.take i xs
@@ -86,7 +54,7 @@ take-all (x ∷ xs) = ap (λ (z : List _). x ∷ z) (take-all xs)
 allowed-more :
     (k : ℕ) (cat : Catalog) (steps : List Step) (s : Step) →
     AllowedLog k cat steps →
-    refusalAt k (catalogAfter cat steps) (length steps) false (callOf s) ≡ 0 →
+    stepRefusal k (catalogAfter cat steps) (length steps) (numbersOf s) ≡ 0 →
     AllowedLog k cat (steps ++ (s ∷ []))
 allowed-more k cat steps s a e = record { each = λ i l. at i l (ℕ-discrete i (length steps)) }
   where
@@ -94,7 +62,7 @@ allowed-more k cat steps s a e = record { each = λ i l. at i l (ℕ-discrete i 
         (i : ℕ) →
         i < length (steps ++ (s ∷ [])) →
         Dec (i ≡ length steps) →
-        refusalAt k (catalogAfter cat (lib.ListN.take i (steps ++ (s ∷ [])))) i false (callOf (getD (steps ++ (s ∷ [])) i Flush)) ≡ 0
+        stepRefusal k (catalogAfter cat (lib.ListN.take i (steps ++ (s ∷ [])))) i (numbersOf (getD (steps ++ (s ∷ [])) i Flush)) ≡ 0
     at i l (yes q) = rw (q, getD-append-seam steps s [] Flush, take-front steps (s ∷ []) (length steps) (omega arith), take-all steps) e
     at i l (no q) =
         let b : i < length steps = omega (arith, length-append steps (s ∷ [])) in
@@ -109,8 +77,8 @@ joins-either k cat l call P taken kept =
 pub logged-allowed : (k : ℕ) (cat : Catalog) (l : Log) (call : Call) → AllowedLog k cat (l .steps) → refusalIn k cat l call ≡ 0 → AllowedLog k cat (logged l call .steps)
 logged-allowed k cat l (stepCall n) a e =
     let now : Catalog = catalogAfter cat (l .steps) in
-    let c : l .closed ≡ false = open-log k now (length (l .steps)) (l .closed) (stepCall n) e in
-    allowed-more k cat (l .steps) (stepOf n) a (means k now (length (l .steps)) n (rw c at e))
+    let t : ℕ = length (l .steps) in
+    allowed-more k cat (l .steps) (stepOf n) a (means k now t n (open-step k now t (l .closed) n e))
 logged-allowed k cat l close a e = a
 
 -- what holds of the empty log, and of a log that one call more joins, holds of the log of every list of calls
@@ -138,17 +106,17 @@ logged-one :
     (k : ℕ) (cat : Catalog) (seen rest : List Step) (s : Step) →
     AllowedLog k cat (seen ++ (s ∷ rest)) →
     joins k cat (open-with seen) (callOf s) ≡ open-with (seen ++ (s ∷ []))
-unfolding joins
+unfolding joins refusalAt
 logged-one k cat seen rest s a =
     let b : length seen < length (seen ++ (s ∷ rest)) = omega (arith, length-append seen (s ∷ rest)) in
     let now : Catalog = catalogAfter cat seen in
     let same : catalogAfter cat (lib.ListN.take (length seen) (seen ++ (s ∷ rest))) ≡ now =
     ap (λ (z : List Step). catalogAfter cat z) (take-front seen (s ∷ rest) (length seen) (omega arith) ∙ take-all seen)
     in
-    let e : refusalAt k now (length seen) false (callOf s) ≡ 0 =
-    (λ z. refusalAt k (sym same z) (length seen) false (callOf (sym (getD-append-seam seen s rest Flush) z))) ∙ a .each (length seen) b
+    let e : stepRefusal k now (length seen) (numbersOf s) ≡ 0 =
+    (λ z. stepRefusal k (sym same z) (length seen) (numbersOf (sym (getD-append-seam seen s rest Flush) z))) ∙ a .each (length seen) b
     in
-    rw (eq-eqb (refusalAt k now (length seen) false (callOf s)) 0 e) (ap (λ (q : Step). open-with (seen ++ (q ∷ []))) (same-step s))
+    rw (eq-eqb (stepRefusal k now (length seen) (numbersOf s)) 0 e) (ap (λ (q : Step). open-with (seen ++ (q ∷ []))) (same-step s))
 
 -- and every list of steps that the table lets through is the log of those steps as calls
 pub allowed-logged : (k : ℕ) (cat : Catalog) (steps : List Step) → AllowedLog k cat steps → logOf k cat (map callOf steps) ≡ open-with steps

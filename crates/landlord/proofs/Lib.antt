@@ -4,6 +4,7 @@ pub mod Potential
 pub mod Moves
 pub mod Folds
 pub mod Ranges
+pub mod Steps
 pub mod Catalogs
 pub mod Faults
 pub mod Slots

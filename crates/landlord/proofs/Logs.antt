@@ -11,17 +11,19 @@ use lib.Dec.{leb, ltb, eqb}
 use borrow.Author.Tests.{ltb-true, leb-true, eqb-true}
 use Rattle.types.specs.declared.Step.{Step}
 use Rattle.types.specs.declared.Step.the-variants.{Read, Write, Flush, Arrive, Retire}
-use Rattle.types.specs.Types.{numbersOf, stepOf}
+use Rattle.types.specs.Types.{numbersOf}
+use Rattle.types.proofs.Steps.{same-step}
 use Rattle.landlord.specs.Fold.{fold, sumTo}
 use Rattle.landlord.specs.Catalog.{Catalog, CatalogOk, itemAt, listed, itemInRange, catalogNext, catalogAfter}
 use Rattle.landlord.specs.Slot.{Split, held, isDirty}
 use Rattle.landlord.specs.Rule.{State, Event, hit, loaded, evicted, wroteBack, wrote, retired, Moved, dropItem, evict, victim, makeRoom, found, slotAt, writeBacks, flush, step, size, blocksAt}
 use Rattle.landlord.specs.Figures.{Totals, Figures, Standing, Start, totalsOf, plusTotals, adds, tally, opened, took, closes, ran}
-use Rattle.landlord.specs.Calls.{callOf, inRange, refusalAt}
+use Rattle.landlord.specs.Steps.{inRange, itemRefusal, stepRefusal}
 use Rattle.landlord.specs.Claims.{SplitOk, Kept, AllowedLog}
 use Rattle.landlord.specs.Inner.{paid}
 use Rattle.landlord.proofs.Sums.{sum-zero}
 use Rattle.landlord.proofs.Ranges.{and-left, and-right}
+use Rattle.landlord.proofs.Steps.{free-range, passes}
 use Rattle.landlord.proofs.Keeps.{Evicting, enough, more, RoomMade, make-room, Served, next-ok, step-kept, step-catalog, flush-keeps, flush-catalog, empty-kept}
 
 -- the item of a step is in the catalog, no larger than the cache, and has not left
@@ -31,36 +33,33 @@ known :
     (i < length cat) × (itemAt cat i .blocks ≤ k) × (itemAt cat i .left ≡ false)
 known k cat i f = (ltb-true i (length cat) (f .0), leb-true (itemAt cat i .blocks) k (f .2), f .1)
 
--- the tests of the table that an answer of 0 has passed
-clear : (a b c g d : Bool) → _≡_ {A = ℕ} (cond a 8 (cond b (cond c (cond g 20 (cond d 0 7)) 6) 3)) 0 → (c ≡ true) × (g ≡ false) × (d ≡ true)
-clear true b c g d e = absurd (omega arith)
-clear false true true true d e = absurd (omega arith)
-clear false true true false true e = (refl, refl, refl)
-clear false true true false false e = absurd (omega arith)
-clear false true false g d e = absurd (omega arith)
-clear false false c g d e = absurd (omega arith)
+-- the tests of an item that an answer of 0 has passed
+clear : (c g d : Bool) → _≡_ {A = ℕ} (cond c (cond g 20 (cond d 0 7)) 6) 0 → (c ≡ true) × (g ≡ false) × (d ≡ true)
+clear true true d e = absurd (omega arith)
+clear true false true e = (refl, refl, refl)
+clear true false false e = absurd (omega arith)
+clear false g d e = absurd (omega arith)
 
-clear-arrival : (a b c : Bool) → _≡_ {A = ℕ} (cond a 8 (cond b (cond c 0 19) 3)) 0 → (b ≡ true) × (c ≡ true)
-clear-arrival true b c e = absurd (omega arith)
-clear-arrival false true true e = (refl, refl)
-clear-arrival false true false e = absurd (omega arith)
-clear-arrival false false c e = absurd (omega arith)
+clear-arrival : (c : Bool) → _≡_ {A = ℕ} (cond c 0 19) 0 → c ≡ true
+clear-arrival true e = refl
+clear-arrival false e = absurd (omega arith)
 
-pub allowed-served : (k : ℕ) (cat : Catalog) (t : ℕ) (s : Step) → refusalAt k cat t false (callOf s) ≡ 0 → Served k cat s
-unfolding refusalAt stepOf
-allowed-served k cat t (Read i) e =
-    known k cat i (clear (leb 1000000 t) (inRange (numbersOf (Read i))) (ltb i (length cat)) (itemAt cat i .left) (leb (itemAt cat i .blocks) k) e)
-allowed-served k cat t (Write i minutes) e =
-    known k cat i (clear (leb 1000000 t) (inRange (numbersOf (Write i minutes))) (ltb i (length cat)) (itemAt cat i .left) (leb (itemAt cat i .blocks) k) e)
-allowed-served k cat t Flush e = tt
-allowed-served k cat t (Arrive i b l w) e =
-    let f = clear-arrival (leb 1000000 t) (inRange (numbersOf (Arrive i b l w))) (eqb i (length cat)) e in
-    let next : i ≡ length cat = eqb-true i (length cat) (f .1) in
-    let small : i ≤ 255 = leb-true i 255 (and-left (leb i 255) (itemInRange (listed b l w)) (f .0)) in
-    (next, omega arith, and-right (leb i 255) (itemInRange (listed b l w)) (f .0))
-allowed-served k cat t (Retire i) e =
-    let f = clear (leb 1000000 t) (inRange (numbersOf (Retire i))) (ltb i (length cat)) (itemAt cat i .left) true e in
-    (ltb-true i (length cat) (f .0), f .1)
+pub allowed-served : (k : ℕ) (cat : Catalog) (t : ℕ) (s : Step) → stepRefusal k cat t (numbersOf s) ≡ 0 → Served k cat s
+allowed-served k cat t s e =
+    let p = passes k cat t (numbersOf s) e in
+    by s (free-range (numbersOf s) (p .range)) (ap (itemRefusal k cat) (sym (same-step s)) ∙ p .item)
+  where
+    by : (s : Step) → inRange (numbersOf s) ≡ true → itemRefusal k cat s ≡ 0 → Served k cat s
+    by (Read i) r e = known k cat i (clear (ltb i (length cat)) (itemAt cat i .left) (leb (itemAt cat i .blocks) k) e)
+    by (Write i minutes) r e = known k cat i (clear (ltb i (length cat)) (itemAt cat i .left) (leb (itemAt cat i .blocks) k) e)
+    by Flush r e = tt
+    by (Arrive i b l w) r e =
+        let next : i ≡ length cat = eqb-true i (length cat) (clear-arrival (eqb i (length cat)) e) in
+        let small : i ≤ 255 = leb-true i 255 (and-left (leb i 255) (itemInRange (listed b l w)) r) in
+        (next, omega arith, and-right (leb i 255) (itemInRange (listed b l w)) r)
+    by (Retire i) r e =
+        let f = clear (ltb i (length cat)) (itemAt cat i .left) true e in
+        (ltb-true i (length cat) (f .0), f .1)
 
 -- each step of a list can be served, by the catalog as the steps before it have left it
 abbrev pub AllServed : ℕ → Catalog → List Step → Type 0
@@ -73,7 +72,7 @@ all-served k cat steps a = from 0 cat steps (λ i l. rw (let e : 0 + i ≡ i = o
   where
     from :
         (t : ℕ) (cat : Catalog) (steps : List Step) →
-        ((i : ℕ) → i < length steps → refusalAt k (catalogAfter cat (take i steps)) (t + i) false (callOf (getD steps i Flush)) ≡ 0) →
+        ((i : ℕ) → i < length steps → stepRefusal k (catalogAfter cat (take i steps)) (t + i) (numbersOf (getD steps i Flush)) ≡ 0) →
         AllServed k cat steps
     from t cat [] h = tt
     from t cat (s ∷ steps) h = (

@@ -12,7 +12,8 @@ use Rattle.types.specs.declared.Numbers.{Numbers}
 use Rattle.types.specs.Types.{isDeduction}
 use Rattle.landlord.specs.Fold.{tab}
 use Rattle.landlord.specs.Catalog.{Catalog, Item, itemAt, noItem, listed, blocksInRange, costInRange, itemInRange, allInRange, catalogInRange, noneLeft, capacityInRange, CatalogOk, CapacityOk}
-use Rattle.landlord.specs.Calls.{Opening, openingRefusal, inRange}
+use Rattle.landlord.specs.Steps.{inRange}
+use Rattle.landlord.specs.Calls.{Opening, openingRefusal}
 use Rattle.landlord.specs.Inner.{ItemFacts, CatalogFacts, CapacityFacts, OpeningRanges, OpeningOk}
 use Rattle.landlord.proofs.Folds.{tab-length, tab-at}
 

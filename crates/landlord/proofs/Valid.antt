@@ -9,7 +9,7 @@ use native.Mathlib.Decide.{ℕ-discrete}
 use native.Mathlib.Omega.{arith}
 use lib.ListN.{length}
 use lib.Dec.{leb, eqb}
-use borrow.Author.Tests.{eqb-true, leb-true, leb-false}
+use borrow.Author.Tests.{eqb-true, leb-true}
 use Rattle.types.specs.declared.Step.{Step}
 use Rattle.types.specs.declared.Step.the-variants.{Read, Write, Flush, Arrive, Retire}
 use Rattle.types.specs.Types.{numbersOf, stepOf}
@@ -18,7 +18,8 @@ use Rattle.landlord.specs.Catalog.{Catalog, Item, CatalogOk, CapacityOk,
 use Rattle.landlord.specs.Slot.{Slot, absent, clean, dirty, held, isDirty, Split, written}
 use Rattle.landlord.specs.Rule.{State, size, slotAt, blocksAt, used, heldCount, emptied, wrote, flushStep, evicted, retired, Moved, stay, joined, victim, evictItem, evict, makeRoom, putSlot, found, readSlot, serveRead, serveWrite, flush, arrive, dropItem, leave, step}
 use Rattle.landlord.specs.Figures.{Totals, Figures, Standing, Start, useAt, tally, opened, changed, moved, took, closes}
-use Rattle.landlord.specs.Calls.{Call, stepCall, close, callOf, inRange, itemRefusal, refusalAt, refusalNow, logOf, ruleOver, accepted, after, Opening, startOf, startsAt}
+use Rattle.landlord.specs.Steps.{inRange, stepRefusal}
+use Rattle.landlord.specs.Calls.{Call, stepCall, close, refusalNow, logOf, ruleOver, accepted, after, Opening, startOf, startsAt}
 use Rattle.landlord.specs.Inner.{OpeningOk}
 use Rattle.landlord.specs.Claims.{SplitOk, SlotKept, Kept, Least}
 use Rattle.landlord.specs.Valid.{dirtyCount, leftCount, StandingOk}
@@ -29,7 +30,8 @@ use Rattle.landlord.proofs.Catalogs.{one-longer, retired-length, left-n
 use Rattle.landlord.proofs.Slots.{blocks-divide, lose-dirty, read-held, write-held, write-kept, flush-clean}
 use Rattle.landlord.proofs.Keeps.{markSum, mark-change, evict-sum, evict-count, evict-catalog, evicted-slot, other-slot, evict-kept, Evicting, enough, more, RoomMade, make-room, put-same, put-other, put-kept, requested, flush-slot, flush-sum, flush-keeps, Served, empty-kept, grown, grown-sum, grown-kept, drop-slot, drop-catalog, drop-sum, drop-kept, leave-sum, leave-kept}
 use Rattle.landlord.proofs.Logs.{tally-part, room-sum, drop-events, stepsAdded, no-step, allowed-served}
-use Rattle.landlord.proofs.Calls.{means, open-log, rule-follows}
+use Rattle.landlord.proofs.Steps.{free-range, passes, means}
+use Rattle.landlord.proofs.Calls.{open-log, open-step, rule-follows}
 use Rattle.landlord.proofs.Counts.{CountsKept, nothing-counted, tallied, evicted-counted, found-counted, flush-counted, arrived-counted}
 
 -- the count of steps
@@ -525,35 +527,24 @@ pub ok-took :
 unfolding took
 ok-took v s ok r served few = ok-step v s ok r served few
 
--- the two first tests of the table that an answer of 0 has passed: the log is not full, and the numbers are in range
-passed : (a b : Bool) (z : ℕ) → cond a 8 (cond b z 3) ≡ 0 → (a ≡ false) × (b ≡ true)
-passed true b z e = absurd (omega arith)
-passed false true z e = (refl, refl)
-passed false false z e = absurd (omega arith)
-
--- a step that the table lets through: the log is not full, and the minutes are in range
-in-range : (k : ℕ) (cat : Catalog) (t : ℕ) (s : Step) → refusalAt k cat t false (callOf s) ≡ 0 → (t < 1000000) × (numbersOf s .minutes ≤ 1440)
-unfolding refusalAt stepOf
-in-range k cat t (Read i) e = (leb-false 1000000 t (passed (leb 1000000 t) (inRange (numbersOf (Read i))) (itemRefusal k cat (Read i)) e .0), omega arith)
-in-range k cat t (Write i m) e =
-    let f : (leb 1000000 t ≡ false) × (inRange (numbersOf (Write i m)) ≡ true) = passed (leb 1000000 t) (inRange (numbersOf (Write i m))) (itemRefusal k cat (Write i m)) e in
-    (leb-false 1000000 t (f .0), leb-true m 1440 (and-right (leb i 255) (leb m 1440) (f .1)))
-in-range k cat t Flush e = (leb-false 1000000 t (passed (leb 1000000 t) true 0 e .0), omega arith)
-in-range k cat t (Arrive i b l w) e =
-    (leb-false 1000000 t (passed (leb 1000000 t) (inRange (numbersOf (Arrive i b l w))) (itemRefusal k cat (Arrive i b l w)) e .0), omega arith)
-in-range k cat t (Retire i) e =
-    (leb-false 1000000 t (passed (leb 1000000 t) (inRange (numbersOf (Retire i))) (itemRefusal k cat (Retire i)) e .0), omega arith)
+-- the minutes of a step in range
+minutes-few : (s : Step) → inRange (numbersOf s) ≡ true → numbersOf s .minutes ≤ 1440
+minutes-few (Read i) r = omega arith
+minutes-few (Write i m) r = leb-true m 1440 (and-right (leb i 255) (leb m 1440) r)
+minutes-few Flush r = omega arith
+minutes-few (Arrive i b l w) r = omega arith
+minutes-few (Retire i) r = omega arith
 
 -- a call that is not refused
 accepted-ok : (v : Standing) (call : Call) → SplitOk (v .split) → StandingOk v → refusalNow v call ≡ 0 → StandingOk (accepted v call)
 accepted-ok v (stepCall n) ok o e =
-    let isOpen : v .closed ≡ false = open-log (v .k) (v .state .catalog) (taken v) (v .closed) (stepCall n) e in
-    let lets : refusalAt (v .k) (v .state .catalog) (taken v) false (callOf (stepOf n)) ≡ 0 =
-    means (v .k) (v .state .catalog) (taken v) n (rw isOpen at e)
-    in
-    let ranged : (taken v < 1000000) × (numbersOf (stepOf n) .minutes ≤ 1440) = in-range (v .k) (v .state .catalog) (taken v) (stepOf n) lets in
-    ok-took v (stepOf n) ok (record { standing = o; few = ranged .0; isOpen = isOpen })
-    (allowed-served (v .k) (v .state .catalog) (taken v) (stepOf n) lets) (ranged .1)
+    let k = v .k in
+    let cat = v .state .catalog in
+    let t = taken v in
+    let lets : stepRefusal k cat t (numbersOf (stepOf n)) ≡ 0 = means k cat t n (open-step k cat t (v .closed) n e) in
+    let p = passes k cat t (numbersOf (stepOf n)) lets in
+    ok-took v (stepOf n) ok (record { standing = o; few = p .few; isOpen = open-log k cat t (v .closed) (stepCall n) e })
+    (allowed-served k cat t (stepOf n) lets) (minutes-few (stepOf n) (free-range (numbersOf (stepOf n)) (p .range)))
 accepted-ok v close ok o e = ok-closes v o
 
 -- a call keeps the split

@@ -2,10 +2,10 @@
 -- Paper 01, 'The season as one list' and 'When the library says no'. Assumes nothing.
 use mathlib.Core.{Bool.{Bool, true, false, cond, _&&_}, List.{List, [], _∷_, _++_}}
 use Prim.Native.Nat.{ℕ}
-use lib.{ListN.length, Dec.{leb, ltb, eqb}}
-use Rattle.types.specs.declared.{Step.{Step, the-variants.{Read, Write, Flush, Arrive, Retire}}, Numbers.Numbers}
+use lib.{ListN.length, Dec.eqb}
+use Rattle.types.specs.declared.{Step.Step, Numbers.Numbers}
 use Rattle.types.specs.Types.{numbersOf, stepOf, isDeduction, deductionOf}
-use Rattle.landlord.specs.{Fold.fold, Catalog.{Catalog, itemAt, listed, catalogAfter, itemInRange, catalogInRange, noneLeft, capacityInRange}, Slot.splitOf, Figures.{Standing, Start, opened, took, closes, ran, season}}
+use Rattle.landlord.specs.{Fold.fold, Catalog.{Catalog, catalogAfter, catalogInRange, noneLeft, capacityInRange}, Slot.splitOf, Figures.{Standing, Start, opened, took, closes, ran, season}, Steps.stepRefusal}
 
 -- What an opening is given: the capacity, the number of a rule of deduction, and the catalog, in the form in which it is handed over.
 pub record Opening (C : Type 0) : Type 0 where
@@ -35,41 +35,10 @@ abbrev pub callItem : Call → ℕ
 callItem (stepCall n) = n .item
 callItem close = 0
 
--- "Sail numbers run from 0 to 255"; the 257th sail would have the number 256: "256 sails remain the limit by range"
-abbrev pub isItemNumber : ℕ → Bool
-isItemNumber i = leb i 255
-
--- a kind is R, W, L, A or Q, and the values that such a step has are in range: "a write with minutes 0 to 1,440", and an arrival's as a
--- catalogue line's
-abbrev pub inRange : Numbers → Bool
-inRange n =
-    cond (eqb (n .kind) 82) (isItemNumber (n .item))
-    (cond (eqb (n .kind) 87) (isItemNumber (n .item) && leb (n .minutes) 1440)
-    (cond (eqb (n .kind) 65) (isItemNumber (n .item) && itemInRange (listed (n .blocks) (n .load) (n .write)))
-    (cond (eqb (n .kind) 81) (isItemNumber (n .item))
-    (eqb (n .kind) 76))))
-
--- 6, 20, or what follows: "6 stranger: the sail is not in the catalogue"; "20 when a step or act names a sail whose Q is at an earlier
--- step, straight after 6". The catalog is as the steps before have left it.
-abbrev pub ifKnown : Catalog → ℕ → ℕ → ℕ
-ifKnown cat i next = cond (ltb i (length cat)) (cond (itemAt cat i .left) 20 next) 6
-
--- "7 too bulky: the sail has more than k blocks." A landing has no sail. "Q is never too bulky, and A is never a stranger or too bulky";
--- "19 when A does not carry the next unused number".
-abbrev pub itemRefusal : ℕ → Catalog → Step → ℕ
-itemRefusal k cat (Read i) = ifKnown cat i (cond (leb (itemAt cat i .blocks) k) 0 7)
-itemRefusal k cat (Write i minutes) = ifKnown cat i (cond (leb (itemAt cat i .blocks) k) 0 7)
-itemRefusal k cat Flush = 0
-itemRefusal k cat (Arrive i b l w) = cond (eqb i (length cat)) 0 19
-itemRefusal k cat (Retire i) = ifKnown cat i 0
-
 -- The refusal's number, 0 if there is none, when so many steps are taken and the log is closed or not, and the catalog is as those steps
 -- have left it: "A step checks 9, 8, 3, 6, 7; closing 9", with 19 for an arrival and 20 straight after 6.
 unfoldable pub refusalAt : ℕ → Catalog → ℕ → Bool → Call → ℕ
-refusalAt k cat taken isClosed (stepCall n) =
-    cond isClosed 9
-    (cond (leb 1000000 taken) 8
-    (cond (inRange n) (itemRefusal k cat (stepOf n)) 3))
+refusalAt k cat taken isClosed (stepCall n) = cond isClosed 9 (stepRefusal k cat taken n)
 refusalAt k cat taken isClosed close = cond isClosed 9 0
 
 -- the steps taken, in order, and whether a closing has ended the log

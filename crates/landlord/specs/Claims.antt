@@ -3,13 +3,13 @@
 use mathlib.Core.{Path._≡_, Bool.{true, false}, List.List}
 use Prim.Native.Nat.{ℕ, _+_, _*_, _-_, _≤_, _<_, _∣_}
 use lib.ListN.{length, getD, take}
-use Rattle.types.specs.declared.Step.{Step, the-variants.Flush}
-use Rattle.landlord.specs.{Fold.sumTo, Catalog.{Catalog, Item, itemAt, catalogAfter, CatalogOk, full, unit}, Slot.{Split, Slot, held, loadCredit, writeCredit}, Rule.{State, size, slotAt, used, precedence}, Figures.{Start, season, totalCost, leftSide, rightSide}, Plan.{Plan, price, costs}, Calls.{callOf, refusalAt}}
+use Rattle.types.specs.{declared.Step.{Step, the-variants.Flush}, Types.numbersOf}
+use Rattle.landlord.specs.{Fold.sumTo, Catalog.{Catalog, Item, itemAt, catalogAfter, CatalogOk, full, unit}, Slot.{Split, Slot, held, loadCredit, writeCredit}, Rule.{State, size, slotAt, used, precedence}, Figures.{Start, season, totalCost, leftSide, rightSide}, Plan.{Plan, price, costs}, Steps.stepRefusal}
 
 -- a list of steps that the table of refusals lets through, each at its place in an open log and by the catalog as the steps before it
 -- have left it
 pub record AllowedLog (k : ℕ) (cat : Catalog) (steps : List Step) : Type 0 where
-  pub each : (i : ℕ) → i < length steps → refusalAt k (catalogAfter cat (take i steps)) i false (callOf (getD steps i Flush)) ≡ 0
+  pub each : (i : ℕ) → i < length steps → stepRefusal k (catalogAfter cat (take i steps)) i (numbersOf (getD steps i Flush)) ≡ 0
 
 -- What a split "in multiples of the item's blocks" lets the write credit bear, t, of a loss: a multiple of the blocks, no
 -- more than the loss and no more than the write credit, and no more than the load credit is left to the load credit.

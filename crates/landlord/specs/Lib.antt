@@ -4,6 +4,7 @@ pub mod Slot
 pub mod Rule
 pub mod Figures
 pub mod Plan
+pub mod Steps
 pub mod Calls
 pub mod CallNumbers
 pub mod Claims

@@ -8,8 +8,8 @@ use Prim.Native.Nat.{ℕ, _+_, _*_, _-_, _≤_}
 use native.Mathlib.Omega.{arith}
 use lib.ListN.{getD}
 use Rattle.types.specs.declared.{Step.{Step, the-variants.Write}, Act.{Act, the-variants.{Evict, Fetch}}, Deduction.{Deduction, the-variants.{WriteFirst, LoadFirst}}}
-use Rattle.types.specs.Types.{numbersFrom, stepOf}
-use Rattle.landlord.specs.{Fold.{sumTo, tab, tabFrom, bestTo, fold}, Catalog.{Catalog, Item, listed, departed, allInRange, catalogInRange, noneLeft, unit}, Slot.{Slot, absent, clean, dirty, Split, writeFirst, splitOf}, Rule.{State, Event, hit, loaded, evicted, wroteBack, wrote, flushStep, arrived, retired, emptied, used, heldCount, precedence, victim, evictItem, evictFor, makeRoom, writeBacks, flush, dropItem, step}, Figures.{Totals, Use, Standing, start, totalsOf, useOf, tenthsOf, took, closes, season, totalCost, leftSide, rightSide}, Plan.{Plan, Priced, costs, fault, unknownItem, retiredItem, notHeld, alreadyHeld, requestNotHeld, overCapacity, planUsed, owed, planActs, allActs, planServes, priceFrom, price}, Claims.loadCredits, Calls.{Call, stepCall, close, Log, noLog, refusalAt, refusalIn, joins, logOf, ruleOver, Opening, opening, openingRefusal}}
+use Rattle.types.specs.Types.{numbersFrom, readKind, writeKind, flushKind, arriveKind, retireKind, stepOf}
+use Rattle.landlord.specs.{Fold.{sumTo, tab, tabFrom, bestTo, fold}, Catalog.{Catalog, Item, listed, departed, allInRange, catalogInRange, noneLeft, unit}, Slot.{Slot, absent, clean, dirty, Split, writeFirst, splitOf}, Rule.{State, Event, hit, loaded, evicted, wroteBack, wrote, flushStep, arrived, retired, emptied, used, heldCount, precedence, victim, evictItem, evictFor, makeRoom, writeBacks, flush, dropItem, step}, Figures.{Totals, Use, Standing, start, totalsOf, useOf, tenthsOf, took, closes, season, totalCost, leftSide, rightSide}, Plan.{Plan, Priced, costs, fault, unknownItem, retiredItem, notHeld, alreadyHeld, requestNotHeld, overCapacity, planUsed, owed, planActs, allActs, planServes, priceFrom, price}, Claims.loadCredits, Steps.{rangeRefusal, stepRefusal}, Calls.{Call, stepCall, close, Log, noLog, refusalAt, refusalIn, joins, logOf, ruleOver, Opening, opening, openingRefusal}}
 
 -- a rival of a row: its blocks, and its acts before step 0, 1, 2 and on; no acts after the last list
 pub record RowRival : Type 0 where
@@ -90,19 +90,19 @@ abbrev rival : ℕ → List (List Act) → RowRival
 rival h acts = record { blocks = h; acts = acts }
 
 abbrev read : ℕ → Call
-read i = stepOfThree 82 i 0
+read i = stepOfThree readKind i 0
 
 abbrev write : ℕ → ℕ → Call
-write i minutes = stepOfThree 87 i minutes
+write i minutes = stepOfThree writeKind i minutes
 
 abbrev flushCall : Call
-flushCall = stepOfThree 76 0 0
+flushCall = stepOfThree flushKind 0 0
 
 abbrev arrival : ℕ → ℕ → ℕ → ℕ → Call
-arrival i b l w = stepCall (numbersFrom 65 i 0 b l w)
+arrival i b l w = stepCall (numbersFrom arriveKind i 0 b l w)
 
 abbrev retirement : ℕ → Call
-retirement i = stepOfThree 81 i 0
+retirement i = stepOfThree retireKind i 0
 
 -- the catalog, the calls and the plan of paper 01's whole example
 abbrev three : Catalog
@@ -143,7 +143,7 @@ wholeExample =
 -- an item written for 5 minutes twice, and then read by a call that names minutes: a read has none
 abbrev fiveTwice : BenchRow
 fiveTwice =
-    row 1 (item 1 4 6 ∷ []) (write 0 5 ∷ write 0 5 ∷ stepOfThree 82 0 7 ∷ []) []
+    row 1 (item 1 4 6 ∷ []) (write 0 5 ∷ write 0 5 ∷ stepOfThree readKind 0 7 ∷ []) []
     (gives (0 ∷ 0 ∷ 0 ∷ []) 4 (counts 3 2 1 4 0 0 0 0 0)
     (useOf 10 1 0 ∷ []) [] (dirty 2882880 4324320 ∷ []) [])
 
@@ -238,7 +238,7 @@ benchRows =
     (useOf 0 1 0 ∷ useOf 0 2 0 ∷ useOf 0 2 0 ∷ useOf 0 1 0 ∷ []) (1 ∷ 2 ∷ 3 ∷ 1 ∷ []) (dirty 0 720720 ∷ absent ∷ clean 2882880 ∷ absent ∷ []) []) ∷
     -- Refusals, in the order of the calls: a kind that is none, item 256, 1,441 minutes, a stranger, too bulky, 1,441
     -- minutes for a stranger; values that a landing lacks; and every call after the closing.
-    row 2 (item 1 4 6 ∷ item 3 1 1 ∷ item 1 3 9 ∷ []) (stepOfThree 88 0 0 ∷ read 256 ∷ write 0 1441 ∷ read 3 ∷ read 1 ∷ write 3 1441 ∷ stepOfThree 76 999 9999 ∷ stepOfThree 82 2 9999 ∷ close ∷ read 0 ∷ close ∷ []) []
+    row 2 (item 1 4 6 ∷ item 3 1 1 ∷ item 1 3 9 ∷ []) (stepOfThree 88 0 0 ∷ read 256 ∷ write 0 1441 ∷ read 3 ∷ read 1 ∷ write 3 1441 ∷ stepOfThree flushKind 999 9999 ∷ stepOfThree readKind 2 9999 ∷ close ∷ read 0 ∷ close ∷ []) []
     (gives (3 ∷ 3 ∷ 3 ∷ 6 ∷ 7 ∷ 3 ∷ 0 ∷ 0 ∷ 0 ∷ 9 ∷ 9 ∷ []) 3 (counts 2 0 1 3 0 0 0 0 1)
     (useOf 0 0 0 ∷ useOf 0 0 0 ∷ useOf 0 1 0 ∷ []) [] (absent ∷ absent ∷ clean 2162160 ∷ []) []) ∷
     -- Plans over R 0, R 1, L: overfull between two acts, and priced; then a fault of each kind; 14 before 13 where both
@@ -305,7 +305,7 @@ benchRows =
 
 -- every row of the table is what the definitions give
 pub rows-right : map resultOf benchRows ≡ map (λ (r : BenchRow). r .expected) benchRows
-unfolding resultOf answers trace evictedItems sumTo tabFrom bestTo fold used heldCount precedence victim evictItem evictFor makeRoom writeBacks flush dropItem step took closes stepOf refusalAt joins ruleOver planUsed owed planActs allActs planServes priceFrom
+unfolding resultOf answers trace evictedItems sumTo tabFrom bestTo fold used heldCount precedence victim evictItem evictFor makeRoom writeBacks flush dropItem step took closes stepOf rangeRefusal stepRefusal refusalAt joins ruleOver planUsed owed planActs allActs planServes priceFrom
 rows-right = refl
 
 -- the tenths that are printed for a row's items
@@ -331,7 +331,7 @@ pub example-right :
     × (leftSide 3 2 (totalCost (exampleEnd .figures)) ≡ 56)
     × (rightSide 3 32 ≡ 96)
     × ((2 - 1) * loadCredits (exampleEnd .state) ≡ 7 * unit)
-unfolding sumTo tabFrom bestTo fold used heldCount precedence victim evictItem evictFor makeRoom writeBacks flush dropItem step took closes stepOf refusalAt joins
+unfolding sumTo tabFrom bestTo fold used heldCount precedence victim evictItem evictFor makeRoom writeBacks flush dropItem step took closes stepOf rangeRefusal stepRefusal refusalAt joins
 example-right = (refl, refl, refl, refl)
 
 -- The row '10 against 10': its season, and its rival as a plan.
@@ -446,15 +446,15 @@ questions =
     asksGone 0 false (read 2) 6 ∷
     asksGone 0 false (read 0) 0 ∷
     -- values that a step lacks are not looked at
-    asks 0 false (stepCall (numbersFrom 82 0 1441 17 65536 65536)) 0 ∷
-    asks 0 false (stepCall (numbersFrom 87 0 0 17 65536 65536)) 0 ∷
-    asks 0 false (stepCall (numbersFrom 65 2 1441 1 4 6)) 0 ∷
-    asks 0 false (stepCall (numbersFrom 81 0 1441 17 65536 65536)) 0 ∷
+    asks 0 false (stepCall (numbersFrom readKind 0 1441 17 65536 65536)) 0 ∷
+    asks 0 false (stepCall (numbersFrom writeKind 0 0 17 65536 65536)) 0 ∷
+    asks 0 false (stepCall (numbersFrom arriveKind 2 1441 1 4 6)) 0 ∷
+    asks 0 false (stepCall (numbersFrom retireKind 0 1441 17 65536 65536)) 0 ∷
     []
 
 -- every answer of the table is what the definition gives
 pub answers-right : map tableAnswer questions ≡ map (λ (q : Question). q .expected) questions
-unfolding tabFrom stepOf refusalAt
+unfolding tabFrom stepOf rangeRefusal stepRefusal refusalAt
 answers-right = refl
 
 -- a question to the table about an opening: the capacity, the number of the rule, the catalog; and the number that answers it

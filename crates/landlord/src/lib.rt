@@ -2,7 +2,7 @@
 // them is in specs/, and what runs is in the crates above.
 ghost use mathlib.Core.Path.{_≡_};
 ghost use Prim.Native.Nat.{ℕ};
-ghost use Rattle.landlord.specs.Calls.{inRange};
+ghost use Rattle.landlord.specs.Steps.{inRange, rangeRefusal};
 ghost use Rattle.landlord.specs.Catalog.{listed, itemInRange};
 ghost use Rattle.landlord.specs.Slot.{splitOf};
 use types::Deduction;
@@ -35,23 +35,33 @@ pub fn item_in_range(blocks: u32, load: u32, write: u32) -> bool
 }
 
 // Whether a step's kind is one of R, W, L, A and Q, and the values that such a step has are in their ranges.
-pub fn in_range(n: Numbers) -> bool
+fn in_range(n: Numbers) -> bool
     ensures { λ r. ⌜ r ≡ inRange n ⌝ }
 {
-    if n.kind == 76 {
+    if n.kind == types::FLUSH {
         return true;
     }
     if 255 < n.item {
         return false;
     }
-    if n.kind == 82 {
+    if n.kind == types::READ {
         return true;
     }
-    if n.kind == 87 {
+    if n.kind == types::WRITE {
         return n.minutes <= 1440;
     }
-    if n.kind == 65 {
+    if n.kind == types::ARRIVE {
         return item_in_range(n.blocks, n.load, n.write);
     }
-    n.kind == 81
+    n.kind == types::RETIRE
+}
+
+// What a step is refused with by its numbers: 3 if they are out of range, else 0.
+pub fn range_refusal(n: Numbers) -> u32
+    ensures { λ r. ⌜ r ≡ rangeRefusal n ⌝ }
+{
+    if in_range(n) {
+        return 0;
+    }
+    3
 }

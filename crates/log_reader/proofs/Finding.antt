@@ -16,10 +16,12 @@ use Rattle.decimal.proofs.Texts.{same-true}
 use Rattle.types.specs.declared.Step.the-variants.{Read, Write, Flush}
 use Rattle.types.specs.declared.Numbers.{Numbers}
 use Rattle.types.specs.Types.{numbersOf}
-use Rattle.landlord.specs.Calls.{inRange}
-use Rattle.season_lines.specs.Lines.{numbersUnder}
+use Rattle.landlord.specs.Steps.{inRange, rangeRefusal}
+use Rattle.landlord.proofs.Steps.{range-free}
+use Rattle.season_lines.specs.Lines.{rangeUnder}
 use Rattle.season_log.specs.Log.{noValues, stepText}
-use Rattle.season_log.proofs.Writing.{under-same, old-kind, end-new, end-old}
+use Rattle.season_log.proofs.Lines.{under-same}
+use Rattle.season_log.proofs.Writing.{old-kind, end-new, end-old}
 use Rattle.log_reader.specs.declared.Found.{Found}
 use Rattle.log_reader.specs.Inner.{part, DigitsAt, NumberAt, Stands, EndAt, Begins, FoundStep, FoundIn}
 
@@ -178,8 +180,8 @@ pub none-in : (form : ℕ) (text : List ℕ) (r : Found) → r .bytes ≡ 0 → 
 none-in form text r e = λ some. absurd (omega arith)
 
 -- a step that every heading has
-ranged-under : (form : ℕ) (n : Numbers) → (eqb (n .kind) 65 || eqb (n .kind) 81) ≡ false → inRange n ≡ true → inRange (numbersUnder form n) ≡ true
-ranged-under form n e r = ap inRange (under-same form n (old-kind form (n .kind) e)) ∙ r
+ranged-under : (form : ℕ) (n : Numbers) → (eqb (n .kind) 65 || eqb (n .kind) 81) ≡ false → inRange n ≡ true → rangeUnder form n ≡ 0
+ranged-under form n e r = ap rangeRefusal (under-same form n (old-kind form (n .kind) e)) ∙ range-free n r
 
 module _ (form : ℕ) (text : List ℕ) where
   pub read-begins :

@@ -6,7 +6,7 @@ use mathlib.Core.List.{List, [], _∷_, _++_, append-assoc, append-nil}
 use mathlib.Core.Logic.{_⊎_, inl, inr}
 use Prim.Native.Nat.{ℕ, suc, _+_, _*_, _-_, _≤_, _<_}
 use native.Mathlib.Omega.{arith}
-use borrow.Author.Tests.{ltb-true, ltb-false, lt-ltb, le-ltb, le-leb, lt-leb, ne-eqb}
+use borrow.Author.Tests.{ltb-true, ltb-false, lt-ltb, le-ltb, le-leb, lt-leb, eq-eqb, ne-eqb}
 use lib.Dec.{ltb, eqb}
 use lib.ListN.{length, take, drop, length-append, length-drop, drop-of-length-le, take-append-drop}
 use lib.Seq.{sets, sets-eq, length-sets, drop-drop, take-at}
@@ -29,10 +29,10 @@ use Rattle.season_lines.specs.declared.Names.{Names}
 use Rattle.season_lines.specs.declared.Names.the-variants.{Form, Unknown}
 use Rattle.season_lines.specs.declared.Line.{Line}
 use Rattle.season_lines.specs.declared.Line.the-variants.{Sizes, Item as ItemLine, Step as StepLine, Act as ActLine, Refused}
-use Rattle.season_lines.specs.Lines.{formOf, lineIn}
+use Rattle.season_lines.specs.Lines.{formOf, rangeUnder, lineIn}
 use Rattle.season_log.specs.Log.{Logged, steps, fault, ahead, noValues, stepText, numbersOnto, listOf, follows, readLines, headed, readTable, readLog}
 use Rattle.season_log.specs.Inner.{onward}
-use Rattle.season_log.proofs.Lines.{split-first, lineOf, step-line, line-lacks, no-step as refused-no-step, step-written, step-reads}
+use Rattle.season_log.proofs.Lines.{split-first, ranged, lineOf, step-line, line-lacks, no-step as refused-no-step, step-written, step-reads}
 use Rattle.season_log.proofs.OneText.{onward-none, onward-more, length-list}
 use Rattle.log_reader.specs.declared.Found.{Found}
 use Rattle.log_reader.specs.declared.Next.{Next}
@@ -144,10 +144,11 @@ module _ (form n : ℕ) (s : List ℕ) (m : ℕ) (e : m ≡ length (before 10 s)
 pub first-written : (form n : ℕ) (s : List ℕ) (t : Step) (m : ℕ) → Begins form s t m → FirstIs (firstLine form n s) s (NextStep t m)
 first-written form n s t m g =
     let rest : List ℕ = drop m s in
-    let size : length (stepText form t) ≡ length (lineOf form t) + 1 = ap length (step-line form t (g .ranged)) ∙ length-append (lineOf form t) (10 ∷ []) in
+    let r : ranged form t ≡ true = eq-eqb (rangeUnder form (numbersOf t)) 0 (g .ranged) in
+    let size : length (stepText form t) ≡ length (lineOf form t) + 1 = ap length (step-line form t r) ∙ length-append (lineOf form t) (10 ∷ []) in
     let text : s ≡ lineOf form t ++ (10 ∷ rest) =
     sym (take-append-drop m s)
-    ∙ ap (λ (l : List ℕ). l ++ rest) (g .line ∙ step-line form t (g .ranged))
+    ∙ ap (λ (l : List ℕ). l ++ rest) (g .line ∙ step-line form t r)
     ∙ append-assoc (lineOf form t) (10 ∷ []) rest in
     let pieces : before 10 s ∷ split-some 10 s .0 ≡ lineOf form t ∷ split 10 rest =
     sym (split-some 10 s .1) ∙ ap (split 10) text ∙ split-first 10 (lineOf form t) rest (line-lacks form t) in
@@ -156,7 +157,7 @@ first-written form n s t m g =
     omega (arith, ap length line, ap length text, length-append (lineOf form t) (10 ∷ rest)) in
     let reads : lineIn 2 form (fieldsOf (take (length (before 10 s)) s)) n ≡ StepLine t =
     ap (λ (l : List ℕ). lineIn 2 form (fieldsOf l) n) (before-take 10 s ∙ line)
-    ∙ step-reads form (lineOf form t) n t (g .ranged) (step-line form t (g .ranged)) in (
+    ∙ step-reads form (lineOf form t) n t r (step-line form t r) in (
       first-fed form n s (length (before 10 s)) refl (StepLine t) fed (sym reads),
       omega (arith, g .count, size, ap length line),
     )

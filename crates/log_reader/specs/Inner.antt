@@ -6,10 +6,9 @@ use Rattle.decimal.specs.{Decimal.{allDigits, valueOf, digitsOf}, InnerPages.te
 use Rattle.fields.specs.LittleEndian.{le}
 use Rattle.types.specs.declared.{Step.Step, Refusal.{Refusal, the-variants.Malformed}}
 use Rattle.types.specs.Types.{numbersFrom, numbersOf}
-use Rattle.landlord.specs.Calls.{inRange}
 use Rattle.line_fields.specs.{Fields.{split, fieldsOf}, Inner.before}
 use Rattle.season_lines.specs.declared.Line.{Line, the-variants.{Sizes, Item as ItemLine, Step as StepLine, Act as ActLine, Refused}}
-use Rattle.season_lines.specs.Lines.{numbersUnder, lineIn}
+use Rattle.season_lines.specs.Lines.{rangeUnder, lineIn}
 use Rattle.season_log.specs.Log.{Logged, steps, fault, noValues, stepText, listOf, follows, readLines}
 use Rattle.season_log.specs.Inner.{onward}
 use Rattle.log_reader.specs.declared.{Found.Found, Next.{Next, the-variants.{Step as NextStep, Refused as NextRefused}}, ReadAnswer.{ReadAnswer, the-variants.{Steps, Refused as Not}}}
@@ -44,7 +43,7 @@ EndAt form text at end = 0 < end → (end ≡ at + length (noValues form)) × St
 pub record Begins (form : ℕ) (text : List ℕ) (s : Step) (bytes : ℕ) : Type 0 where
   pub count : bytes ≡ length (stepText form s)
   pub line : take bytes text ≡ stepText form s
-  pub ranged : inRange (numbersUnder form (numbersOf s)) ≡ true
+  pub ranged : rangeUnder form (numbersOf s) ≡ 0
 
 -- a step by its numbers that a text begins with
 pub record FoundStep (form : ℕ) (text : List ℕ) (r : Found) : Type 0 where

@@ -108,7 +108,7 @@ fn none_found() -> Found
     ensures { λ r. ⌜ r .bytes ≡ 0 ⌝ }
 {
     Found {
-        kind: 76,
+        kind: types::FLUSH,
         item: 0,
         minutes: 0,
         bytes: 0,
@@ -147,7 +147,7 @@ fn read_in(heading: u32, text: &[u8]) -> Found
         return none_found();
     }
     Found {
-        kind: 82,
+        kind: types::READ,
         item: item.value,
         minutes: 0,
         bytes: end_at(heading, text, end + 2),
@@ -171,7 +171,7 @@ fn write_in(heading: u32, text: &[u8]) -> Found
         return none_found();
     }
     Found {
-        kind: 87,
+        kind: types::WRITE,
         item: item.value,
         minutes: minutes.value,
         bytes: end_at(heading, text, end),
@@ -194,7 +194,7 @@ fn step_in(heading: u32, text: &[u8]) -> Found
     }
     if decimal::same(&text[..5], b"L - -") {
         return Found {
-            kind: 76,
+            kind: types::FLUSH,
             item: 0,
             minutes: 0,
             bytes: end_at(heading, text, 5),

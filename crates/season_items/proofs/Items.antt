@@ -12,7 +12,7 @@ use borrow.Author.Tests.{lt-ltb, le-ltb, le-leb, lt-leb, ltb-true, eq-eqb, ne-eq
 use Rattle.types.specs.declared.Step.{Step}
 use Rattle.types.specs.declared.Step.the-variants.{Read, Arrive, Retire}
 use Rattle.landlord.specs.Catalog.{Catalog, Item, itemAt}
-use Rattle.landlord.specs.Calls.{ifKnown}
+use Rattle.landlord.specs.Steps.{ifKnown}
 use Rattle.marks.specs.Marks.{marked}
 use Rattle.marks.specs.Inner.{marks, firstSet}
 use Rattle.marks.proofs.Laws.{NextMark, next-is}

@@ -20,7 +20,7 @@ use Rattle.types.specs.Types.{numbersOf, stepOf}
 use Rattle.types.proofs.Steps.{same-step, step-read, step-write, step-arrive, step-retire, step-flush}
 use Rattle.landlord.specs.Catalog.{Catalog, Item, itemAt, listed, itemInRange, catalogNext, catalogAfter}
 use Rattle.landlord.proofs.Ranges.{and-left, and-right, item-facts}
-use Rattle.landlord.specs.Calls.{inRange, itemRefusal}
+use Rattle.landlord.specs.Steps.{inRange, itemRefusal}
 use Rattle.landlord.proofs.Catalogs.{Follows, one-longer, arrived-other, arrived-here, below-more, retired-here, retired-other, retired-length, next-follows, after-follows, after-append, after-more}
 use Rattle.marks.specs.Marks.{bit, marked}
 use Rattle.marks.specs.Inner.{marks}

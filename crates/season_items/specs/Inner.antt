@@ -3,8 +3,8 @@
 use mathlib.Core.{Path._≡_, Bool.{Bool, true, cond, _&&_}, List.{List, [], _∷_, _++_}}
 use Prim.Native.Nat.{ℕ, _+_, _*_, _≤_, _<_}
 use lib.{ListN.{length, take, drop, replicate, set}, Seq.sets, Dec.{ltb, eqb}}
-use Rattle.types.specs.{declared.{Step.{Step, the-variants.{Read, Write, Flush, Arrive, Retire}}, Numbers.Numbers, Act.Act}, Types.{stepOf, actKind, actItem}}
-use Rattle.landlord.specs.{Catalog.{Catalog, itemAt, listed, catalogNext, catalogAfter}, Calls.{ifKnown, itemRefusal}, CallNumbers.callNumbers}
+use Rattle.types.specs.{declared.{Step.{Step, the-variants.{Read, Write, Flush, Arrive, Retire}}, Numbers.Numbers, Act.Act}, Types.{arriveKind, retireKind, stepOf, actKind, actItem}}
+use Rattle.landlord.specs.{Catalog.{Catalog, itemAt, listed, catalogNext, catalogAfter}, Steps.{ifKnown, itemRefusal}, CallNumbers.callNumbers}
 use Rattle.marks.specs.{Marks.marked, Inner.marks}
 use Rattle.catalog_bytes.specs.{Catalogs.itemIn, Inner.itemBytes}
 use Rattle.season_items.specs.declared.Present.{Present}
@@ -81,11 +81,11 @@ TellsRefusal k p catalog s r = (cat : Catalog) → Tells cat p → HasItems cat 
 
 -- whether a step is the retirement of an item that is there
 abbrev pub isLeaving : Present → Numbers → Bool
-isLeaving p n = eqb (n .kind) 81 && ltb (n .item) (p .n)
+isLeaving p n = eqb (n .kind) retireKind && ltb (n .item) (p .n)
 
 -- one more step, by the count and the marks: an arrival is counted, and an item that leaves is marked
 pub record Advanced (p : Present) (n : Numbers) (r : Present) : Type 0 where
-  pub count : r .n ≡ cond (eqb (n .kind) 65) (p .n + 1) (p .n)
+  pub count : r .n ≡ cond (eqb (n .kind) arriveKind) (p .n + 1) (p .n)
   pub left : marks (r .left) ≡ cond (isLeaving p n) (set (marks (p .left)) (n .item) true) (marks (p .left))
 
 -- which is what is known after the step of whatever catalog that is known of

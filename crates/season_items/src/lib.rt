@@ -7,7 +7,7 @@ ghost use Prim.Native.Nat.{_+_, _*_, _≤_};
 ghost use lib.ListN.{length};
 ghost use Rattle.types.specs.declared.Step.the-variants.{Read};
 ghost use Rattle.types.specs.Types.{stepOf};
-ghost use Rattle.landlord.specs.Calls.{inRange};
+ghost use Rattle.landlord.specs.Steps.{inRange};
 ghost use Rattle.landlord.specs.CallNumbers.{callNumbers, numbersBehind};
 ghost use Rattle.season_items.specs.Inner.{callWidth, actWidth, mostNoted, itemRoom, Lookable, Walkable, actNoted, putAt, nonePresent, knownNumber, Advanced, CatchesUp, TellsRefusal, withArrival};
 use types::Act;
@@ -94,12 +94,12 @@ pub fn advanced(p: Present, step: Numbers) -> Present
     ensures { λ r. ⌜ Advanced p step r ⌝ }
 {
     let mut q = p;
-    if step.kind == 65 {
+    if step.kind == types::ARRIVE {
         q.n = p.n + 1;
         return q;
     }
     let i = step.item as usize;
-    if step.kind == 81 && i < p.n {
+    if step.kind == types::RETIRE && i < p.n {
         let before = p.left;
         let left = marks::mark(before, i);
         q.left = left;
@@ -142,7 +142,7 @@ pub fn put_arrival(catalog: &mut [u8], step: Numbers)
     requires { ⌜ (inRange step ≡ true) × (itemRoom ≤ length (now catalog)) ⌝ }
     ensures { λ _. ⌜ now (catalog .exit) ≡ withArrival (stepOf step) (now (catalog .entry)) ⌝ }
 {
-    if step.kind == 65 {
+    if step.kind == types::ARRIVE {
         catalog_bytes::put(
             catalog,
             step.item as usize,

@@ -5,16 +5,17 @@ use mathlib.Core.Bool.{Bool, true, false, cond, _&&_}
 use mathlib.Core.List.{List, map}
 use Prim.Native.Nat.{ℕ}
 use native.Mathlib.Omega.{arith}
-use borrow.Author.Tests.{leb-true}
+use borrow.Author.Tests.{leb-true, eqb-true}
 use lib.Dec.{leb, eqb}
 use lib.ListN.{length-map}
 use Rattle.types.specs.declared.Numbers.{Numbers}
 use Rattle.types.specs.declared.Step.the-variants.{Read, Write, Flush, Arrive, Retire}
 use Rattle.types.specs.declared.Deduction.the-variants.{WriteFirst}
-use Rattle.types.specs.declared.Refusal.the-variants.{UnknownRule}
-use Rattle.types.specs.Types.{numbersFrom, stepOf}
-use Rattle.landlord.specs.Calls.{isItemNumber, inRange}
+use Rattle.types.specs.declared.Refusal.the-variants.{Malformed}
+use Rattle.types.specs.Types.{numbersFrom, stepOf, telling, refusalFrom}
+use Rattle.landlord.specs.Steps.{isItemNumber, rangeRefusal}
 use Rattle.landlord.specs.Catalog.{listed, itemInRange}
+use Rattle.landlord.proofs.Steps.{free-range}
 use Rattle.line_fields.specs.declared.Field.{Field}
 use Rattle.line_fields.specs.declared.Field.the-variants.{Number, Letter, Dash, Word, Empty, Rule}
 use Rattle.line_fields.specs.Fields.{fieldAt, isRule, valueIn, ruleIn}
@@ -23,29 +24,32 @@ use Rattle.line_fields.proofs.Laws.{and-parts}
 use Rattle.line_fields.proofs.Held.{held-number, held-dash, held-letter, held-rule, held-rule-in, held-most, held-least, held-is, held-same, at-held, none-held}
 use Rattle.season_lines.specs.declared.Line.{Line}
 use Rattle.season_lines.specs.declared.Line.the-variants.{Sizes, Item as ItemLine, Step, Act as Placed, Refused}
-use Rattle.season_lines.specs.Lines.{shapeThenRange, sizesLine, ruleField, itemLine, kindUnder, valueField, stepShape, stepLine, actOf, actLine, valuesIn, lineIn}
-use Rattle.season_lines.proofs.Laws.{item-bounds, sizesShape, itemShape, actsShape, sizesRange, itemsRange, actsRange}
-use Rattle.season_lines.proofs.Pieces.{sizes-bounds, acts-bounds}
+use Rattle.season_lines.specs.Lines.{judged, sizesLine, ruleField, itemLine, kindUnder, valueField, stepShape, stepLine, actOf, actLine, valuesIn, lineIn}
+use Rattle.season_lines.proofs.Laws.{item-bounds, sizesShape, itemShape, actsShape, sizesRange, itemsRange, actsRange, or-3, or-18-or-3}
+use Rattle.season_lines.proofs.Pieces.{not-3, sizes-bounds, acts-bounds}
 
 -- ## The line of each table
 
--- lines of the same shape and in the same range, that say the same if they are in range
+-- lines of the same shape and of the same number, that say the same if that is 0
 same-judged :
-    (s t p q : Bool) (l m : Line) (n : ℕ) →
+    (s t : Bool) (p q : ℕ) (l m : Line) (n : ℕ) →
     s ≡ t →
     p ≡ q →
-    (q ≡ true → l ≡ m) →
-    shapeThenRange s p l n ≡ shapeThenRange t q m n
-same-judged s t p q l m n a b c = rw (a, b) (go t q c)
+    (q ≡ 0 → l ≡ m) →
+    judged s p l n ≡ judged t q m n
+same-judged s t p q l m n a b c = rw (a, b) (go t (eqb q 0) refl)
   where
-    go : (t q : Bool) → (q ≡ true → l ≡ m) → shapeThenRange t q l n ≡ shapeThenRange t q m n
-    go true true c = c refl
-    go true false c = refl
-    go false q c = refl
+    no : Line
+    no = Refused (refusalFrom (telling q n 0))
+
+    go : (t w : Bool) → eqb q 0 ≡ w → cond t (cond w l no) (Refused (Malformed n)) ≡ cond t (cond w m no) (Refused (Malformed n))
+    go true true e = c (eqb-true q 0 e)
+    go true false e = refl
+    go false w e = refl
 
 held-sizes : (k h rule : Field) (n : ℕ) → sizesLine (heldField k) (heldField h) (heldField rule) n ≡ sizesLine k h rule n
 unfolding sizesLine
-held-sizes k h rule n = same-judged _ _ _ _ _ _ n shape range says
+held-sizes k h rule n = same-judged _ _ _ _ _ _ n shape (λ i. or-18-or-3 (range i) (held-rule rule i)) says
   where
     shape : sizesShape (heldField k) (heldField h) ≡ sizesShape k h
     shape = rw (held-number k, held-number h)
@@ -59,27 +63,18 @@ held-sizes k h rule n = same-judged _ _ _ _ _ _ n shape range says
           held-most h 4096 (omega arith),
         )
 
-    -- what a line of these sizes says
-    by : ℕ → ℕ → Field → Line
-    by a b w = cond (isRule w) (Sizes a b (ruleIn w)) (Refused (UnknownRule n))
-
     says :
-        sizesRange (valueIn k) (valueIn h) ≡ true →
-        by (valueIn (heldField k)) (valueIn (heldField h)) (heldField rule) ≡ by (valueIn k) (valueIn h) rule
+        or-18-or-3 (sizesRange (valueIn k) (valueIn h)) (isRule rule) ≡ 0 →
+        Sizes (valueIn (heldField k)) (valueIn (heldField h)) (ruleIn (heldField rule)) ≡ Sizes (valueIn k) (valueIn h) (ruleIn rule)
     says e =
-        let b = sizes-bounds (valueIn k) (valueIn h) e in
-        rw (
-          held-same k 4096 (omega arith) (b .1),
-          held-same h 4096 (omega arith) (b .3),
-          held-rule rule,
-          held-rule-in rule,
-        )
+        let b = sizes-bounds (valueIn k) (valueIn h) (not-3 (sizesRange (valueIn k) (valueIn h)) _ e) in
+        rw (held-same k 4096 (omega arith) (b .1), held-same h 4096 (omega arith) (b .3), held-rule-in rule)
 
 held-item :
     (i b l w : Field) (n : ℕ) →
     itemLine (heldField i) (heldField b) (heldField l) (heldField w) n ≡ itemLine i b l w n
 unfolding itemLine
-held-item i b l w n = same-judged _ _ _ _ _ _ n shape range says
+held-item i b l w n = same-judged _ _ _ _ _ _ n shape (ap or-3 range) (λ e. says (not-3 (itemsRange (valueIn i) (valueIn b) (valueIn l) (valueIn w)) 0 e))
   where
     shape : itemShape (heldField i) (heldField b) (heldField l) (heldField w) ≡ itemShape i b l w
     shape = rw (held-number i, held-number b, held-number l, held-number w)
@@ -125,7 +120,8 @@ module _ (letter : ℕ) (item minutes blocks load write : Field) where
   unfolding stepShape
   held-shape = rw (held-number item, held-dash item, held-number minutes, held-dash minutes, held-number blocks, held-dash blocks, held-number load, held-dash load, held-number write, held-dash write)
 
-  held-range : inRange heldNumbers ≡ inRange numbers
+  held-range : rangeRefusal heldNumbers ≡ rangeRefusal numbers
+  unfolding rangeRefusal
   held-range =
       rw (
         held-most item 255 (omega arith),
@@ -136,9 +132,9 @@ module _ (letter : ℕ) (item minutes blocks load write : Field) where
         held-most write 65535 (omega arith),
       )
 
-  held-step-of : inRange numbers ≡ true → stepOf heldNumbers ≡ stepOf numbers
+  held-step-of : rangeRefusal numbers ≡ 0 → stepOf heldNumbers ≡ stepOf numbers
   unfolding stepOf
-  held-step-of e = go (eqb letter 82) (eqb letter 87) (eqb letter 65) (eqb letter 81) e
+  held-step-of e = go (eqb letter 82) (eqb letter 87) (eqb letter 65) (eqb letter 81) (free-range numbers e)
     where
       i : ℕ
       i = valueIn item
@@ -199,7 +195,7 @@ held-act :
     (place kind item : Field) (n : ℕ) →
     actLine (heldField place) (heldField kind) (heldField item) n ≡ actLine place kind item n
 unfolding actLine
-held-act place kind item n = same-judged _ _ _ _ _ _ n shape range says
+held-act place kind item n = same-judged _ _ _ _ _ _ n shape (ap or-3 range) (λ e. says (not-3 (actsRange (valueIn place) (valueIn kind) (valueIn item)) 0 e))
   where
     shape :
         actsShape (heldField place) (heldField kind) (valueIn (heldField kind)) (heldField item)

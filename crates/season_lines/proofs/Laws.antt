@@ -3,7 +3,7 @@
 use mathlib.Core.Path.{_≡_, refl, sym, ap, _∙_}
 use mathlib.Core.Bool.{Bool, true, false, cond, not, _&&_, false≢true}
 use mathlib.Core.List.{List, [], _∷_}
-use mathlib.Core.Logic.{_⊎_, ⊎-elim}
+use mathlib.Core.Logic.{_≢_, _⊎_, ⊎-elim}
 use Prim.Native.Nat.{ℕ, zero, suc, _≤_, _<_}
 use native.Mathlib.Omega.{arith}
 use borrow.Author.Tests.{eq-eqb, ne-eqb, eqb-true, eqb-false, not-true, not-false}
@@ -15,16 +15,19 @@ use Rattle.types.specs.declared.Numbers.{Numbers}
 use Rattle.types.specs.declared.Act.the-variants.{Evict, Fetch}
 use Rattle.types.specs.declared.Deduction.{Deduction}
 use Rattle.types.specs.declared.Deduction.the-variants.{WriteFirst}
+use Rattle.types.specs.declared.Refusal.{Refusal}
 use Rattle.types.specs.declared.Refusal.the-variants.{Malformed, OutOfRange, UnknownRule}
-use Rattle.types.specs.Types.{numbersFrom, stepOf}
-use Rattle.landlord.specs.Calls.{inRange}
+use Rattle.types.specs.Types.{numbersFrom, stepOf, telling, told, refusalFrom}
+use Rattle.types.proofs.Refusals.{refusal-is}
+use Rattle.landlord.specs.Steps.{rangeRefusal}
 use Rattle.landlord.specs.Catalog.{listed, capacityInRange, itemInRange}
 use Rattle.line_fields.specs.declared.Field.{Field}
 use Rattle.line_fields.specs.declared.Field.the-variants.{Number, Dash, Rule}
 use Rattle.line_fields.specs.Fields.{split, fieldAt, isNumber, isLetter, isRule, valueIn, ruleIn, noneEmpty, isEither}
 use Rattle.season_lines.specs.declared.Names.the-variants.{Form, Unknown}
+use Rattle.season_lines.specs.declared.Line.{Line}
 use Rattle.season_lines.specs.declared.Line.the-variants.{Sizes, Item as ItemLine, Step, Act as Placed, Refused}
-use Rattle.season_lines.specs.Lines.{headings, namesIn, formAmong, formOf, sizesLine, ruleField, itemLine, kindUnder, valueField, stepShape, stepLine, isActKind, actOf, actLine, valuesIn, lineIn}
+use Rattle.season_lines.specs.Lines.{headings, namesIn, formAmong, formOf, judged, sizesLine, ruleField, itemLine, kindUnder, numbersUnder, valueField, stepShape, stepLine, isActKind, actOf, actLine, valuesIn, lineIn}
 use Rattle.landlord.proofs.Ranges.{item-facts}
 
 -- ## Tests
@@ -124,6 +127,13 @@ itemsRange i b l w = leb i 255 && itemInRange (listed b l w)
 abbrev pub actsRange : ℕ → ℕ → ℕ → Bool
 actsRange place kind item = leb place 999999 && isActKind kind && leb item 255
 
+-- what it is refused with by them: 3, or nothing, or the sizes by their rule's word
+abbrev pub or-3 : Bool → ℕ
+or-3 range = cond range 0 3
+
+abbrev pub or-18-or-3 : Bool → Bool → ℕ
+or-18-or-3 range worded = cond range (cond worded 0 18) 3
+
 -- A line that lacks its table's shape; and one that has it, by its values, out of range and in range.
 module _ (k h rule : Field) (n : ℕ) where
   pub sizes-malformed : (isNumber k ≡ false) ⊎ (isNumber h ≡ false) → Refused (Malformed n) ≡ sizesLine k h rule n
@@ -132,13 +142,13 @@ module _ (k h rule : Field) (n : ℕ) where
 
   module _ (a b : ℕ) (ea : a ≡ valueIn k) (eb : b ≡ valueIn h) (s : sizesShape k h ≡ true) where
     pub sizes-far : sizesRange a b ≡ false → Refused (OutOfRange n) ≡ sizesLine k h rule n
-    unfolding sizesLine
+    unfolding sizesLine refusalFrom
     sizes-far r = rw (s, ← ea, ← eb, r)
 
     -- in range, the rule's word decides
     module _ (r : sizesRange a b ≡ true) where
       pub sizes-odd : isRule rule ≡ false → Refused (UnknownRule n) ≡ sizesLine k h rule n
-      unfolding sizesLine
+      unfolding sizesLine refusalFrom
       sizes-odd w = rw (s, ← ea, ← eb, r, w)
 
       pub sizes-good : isRule rule ≡ true → (word : Deduction) → word ≡ ruleIn rule → Sizes a b word ≡ sizesLine k h rule n
@@ -162,34 +172,45 @@ module _ (i b l w : Field) (n : ℕ) where
     where
       pub item-far :
           (leb vi 255 ≡ false) ⊎ (itemInRange (listed vb vl vw) ≡ false) → Refused (OutOfRange n) ≡ itemLine i b l w n
-      unfolding itemLine
+      unfolding itemLine refusalFrom
       item-far r = rw (s, ← ei, ← eb, ← el, ← ew, one-of-2 (leb vi 255) (itemInRange (listed vb vl vw)) r)
 
       pub item-good : itemsRange vi vb vl vw ≡ true → ItemLine vi vb vl vw ≡ itemLine i b l w n
       unfolding itemLine
       item-good r = rw (s, ← ei, ← eb, ← el, ← ew, r)
 
-module _ (form : ℕ) (kind item minutes blocks load write : Field) (n letter : ℕ) (ek : letter ≡ kindUnder form (valueIn kind)) where
-  pub step-malformed :
-      (isLetter kind ≡ false) ⊎ (stepShape letter item minutes blocks load write ≡ false) →
-      Refused (Malformed n) ≡ stepLine form kind item minutes blocks load write n
-  unfolding stepLine
-  step-malformed e = rw (← ek, one-of-2 (isLetter kind) (stepShape letter item minutes blocks load write) e)
+-- the numbers in the fields of a step's line
+abbrev pub valuesOf : Field → Field → Field → Field → Field → Field → Numbers
+valuesOf kind item minutes blocks load write =
+    numbersFrom (valueIn kind) (valueIn item) (valueIn minutes) (valueIn blocks) (valueIn load) (valueIn write)
 
-  module _
-      (x : Numbers)
-      (ex : x ≡ numbersFrom letter (valueIn item) (valueIn minutes) (valueIn blocks) (valueIn load) (valueIn write))
-      (s : stepsShape kind letter item minutes blocks load write ≡ true)
-    where
-      pub step-far : inRange x ≡ false → Refused (OutOfRange n) ≡ stepLine form kind item minutes blocks load write n
-      unfolding stepLine
-      step-far r = let far = ap inRange (sym ex) ∙ r in rw (← ek, s, far)
+module _
+    (form : ℕ)
+    (kind item minutes blocks load write : Field)
+    (n : ℕ)
+    (x : Numbers)
+    (ex : x ≡ numbersUnder form (valuesOf kind item minutes blocks load write))
+  where
+    -- the line by those numbers
+    abbrev lineBy : Numbers → Line
+    lineBy y = judged (stepsShape kind (y .kind) item minutes blocks load write) (rangeRefusal y) (Step (stepOf y)) n
 
-      pub step-good : inRange x ≡ true → Step (stepOf x) ≡ stepLine form kind item minutes blocks load write n
-      unfolding stepLine
-      step-good r =
-          let near = ap inRange (sym ex) ∙ r in
-          ap (λ (y : Numbers). Step (stepOf y)) ex ∙ (rw (← ek, s, near))
+    line-is : lineBy x ≡ stepLine form kind item minutes blocks load write n
+    unfolding stepLine
+    line-is = ap lineBy ex
+
+    pub step-malformed :
+        (isLetter kind ≡ false) ⊎ (stepShape (x .kind) item minutes blocks load write ≡ false) →
+        Refused (Malformed n) ≡ stepLine form kind item minutes blocks load write n
+    step-malformed e = rw (← line-is, one-of-2 (isLetter kind) (stepShape (x .kind) item minutes blocks load write) e)
+
+    module _ (s : stepsShape kind (x .kind) item minutes blocks load write ≡ true) (number : ℕ) (en : number ≡ rangeRefusal x) where
+      pub step-far :
+          number ≢ 0 → (r : Refusal) → told r ≡ telling number n 0 → Refused r ≡ stepLine form kind item minutes blocks load write n
+      step-far f r e = rw (← line-is, s, ← en, ne-eqb number 0 f) (ap Refused (refusal-is r (telling number n 0) e))
+
+      pub step-good : number ≡ 0 → Step (stepOf x) ≡ stepLine form kind item minutes blocks load write n
+      step-good f = rw (← line-is, s, ← en, f)
 
 module _ (place kind item : Field) (n letter : ℕ) (ek : letter ≡ valueIn kind) where
   pub act-malformed :
@@ -202,7 +223,7 @@ module _ (place kind item : Field) (n letter : ℕ) (ek : letter ≡ valueIn kin
     pub act-far :
         (leb p 999999 ≡ false) ⊎ (isActKind letter ≡ false) ⊎ (leb i 255 ≡ false) →
         Refused (OutOfRange n) ≡ actLine place kind item n
-    unfolding actLine
+    unfolding actLine refusalFrom
     act-far r = rw (← ek, ← ep, ← ei, s, one-of-3 (leb p 999999) (isActKind letter) (leb i 255) r)
 
     pub act-good : actsRange p letter i ≡ true → Placed p (actOf letter i) ≡ actLine place kind item n

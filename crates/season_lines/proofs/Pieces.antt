@@ -3,26 +3,27 @@
 use mathlib.Core.Path.{_≡_, refl}
 use mathlib.Core.Bool.{Bool, true, false, cond, _&&_, and-false}
 use mathlib.Core.List.{List}
-use mathlib.Core.Logic.{_⊎_, inl, inr}
 use Prim.Native.Nat.{ℕ, _≤_, _<_}
 use native.Mathlib.Omega.{arith}
 use borrow.Author.Tests.{leb-true, eqb-true, eqb-false, ne-eqb}
 use lib.Dec.{leb, eqb}
 use lib.ListN.{length}
-use Rattle.types.specs.declared.Refusal.the-variants.{Malformed, OutOfRange, UnknownRule}
+use Rattle.types.specs.declared.Refusal.the-variants.{Malformed}
 use Rattle.types.specs.declared.Numbers.{Numbers}
-use Rattle.types.specs.declared.Step.the-variants.{Read, Write, Flush, Arrive, Retire}
-use Rattle.types.specs.Types.{numbersFrom, numbersOf, stepOf}
-use Rattle.landlord.specs.Calls.{isItemNumber, inRange}
+use Rattle.types.specs.Types.{numbersOf, stepOf, telling, refusalLine, refusalFrom}
+use Rattle.types.proofs.Refusals.{refusal-line}
+use Rattle.landlord.specs.Steps.{inRange, rangeRefusal}
 use Rattle.landlord.specs.Catalog.{listed, capacityInRange, itemInRange}
+use Rattle.landlord.proofs.Folds.{either}
+use Rattle.landlord.proofs.Steps.{free-range, range-means}
 use Rattle.line_fields.specs.declared.Field.{Field}
 use Rattle.line_fields.specs.Fields.{fieldAt, isRule, valueIn, ruleIn, isEmpty, noneEmpty}
 use Rattle.line_fields.proofs.Laws.{and-parts}
 use Rattle.line_fields.proofs.Pieces.{one-empty}
 use Rattle.season_lines.specs.declared.Line.{Line}
 use Rattle.season_lines.specs.declared.Line.the-variants.{Sizes, Item as ItemLine, Step, Act as Placed, Refused}
-use Rattle.season_lines.specs.Lines.{namesIn, shapeThenRange, sizesLine, ruleField, itemLine, kindUnder, valueField, stepLine, isActKind, actOf, actLine, valuesIn, lineIn}
-use Rattle.season_lines.proofs.Laws.{sizesShape, itemShape, stepsShape, actsShape, sizesRange, itemsRange, actsRange, names-three, names-3}
+use Rattle.season_lines.specs.Lines.{namesIn, judged, sizesLine, ruleField, itemLine, numbersUnder, valueField, stepLine, isActKind, actOf, actLine, valuesIn, lineIn}
+use Rattle.season_lines.proofs.Laws.{sizesShape, itemShape, stepsShape, actsShape, sizesRange, itemsRange, actsRange, or-3, or-18-or-3, valuesOf, names-three, names-3}
 
 -- ## Lines that are torn whatever their heading
 
@@ -39,22 +40,27 @@ module _ (table form : ℕ) (fs : List Field) (n : ℕ) where
 
 -- ## What a line says
 
--- A line stands in its own table, its values are in range, and a step or an act has three fields or more; a refusal is one of three, of
--- this line.
+-- A line stands in its own table, its values are in range, and a step or an act has three fields or more; a refusal is told on this line.
 abbrev pub Says : ℕ → ℕ → ℕ → Line → Type 0
 Says table fields n (Sizes k h r) = (table ≡ 0) × (1 ≤ k) × (k ≤ 4096) × (1 ≤ h)
 Says table fields n (ItemLine i b l w) = (table ≡ 1) × (i ≤ 255) × (itemInRange (listed b l w) ≡ true)
 Says table fields n (Step s) = (table ≡ 2) × (3 ≤ fields) × (inRange (numbersOf s) ≡ true)
 Says table fields n (Placed place act) = (3 ≤ table) × (3 ≤ fields)
-Says table fields n (Refused r) = (r ≡ Malformed n) ⊎ (r ≡ OutOfRange n) ⊎ (r ≡ UnknownRule n)
+Says table fields n (Refused r) = refusalLine r ≡ n
 
 judged-says :
-    (table fields : ℕ) (shape range : Bool) (l : Line) (n : ℕ) →
-    (range ≡ true → Says table fields n l) →
-    Says table fields n (shapeThenRange shape range l n)
-judged-says table fields true true l n f = f refl
-judged-says table fields true false l n f = inr (inl refl)
-judged-says table fields false range l n f = inl refl
+    (table fields : ℕ) (shape : Bool) (number : ℕ) (l : Line) (n : ℕ) →
+    (number ≡ 0 → Says table fields n l) →
+    Says table fields n (judged shape number l n)
+judged-says table fields true number l n f =
+    either (Says table fields n) (eqb number 0) l (Refused (refusalFrom (telling number n 0)))
+    (λ e. f (eqb-true number 0 e)) (λ e. refusal-line (telling number n 0))
+judged-says table fields false number l n f = refl
+
+-- a line that is not refused is in range
+pub not-3 : (range : Bool) (next : ℕ) → cond range next 3 ≡ 0 → range ≡ true
+not-3 true next e = refl
+not-3 false next e = absurd (omega arith)
 
 -- the ranges of a line, number by number
 pub sizes-bounds : (k h : ℕ) → sizesRange k h ≡ true → (1 ≤ k) × (k ≤ 4096) × (1 ≤ h) × (h ≤ 4096)
@@ -69,54 +75,22 @@ acts-bounds p kind i e =
     let both = and-parts (leb p 999999 && isActKind kind) (leb i 255) e in
     (leb-true p 999999 (and-parts (leb p 999999) (isActKind kind) (both .0) .0), leb-true i 255 (both .1))
 
--- a step made of numbers in range is in range as a call
-pub step-range : (n : Numbers) → inRange n ≡ true → inRange (numbersOf (stepOf n)) ≡ true
-unfolding stepOf
-step-range n e = go (eqb (n .kind) 82) (eqb (n .kind) 87) (eqb (n .kind) 65) (eqb (n .kind) 81) e
-  where
-    item : Bool
-    item = isItemNumber (n .item)
-
-    go :
-        (p q r t : Bool) →
-        cond p item
-        (cond q (item && leb (n .minutes) 1440)
-        (cond r (item && itemInRange (listed (n .blocks) (n .load) (n .write)))
-        (cond t item (eqb (n .kind) 76)))) ≡ true →
-        inRange
-        (numbersOf
-        (cond p (Read (n .item))
-        (cond q (Write (n .item) (n .minutes))
-        (cond r (Arrive (n .item) (n .blocks) (n .load) (n .write))
-        (cond t (Retire (n .item)) Flush))))) ≡ true
-    go true q r t e = e
-    go false true r t e = e
-    go false false true t e = e
-    go false false false true e = e
-    go false false false false e = refl
-
 -- the line of each table
 module _ (table fields n : ℕ) where
   sizes-says : (k h rule : Field) → table ≡ 0 → Says table fields n (sizesLine k h rule n)
   unfolding sizesLine
   sizes-says k h rule e =
-      judged-says table fields (sizesShape k h) (sizesRange (valueIn k) (valueIn h))
-      (cond (isRule rule) (Sizes (valueIn k) (valueIn h) (ruleIn rule)) (Refused (UnknownRule n))) n
-      (λ r. worded (isRule rule) (sizes-bounds (valueIn k) (valueIn h) r))
-    where
-      worded :
-          (t : Bool) →
-          (1 ≤ valueIn k) × (valueIn k ≤ 4096) × (1 ≤ valueIn h) × (valueIn h ≤ 4096) →
-          Says table fields n (cond t (Sizes (valueIn k) (valueIn h) (ruleIn rule)) (Refused (UnknownRule n)))
-      worded true b = (e, b .0, b .1, b .2)
-      worded false b = inr (inr refl)
+      judged-says table fields (sizesShape k h) (or-18-or-3 (sizesRange (valueIn k) (valueIn h)) (isRule rule)) (Sizes (valueIn k) (valueIn h) (ruleIn rule)) n
+      (λ z.
+      let b = sizes-bounds (valueIn k) (valueIn h) (not-3 (sizesRange (valueIn k) (valueIn h)) _ z) in
+      (e, b .0, b .1, b .2))
 
   item-says : (i b l w : Field) → table ≡ 1 → Says table fields n (itemLine i b l w n)
   unfolding itemLine
   item-says i b l w e =
-      judged-says table fields (itemShape i b l w)
-      (itemsRange (valueIn i) (valueIn b) (valueIn l) (valueIn w)) (ItemLine (valueIn i) (valueIn b) (valueIn l) (valueIn w)) n
-      (λ r.
+      judged-says table fields (itemShape i b l w) _ (ItemLine (valueIn i) (valueIn b) (valueIn l) (valueIn w)) n
+      (λ z.
+      let r = not-3 (itemsRange (valueIn i) (valueIn b) (valueIn l) (valueIn w)) 0 z in
       let both = and-parts (leb (valueIn i) 255) (itemInRange (listed (valueIn b) (valueIn l) (valueIn w))) r in
       (e, leb-true (valueIn i) 255 (both .0), both .1))
 
@@ -127,20 +101,18 @@ module _ (table fields n : ℕ) where
       Says table fields n (stepLine form kind item minutes blocks load write n)
   unfolding stepLine
   step-says form kind item minutes blocks load write e f =
-      judged-says table fields (stepsShape kind letter item minutes blocks load write) (inRange x) (Step (stepOf x)) n (λ r. (e, f, step-range x r))
+      judged-says table fields (stepsShape kind (x .kind) item minutes blocks load write) (rangeRefusal x) (Step (stepOf x)) n
+      (λ z. (e, f, free-range (numbersOf (stepOf x)) (range-means x z)))
     where
-      letter : ℕ
-      letter = kindUnder form (valueIn kind)
-
       x : Numbers
-      x = numbersFrom letter (valueIn item) (valueIn minutes) (valueIn blocks) (valueIn load) (valueIn write)
+      x = numbersUnder form (valuesOf kind item minutes blocks load write)
 
   act-says : (place kind item : Field) → 3 ≤ table → 3 ≤ fields → Says table fields n (actLine place kind item n)
   unfolding actLine
   act-says place kind item e f =
-      judged-says table fields (actsShape place kind (valueIn kind) item)
-      (actsRange (valueIn place) (valueIn kind) (valueIn item)) (Placed (valueIn place) (actOf (valueIn kind) (valueIn item))) n
-      (λ r. (e, f))
+      judged-says table fields (actsShape place kind (valueIn kind) item) (or-3 (actsRange (valueIn place) (valueIn kind) (valueIn item)))
+      (Placed (valueIn place) (actOf (valueIn kind) (valueIn item))) n
+      (λ z. (e, f))
 
 pub line-says : (table form : ℕ) (fs : List Field) (n : ℕ) → Says table (length fs) n (lineIn table form fs n)
 unfolding lineIn valuesIn
@@ -166,7 +138,7 @@ line-says table form fs n = go asDue (eqb table 0) (eqb table 1) (eqb table 2) r
         (stepLine form (fieldAt fs 0) (fieldAt fs 1) (fieldAt fs 2) (valueField form (fieldAt fs 3)) (valueField form (fieldAt fs 4)) (valueField form (fieldAt fs 5)) n)
         (actLine (fieldAt fs 0) (fieldAt fs 1) (fieldAt fs 2) n))))
         (Refused (Malformed n)))
-    go false p q r ew ep eq er = inl refl
+    go false p q r ew ep eq er = refl
     go true true q r ew ep eq er = sizes-says table (length fs) n _ _ _ (eqb-true table 0 ep)
     go true false true r ew ep eq er = item-says table (length fs) n _ _ _ _ (eqb-true table 1 eq)
     go true false false true ew ep eq er =

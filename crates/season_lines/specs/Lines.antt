@@ -7,9 +7,9 @@ use lib.{ListN.{length, getD}, Dec.{leb, eqb}}
 use Rattle.decimal.specs.Decimal.{textOf, sameText}
 use Rattle.line_fields.specs.{declared.Field.{Field, the-variants.{Dash, Rule}}, Fields.{split, fieldAt, isNumber, isLetter, isDash, isRule, valueIn, ruleIn, isEither, noneEmpty}}
 use Rattle.season_lines.specs.declared.{Names.{Names, the-variants.{Form, Unknown}}, Line.{Line, the-variants.{Sizes, Item as ItemLine, Step, Act as Placed, Refused}}}
-use Rattle.types.specs.declared.{Numbers.Numbers, Act.{Act, the-variants.{Evict, Fetch}}, Deduction.the-variants.WriteFirst, Refusal.the-variants.{Malformed, OutOfRange, UnknownRule}}
-use Rattle.types.specs.Types.{numbersFrom, stepOf}
-use Rattle.landlord.specs.{Catalog.{listed, itemInRange, capacityInRange}, Calls.inRange}
+use Rattle.types.specs.declared.{Numbers.Numbers, Act.{Act, the-variants.{Evict, Fetch}}, Deduction.the-variants.WriteFirst, Refusal.the-variants.Malformed}
+use Rattle.types.specs.Types.{numbersFrom, readKind, writeKind, flushKind, arriveKind, retireKind, evictKind, fetchKind, stepOf, telling, refusalFrom}
+use Rattle.landlord.specs.{Catalog.{listed, itemInRange, capacityInRange}, Steps.rangeRefusal}
 
 -- ## The headings: "A table is a line of names"
 
@@ -40,16 +40,17 @@ formOf table l = formAmong 0 (headings table) l
 
 -- ## A value line under each heading, judged by its fields alone: its shape (1), then its ranges (3), then a rule's word (18)
 
--- "in the order .. shape, 3": a line that has its table's shape and is in range says what stands in it
-abbrev pub shapeThenRange : Bool → Bool → Line → ℕ → Line
-shapeThenRange shape range l n = cond shape (cond range l (Refused (OutOfRange n))) (Refused (Malformed n))
+-- "in the order .. shape, 3": a line that has its table's shape is refused with the number that its values are given, and where that is 0
+-- says what stands in it
+abbrev pub judged : Bool → ℕ → Line → ℕ → Line
+judged shape number l n = cond shape (cond (eqb number 0) l (Refused (refusalFrom (telling number n 0)))) (Refused (Malformed n))
 
 -- `locker rival rule`: "k and h, each 1 to 4,096"; then "18 when the rule word, any field of one byte or more, is neither"
 unfoldable pub sizesLine : Field → Field → Field → ℕ → Line
 sizesLine k h rule n =
-    shapeThenRange (isNumber k && isNumber h)
-    (capacityInRange (valueIn k) && capacityInRange (valueIn h))
-    (cond (isRule rule) (Sizes (valueIn k) (valueIn h) (ruleIn rule)) (Refused (UnknownRule n))) n
+    judged (isNumber k && isNumber h)
+    (cond (capacityInRange (valueIn k) && capacityInRange (valueIn h)) (cond (isRule rule) 0 18) 3)
+    (Sizes (valueIn k) (valueIn h) (ruleIn rule)) n
 
 -- the field of the rule's word: only heading 1, `locker rival rule`, has one, and "the old heading means write-first"
 abbrev pub ruleField : ℕ → Field → Field
@@ -58,17 +59,21 @@ ruleField form f = cond (eqb form 1) f (Rule WriteFirst)
 -- `sail blocks load write`: the sail's number 0 to 255, and an item in range
 unfoldable pub itemLine : Field → Field → Field → Field → ℕ → Line
 itemLine i b l w n =
-    shapeThenRange (isNumber i && isNumber b && isNumber l && isNumber w)
-    (leb (valueIn i) 255 && itemInRange (listed (valueIn b) (valueIn l) (valueIn w)))
+    judged (isNumber i && isNumber b && isNumber l && isNumber w)
+    (cond (leb (valueIn i) 255 && itemInRange (listed (valueIn b) (valueIn l) (valueIn w))) 0 3)
     (ItemLine (valueIn i) (valueIn b) (valueIn l) (valueIn w)) n
 
 -- A kind as the heading takes it: heading 1 has "step A" and "step Q"; "A and Q under the old one are off the tape", and 0 is no kind.
 abbrev pub kindUnder : ℕ → ℕ → ℕ
-kindUnder form kind = cond (eqb form 1) kind (cond (eqb kind 65 || eqb kind 81) 0 kind)
+kindUnder form kind = cond (eqb form 1) kind (cond (eqb kind arriveKind || eqb kind retireKind) 0 kind)
 
 -- a step's numbers as the heading takes them
 abbrev pub numbersUnder : ℕ → Numbers → Numbers
 numbersUnder form n = numbersFrom (kindUnder form (n .kind)) (n .item) (n .minutes) (n .blocks) (n .load) (n .write)
+
+-- what the table says to them then by their ranges
+abbrev pub rangeUnder : ℕ → Numbers → ℕ
+rangeUnder form n = rangeRefusal (numbersUnder form n)
 
 -- one of the three fields behind the minutes: only heading 1 has them, and under the old one there is nothing in them
 abbrev pub valueField : ℕ → Field → Field
@@ -76,7 +81,7 @@ valueField form f = cond (eqb form 1) f Dash
 
 -- R, W, L, A or Q
 abbrev pub isStepKind : ℕ → Bool
-isStepKind kind = eqb kind 82 || eqb kind 87 || eqb kind 76 || eqb kind 65 || eqb kind 81
+isStepKind kind = eqb kind readKind || eqb kind writeKind || eqb kind flushKind || eqb kind arriveKind || eqb kind retireKind
 
 -- behind a known kind what the step has is a number, and what it lacks is `-`; "after an unknown one each field may be a number or `-`"
 abbrev pub isDue : Bool → Bool → Field → Bool
@@ -87,28 +92,28 @@ isDue known has f = cond known (cond has (isNumber f) (isDash f)) (isEither f)
 unfoldable pub stepShape : ℕ → Field → Field → Field → Field → Field → Bool
 stepShape kind item minutes blocks load write =
     let known = isStepKind kind in
-    isDue known (not (eqb kind 76)) item && isDue known (eqb kind 87) minutes
-    && isDue known (eqb kind 65) blocks && isDue known (eqb kind 65) load && isDue known (eqb kind 65) write
+    isDue known (not (eqb kind flushKind)) item && isDue known (eqb kind writeKind) minutes
+    && isDue known (eqb kind arriveKind) blocks && isDue known (eqb kind arriveKind) load && isDue known (eqb kind arriveKind) write
 
 -- `step sail minutes blocks load write`; the ranges are those of a call
 unfoldable pub stepLine : ℕ → Field → Field → Field → Field → Field → Field → ℕ → Line
 stepLine form kind item minutes blocks load write n =
-    let letter = kindUnder form (valueIn kind) in
-    let numbers = numbersFrom letter (valueIn item) (valueIn minutes) (valueIn blocks) (valueIn load) (valueIn write) in
-    shapeThenRange (isLetter kind && stepShape letter item minutes blocks load write) (inRange numbers) (Step (stepOf numbers)) n
+    let values = numbersFrom (valueIn kind) (valueIn item) (valueIn minutes) (valueIn blocks) (valueIn load) (valueIn write) in
+    let numbers = numbersUnder form values in
+    judged (isLetter kind && stepShape (numbers .kind) item minutes blocks load write) (rangeUnder form values) (Step (stepOf numbers)) n
 
 -- D or F
 abbrev pub isActKind : ℕ → Bool
-isActKind kind = eqb kind 68 || eqb kind 70
+isActKind kind = eqb kind evictKind || eqb kind fetchKind
 
 abbrev pub actOf : ℕ → ℕ → Act
-actOf kind item = cond (eqb kind 68) (Evict item) (Fetch item)
+actOf kind item = cond (eqb kind evictKind) (Evict item) (Fetch item)
 
 -- `at act sail`: "`at` from 0 to 999,999"; only behind an unknown kind may the sail be `-`
 unfoldable pub actLine : Field → Field → Field → ℕ → Line
 actLine place kind item n =
-    shapeThenRange (isNumber place && isLetter kind && cond (isActKind (valueIn kind)) (isNumber item) (isEither item))
-    (leb (valueIn place) 999999 && isActKind (valueIn kind) && leb (valueIn item) 255)
+    judged (isNumber place && isLetter kind && cond (isActKind (valueIn kind)) (isNumber item) (isEither item))
+    (cond (leb (valueIn place) 999999 && isActKind (valueIn kind) && leb (valueIn item) 255) 0 3)
     (Placed (valueIn place) (actOf (valueIn kind) (valueIn item))) n
 
 -- a value line with as many fields as are due, by its table's own rules

@@ -8,7 +8,7 @@ ghost use lib.ListN.{take};
 ghost use Rattle.landlord.specs.Catalog.{capacityInRange};
 ghost use Rattle.line_fields.specs.Fields.{isNumber, isEither};
 ghost use Rattle.season_lines.specs.declared.Names.the-variants.{Form, Unknown};
-ghost use Rattle.season_lines.specs.Lines.{ruleField, valueField, namesIn, formAmong, formOf, kindUnder, isStepKind, isDue, stepShape, isActKind, actOf, sizesLine, itemLine, stepLine, actLine, lineIn};
+ghost use Rattle.season_lines.specs.Lines.{ruleField, valueField, namesIn, formAmong, formOf, kindUnder, numbersUnder, isStepKind, isDue, stepShape, isActKind, actOf, sizesLine, itemLine, stepLine, actLine, lineIn};
 ghost use Rattle.season_lines.specs.Inner.{Judgeable};
 use line_fields::Field;
 use types::Act;
@@ -108,21 +108,39 @@ fn item_line(number: Field, blocks: Field, load: Field, write: Field, line: u32)
 }
 
 // A step's kind as a heading takes it: under the old heading A and Q are no kinds.
-pub fn kind_under(form: u32, kind: u32) -> u32
+fn kind_under(form: u32, kind: u32) -> u32
     ensures { λ r. ⌜ r ≡ kindUnder form kind ⌝ }
 {
     if form != 1 {
-        if kind == 65 || kind == 81 {
+        if kind == types::ARRIVE || kind == types::RETIRE {
             return 0;
         }
     }
     kind
 }
 
+// A step's numbers as a heading takes them.
+pub fn numbers_under(form: u32, n: Numbers) -> Numbers
+    ensures { λ r. ⌜ r ≡ numbersUnder form n ⌝ }
+{
+    Numbers {
+        kind: kind_under(form, n.kind),
+        item: n.item,
+        minutes: n.minutes,
+        blocks: n.blocks,
+        load: n.load,
+        write: n.write,
+    }
+}
+
 fn is_step(kind: u32) -> bool
     ensures { λ r. ⌜ r ≡ isStepKind kind ⌝ }
 {
-    (kind == 82) | (kind == 87) | (kind == 76) | (kind == 65) | (kind == 81)
+    (kind == types::READ)
+        | (kind == types::WRITE)
+        | (kind == types::FLUSH)
+        | (kind == types::ARRIVE)
+        | (kind == types::RETIRE)
 }
 
 // Whether a field is as it is due: behind a known kind a number where the step has one and else `-`, behind another a number or `-`.
@@ -150,11 +168,11 @@ fn step_shaped(
     ensures { λ r. ⌜ r ≡ stepShape kind item minutes blocks load write ⌝ }
 {
     let known = is_step(kind);
-    is_due(known, kind != 76, item)
-        & is_due(known, kind == 87, minutes)
-        & is_due(known, kind == 65, blocks)
-        & is_due(known, kind == 65, load)
-        & is_due(known, kind == 65, write)
+    is_due(known, kind != types::FLUSH, item)
+        & is_due(known, kind == types::WRITE, minutes)
+        & is_due(known, kind == types::ARRIVE, blocks)
+        & is_due(known, kind == types::ARRIVE, load)
+        & is_due(known, kind == types::ARRIVE, write)
 }
 
 // A line of `step sail minutes blocks load write`, or of the old heading, which has nothing behind the minutes.
@@ -170,20 +188,21 @@ fn step_line(
 ) -> Line
     ensures { λ r. ⌜ r ≡ stepLine form kind item minutes blocks load write line ⌝ }
 {
-    let letter = kind_under(form, line_fields::value_in(kind));
-    if !line_fields::is_letter(kind) || !step_shaped(letter, item, minutes, blocks, load, write) {
-        return Line::Refused(Refusal::Malformed { line: line });
-    }
-    let n = Numbers {
-        kind: letter,
+    let values = Numbers {
+        kind: line_fields::value_in(kind),
         item: line_fields::value_in(item),
         minutes: line_fields::value_in(minutes),
         blocks: line_fields::value_in(blocks),
         load: line_fields::value_in(load),
         write: line_fields::value_in(write),
     };
-    if !landlord::in_range(n) {
-        return Line::Refused(Refusal::OutOfRange { line: line });
+    let n = numbers_under(form, values);
+    if !line_fields::is_letter(kind) || !step_shaped(n.kind, item, minutes, blocks, load, write) {
+        return Line::Refused(Refusal::Malformed { line: line });
+    }
+    let number = landlord::range_refusal(n);
+    if number != 0 {
+        return Line::Refused(types::refusal_of(number, line, 0));
     }
     Line::Step(types::step_of(n))
 }
@@ -191,13 +210,13 @@ fn step_line(
 fn is_act(kind: u32) -> bool
     ensures { λ r. ⌜ r ≡ isActKind kind ⌝ }
 {
-    kind == 68 || kind == 70
+    kind == types::EVICT || kind == types::FETCH
 }
 
 fn act_of(kind: u32, item: u32) -> Act
     ensures { λ r. ⌜ r ≡ actOf kind item ⌝ }
 {
-    if kind == 68 {
+    if kind == types::EVICT {
         return Act::Evict { item: item };
     }
     Act::Fetch { item: item }

@@ -17,18 +17,18 @@ use Rattle.types.specs.declared.Refusal.the-variants.{Malformed}
 use Rattle.types.specs.declared.Step.{Step}
 use Rattle.types.specs.declared.Step.the-variants.{Read, Write, Flush, Arrive, Retire}
 use Rattle.types.specs.declared.Numbers.{Numbers}
-use Rattle.types.specs.Types.{numbersFrom, numbersOf, stepOf}
+use Rattle.types.specs.Types.{numbersFrom, numbersOf, stepOf, telling, refusalFrom}
 use Rattle.landlord.specs.Catalog.{listed, itemInRange}
-use Rattle.landlord.specs.Calls.{isItemNumber, inRange}
+use Rattle.landlord.specs.Steps.{isItemNumber, inRange, rangeRefusal}
+use Rattle.landlord.proofs.Steps.{free-range, range-means}
 use Rattle.line_fields.specs.declared.Field.{Field}
 use Rattle.line_fields.specs.declared.Field.the-variants.{Number, Letter, Dash, Word, Empty, Rule}
 use Rattle.season_lines.specs.declared.Line.the-variants.{Step as StepLine, Refused}
 use Rattle.line_fields.specs.Fields.{onto, split, markOf, ruleWord, ruleOrWord, fieldOf, allFields, fieldsOf, fieldAt, isNumber, isLetter, isDash, valueIn, noneEmpty}
-use Rattle.season_lines.specs.Lines.{namesIn, shapeThenRange, kindUnder, numbersUnder, valueField, isStepKind, isDue, stepShape, stepLine, valuesIn, lineIn}
+use Rattle.season_lines.specs.Lines.{namesIn, kindUnder, numbersUnder, rangeUnder, valueField, isStepKind, isDue, stepShape, stepLine, valuesIn, lineIn}
 use Rattle.line_fields.proofs.Laws.{and-parts}
 use Rattle.season_lines.proofs.Laws.{names-2, names-values}
 use Rattle.line_fields.proofs.Pieces.{split-some}
-use Rattle.season_lines.proofs.Pieces.{step-range}
 use Rattle.season_log.specs.Log.{stepText}
 
 -- ## Texts joined, and a text split
@@ -195,7 +195,11 @@ dash-field = refl
 
 -- whether a step may be in a log under a heading
 abbrev pub ranged : ℕ → Step → Bool
-ranged form s = inRange (numbersUnder form (numbersOf s))
+ranged form s = eqb (rangeUnder form (numbersOf s)) 0
+
+-- then its numbers are in range as the heading takes them
+pub ranged-in : (form : ℕ) (s : Step) → ranged form s ≡ true → inRange (numbersUnder form (numbersOf s)) ≡ true
+ranged-in form s r = free-range (numbersUnder form (numbersOf s)) (eqb-true _ 0 r)
 
 -- a value that a step has, or `-`
 abbrev shown : Bool → ℕ → Field
@@ -222,13 +226,13 @@ lineOf form s = joined 32 (map fieldText (stepFields form s))
 
 pub step-line : (form : ℕ) (s : Step) → ranged form s ≡ true → stepText form s ≡ lineOf form s ++ (10 ∷ [])
 unfolding stepText joined
-step-line form s r = go (eqb form 1) refl s r
+step-line form s r = go (eqb form 1) refl s (ranged-in form s r)
   where
     go :
         (t : Bool) →
         eqb form 1 ≡ t →
         (s : Step) →
-        ranged form s ≡ true →
+        inRange (numbersUnder form (numbersOf s)) ≡ true →
         stepText form s ≡ joined 32 (map fieldText (fieldsUnder t (numbersOf s))) ++ (10 ∷ [])
     go true e (Read i) r = rw e (simp append-assoc)
     go true e (Write i m) r = rw e (simp append-assoc)
@@ -334,14 +338,14 @@ fields-step form s n r = go (eqb form 1) refl s r
     go : (t : Bool) → eqb form 1 ≡ t → (s : Step) → ranged form s ≡ true → lineIn 2 form (fieldsUnder t (numbersOf s)) n ≡ StepLine s
     go true e (Read i) r = rw (names-values 2 form refl (eqb-true form 1 e), e, rw e at r)
     go true e (Write i m) r = rw (names-values 2 form refl (eqb-true form 1 e), e, rw e at r)
-    go true e Flush r = rw (names-values 2 form refl (eqb-true form 1 e), e)
+    go true e Flush r = rw (names-values 2 form refl (eqb-true form 1 e), e, rw e at r)
     go true e (Arrive i b l w) r = rw (names-values 2 form refl (eqb-true form 1 e), e, rw e at r)
     go true e (Retire i) r = rw (names-values 2 form refl (eqb-true form 1 e), e, rw e at r)
     go false e (Read i) r = rw (names-2 2 form refl (eqb-false form 1 e), e, rw e at r)
     go false e (Write i m) r = rw (names-2 2 form refl (eqb-false form 1 e), e, rw e at r)
-    go false e Flush r = rw (names-2 2 form refl (eqb-false form 1 e), e)
-    go false e (Arrive i b l w) r = absurd (false≢true (rw e at r))
-    go false e (Retire i) r = absurd (false≢true (rw e at r))
+    go false e Flush r = rw (names-2 2 form refl (eqb-false form 1 e), e, rw e at r)
+    go false e (Arrive i b l w) r = absurd (false≢true (rw e at (ranged-in form (Arrive i b l w) r)))
+    go false e (Retire i) r = absurd (false≢true (rw e at (ranged-in form (Retire i) r)))
 
 -- and a line that is a step has that step's fields
 letter-is : (f : Field) → isLetter f ≡ true → f ≡ Letter (valueIn f)
@@ -427,16 +431,19 @@ kind-kept form n r = go (eqb form 1) (eqb (n .kind) 65 || eqb (n .kind) 81) r
     go false true r = absurd (false≢true r)
     go false false r = refl
 
+-- and so are all the numbers
+pub under-same : (form : ℕ) (n : Numbers) → kindUnder form (n .kind) ≡ n .kind → numbersUnder form n ≡ n
+under-same form n e = λ i. numbersFrom (e i) (n .item) (n .minutes) (n .blocks) (n .load) (n .write)
+
 -- a step that numbers in range under a heading mean may be in its log
-pub step-ranged : (form : ℕ) (n : Numbers) → inRange (numbersUnder form n) ≡ true → ranged form (stepOf (numbersUnder form n)) ≡ true
+pub step-ranged : (form : ℕ) (n : Numbers) → rangeUnder form n ≡ 0 → ranged form (stepOf (numbersUnder form n)) ≡ true
 step-ranged form n r =
     let x = numbersUnder form n in
     let s = stepOf x in
-    let kind : numbersOf s .kind ≡ n .kind = same-kind x r ∙ kind-kept form n r in
-    let kept : kindUnder form (numbersOf s .kind) ≡ numbersOf s .kind = ap (kindUnder form) kind ∙ kind-kept form n r ∙ sym kind in
-    ap
-    (λ (k : ℕ). inRange (numbersFrom k (numbersOf s .item) (numbersOf s .minutes) (numbersOf s .blocks) (numbersOf s .load) (numbersOf s .write))) kept
-    ∙ step-range x r
+    let here = kind-kept form n (free-range x r) in
+    let kind : numbersOf s .kind ≡ n .kind = same-kind x (free-range x r) ∙ here in
+    let kept : kindUnder form (numbersOf s .kind) ≡ numbersOf s .kind = ap (kindUnder form) kind ∙ here ∙ sym kind in
+    eq-eqb _ 0 (ap rangeRefusal (under-same form (numbersOf s) kept) ∙ range-means x r)
 
 -- a refusal is no step
 pub no-step : (r : Refusal) (s : Step) → Refused r ≡ StepLine s → ⊥
@@ -480,19 +487,22 @@ module _ (form : ℕ) (k f g b l w : Field) (n : ℕ) (s : Step) where
   line-step : (t : Bool) → stepLine form k f g b l w n ≡ StepLine s → (k ∷ f ∷ g ∷ lastFields t b l w ≡ fieldsUnder t (numbersOf s)) × (ranged form s ≡ true)
   unfolding stepLine
   line-step t e =
-      go (isLetter k) (stepShape letter f g b l w) (inRange (numbersUnder form values)) refl refl refl e
+      go (isLetter k) (stepShape letter f g b l w) (eqb (rangeUnder form values) 0) refl refl refl e
     where
       go :
           (p q r : Bool) →
           isLetter k ≡ p →
           stepShape letter f g b l w ≡ q →
-          inRange (numbersUnder form values) ≡ r →
-          shapeThenRange (p && q) r (StepLine (stepOf (numbersUnder form values))) n ≡ StepLine s →
+          eqb (rangeUnder form values) 0 ≡ r →
+          cond (p && q) (cond r (StepLine (stepOf (numbersUnder form values))) (Refused (refusalFrom (telling (rangeUnder form values) n 0)))) (Refused (Malformed n))
+          ≡ StepLine s →
           (k ∷ f ∷ g ∷ lastFields t b l w ≡ fieldsUnder t (numbersOf s)) × (ranged form s ≡ true)
       go true true true ep eq er e =
-          let same : stepOf (numbersUnder form values) ≡ s = cc in (
-            shaped-fields t ep eq er ∙ same-fields t (numbersUnder form values) er ∙ ap (λ (x : Step). fieldsUnder t (numbersOf x)) same,
-            ap (ranged form) (sym same) ∙ step-ranged form values er,
+          let same : stepOf (numbersUnder form values) ≡ s = cc in
+          let free = eqb-true (rangeUnder form values) 0 er in
+          let near = free-range (numbersUnder form values) free in (
+            shaped-fields t ep eq near ∙ same-fields t (numbersUnder form values) near ∙ ap (λ (x : Step). fieldsUnder t (numbersOf x)) same,
+            ap (ranged form) (sym same) ∙ step-ranged form values free,
           )
       go true true false ep eq er e = absurd (no-step _ s e)
       go true false r ep eq er e = absurd (no-step _ s e)

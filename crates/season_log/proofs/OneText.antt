@@ -2,14 +2,14 @@
 -- `OneText` in specs/Log.antt.
 -- Assumes nothing.
 use mathlib.Core.Path.{_≡_, refl, sym, ap, _∙_}
-use mathlib.Core.Bool.{Bool, true, false, cond, false≢true}
+use mathlib.Core.Bool.{Bool, true, false, cond}
 use mathlib.Core.List.{List, [], _∷_, _++_, append-assoc}
-use Prim.Native.Nat.{ℕ, zero, suc, _+_, _*_, _/_, _≤_, _<_}
+use Prim.Native.Nat.{ℕ, zero, suc, _+_, _*_, _/_, _≤_}
 use native.Mathlib.Omega.{arith}
 use borrow.Author.Tests.{le-leb, leb-true, eqb-true}
 use lib.Dec.{leb, eqb}
 use lib.ListN.{length, take, drop, length-append}
-use lib.Seq.{drop-at, append-snoc}
+use lib.Seq.{append-snoc}
 use Rattle.decimal.specs.Decimal.{sameText}
 use Rattle.decimal.proofs.Texts.{same-true}
 use Rattle.fields.specs.LittleEndian.{un, le}
@@ -19,23 +19,23 @@ use Rattle.types.specs.declared.Refusal.the-variants.{Malformed, Heading, OutOf
 use Rattle.types.specs.declared.Step.{Step}
 use Rattle.types.specs.declared.Step.the-variants.{Read, Write, Flush, Arrive, Retire}
 use Rattle.types.specs.declared.Numbers.{Numbers}
-use Rattle.types.specs.Types.{numbersFrom, numbersOf, stepOf}
+use Rattle.types.specs.Types.{numbersFrom, numbersOf, stepOf, telling, refusalFrom}
 use Rattle.types.proofs.Steps.{same-step}
 use Rattle.landlord.specs.Catalog.{listed as itemListed, itemInRange}
-use Rattle.landlord.specs.Calls.{isItemNumber, inRange}
+use Rattle.landlord.specs.Steps.{isItemNumber, inRange}
 use Rattle.landlord.proofs.Ranges.{item-facts}
 use Rattle.season_lines.specs.declared.Line.{Line}
 use Rattle.season_lines.specs.declared.Line.the-variants.{Sizes, Item as ItemLine, Step as StepLine, Act as ActLine, Refused}
 use Rattle.season_lines.specs.declared.Names.{Names}
 use Rattle.season_lines.specs.declared.Names.the-variants.{Form, Unknown}
 use Rattle.line_fields.specs.Fields.{split, fieldsOf}
-use Rattle.season_lines.specs.Lines.{headings, headingOf, formAmong, formOf, kindUnder, numbersUnder, lineIn}
+use Rattle.season_lines.specs.Lines.{headings, headingOf, formAmong, formOf, numbersUnder, rangeUnder, lineIn}
 use Rattle.line_fields.proofs.Laws.{and-parts}
 use Rattle.season_lines.proofs.Laws.{both-yes}
 use Rattle.line_fields.proofs.Pieces.{split-some}
 use Rattle.season_log.specs.Log.{Logged, steps, fault, ahead, isHeading, stepText, stepLines, logText, listNumber, listNumbers, toldLine, listedFrom, listedUnder, listed, numbersOnto, listOf, follows, readLines, headed, readTable, readLog, stepsInRange, OneText}
 pub use Rattle.season_log.specs.Inner.{onward}
-use Rattle.season_log.proofs.Lines.{lacks, joined, split-first, join-split, ranged, lineOf, step-line, line-lacks, kind-kept, step-ranged, step-written, step-reads}
+use Rattle.season_log.proofs.Lines.{lacks, joined, split-first, join-split, ranged, ranged-in, lineOf, step-line, line-lacks, kind-kept, under-same, step-ranged, step-written, step-reads}
 
 -- ## Steps one behind the other
 
@@ -230,25 +230,31 @@ listed-ranged form zero n list f ss e = go (eqb (length list) 0) e
         (sym named, rw (← same) refl)
     go false e = absurd (no-steps (OutOfRange (toldLine n)) f ss e)
 listed-ranged form (suc m) n list f ss e =
-    go (inRange numbers) (listedFrom form m (suc n) (drop 24 list)) refl
+    go (eqb (rangeUnder form numbers) 0) (listedFrom form m (suc n) (drop 24 list)) refl
     (λ g later. listed-ranged form m (suc n) (drop 24 list) g later) e
   where
     numbers : Numbers
-    numbers = numbersUnder form (listNumbers 0 list)
+    numbers = listNumbers 0 list
+
+    step : Step
+    step = stepOf (numbersUnder form numbers)
+
+    no : Refusal
+    no = refusalFrom (telling (rangeUnder form numbers) (toldLine n) 0)
 
     go :
         (t : Bool) (below : Logged) →
-        inRange numbers ≡ t →
+        eqb (rangeUnder form numbers) 0 ≡ t →
         ((g : ℕ) (later : List Step) → below ≡ steps g later → (g ≡ form) × (stepsInRange form later ≡ true)) →
-        cond t (ahead (stepOf numbers) below) (fault (OutOfRange (toldLine n))) ≡ steps f ss →
+        cond t (ahead step below) (fault no) ≡ steps f ss →
         (f ≡ form) × (stepsInRange form ss ≡ true)
     go true (steps g later) r a e =
-        let same : stepOf numbers ∷ later ≡ ss = cc in
+        let same : step ∷ later ≡ ss = cc in
         let named : g ≡ f = cc in
         let rest = a g later refl in
-        (sym named ∙ rest .0, rw (← same) (both-yes _ _ (step-ranged form (listNumbers 0 list) r) (rest .1)))
+        (sym named ∙ rest .0, rw (← same) (both-yes _ _ (step-ranged form numbers (eqb-true _ 0 r)) (rest .1)))
     go true (fault q) r a e = absurd (no-steps q f ss e)
-    go false below r a e = absurd (no-steps (OutOfRange (toldLine n)) f ss e)
+    go false below r a e = absurd (no-steps no f ss e)
 
 listed-in-range :
     (told : ℕ) (list : List ℕ) (form : ℕ) (ss : List Step) →
@@ -266,6 +272,10 @@ listed-in-range told list form ss e = go (isHeading told) refl e
         (w .0, ap isHeading (w .0) ∙ h, ap (λ (f : ℕ). stepsInRange f ss) (w .0) ∙ w .1)
     go false h e = absurd (no-steps (OutOfRange 1) form ss e)
 
+-- a heading keeps the numbers of a step that its log may have
+under-kept : (form : ℕ) (s : Step) → ranged form s ≡ true → numbersUnder form (numbersOf s) ≡ numbersOf s
+under-kept form s r = under-same form (numbersOf s) (kind-kept form (numbersOf s) (ranged-in form s r))
+
 -- the numbers of a step in range are small
 pub record Small (n : Numbers) : Type 0 where
   pub kind : n .kind ≤ 87
@@ -276,11 +286,8 @@ pub record Small (n : Numbers) : Type 0 where
   pub write : n .write ≤ 65535
 
 pub step-small : (form : ℕ) (s : Step) → ranged form s ≡ true → Small (numbersOf s)
-step-small form s r = go s (ap inRange-of (sym (kind-kept form (numbersOf s) r)) ∙ r)
+step-small form s r = go s (sym (ap inRange (under-kept form s r)) ∙ ranged-in form s r)
   where
-    inRange-of : ℕ → Bool
-    inRange-of k = inRange (numbersFrom k (numbersOf s .item) (numbersOf s .minutes) (numbersOf s .blocks) (numbersOf s .load) (numbersOf s .write))
-
     go : (s : Step) → inRange (numbersOf s) ≡ true → Small (numbersOf s)
     go (Read i) r =
         record { kind = omega arith; item = leb-true i 255 r; minutes = omega arith; blocks = omega arith; load = omega arith; write = omega arith }
@@ -363,14 +370,14 @@ list-read form n (s ∷ ss) h =
     let rest = listOf ss in
     let x = numbersOf s in
     let here : listNumbers 0 (numbersOnto x rest) ≡ x = numbers-at x rest (step-small form s r) in
-    let under : numbersUnder form x ≡ x = λ i. numbersFrom (kind-kept form x r i) (x .item) (x .minutes) (x .blocks) (x .load) (x .write) in
-    let means : stepOf (numbersUnder form x) ≡ s = ap stepOf under ∙ same-step s in
+    let means : stepOf (numbersUnder form x) ≡ s = ap stepOf (under-kept form s r) ∙ same-step s in
     (λ i. next (here i) (past-numbers x rest i)) ∙ (rw (r, means, list-read form (suc n) ss (both .1)))
   where
     -- a step of these numbers, and the rest of the list
     next : Numbers → List ℕ → Logged
     next m l =
-        cond (inRange (numbersUnder form m)) (ahead (stepOf (numbersUnder form m)) (listedFrom form (length ss) (suc n) l)) (fault (OutOfRange (toldLine n)))
+        cond (eqb (rangeUnder form m) 0) (ahead (stepOf (numbersUnder form m)) (listedFrom form (length ss) (suc n) l))
+        (fault (refusalFrom (telling (rangeUnder form m) (toldLine n) 0)))
 
 list-reads : (form : ℕ) (ss : List Step) → isHeading form ≡ true → stepsInRange form ss ≡ true → listed form (listOf ss) ≡ steps form ss
 list-reads form ss h r =

@@ -1,10 +1,11 @@
--- The laws of the writer: the line of a step, the steps that a list has from a place on, how many bytes their text has, their lines on a
--- page, and what writing answers. Assumes nothing.
+-- The laws of the writer: the line of a step, the steps that a list has from a place on, how many bytes their text has or what refuses it,
+-- their lines on a page, and what writing answers. Assumes nothing.
 use mathlib.Core.Path.{_≡_, refl, sym, ap, subst, _∙_}
 use mathlib.Core.Bool.{Bool, true, false, cond, _&&_, _||_, false≢true}
-use mathlib.Core.List.{List, [], _∷_, _++_, append-assoc}
+use mathlib.Core.List.{List, [], _++_, append-assoc}
 use mathlib.Core.Logic.{_≢_, _⊎_, ⊎-elim}
 use Prim.Native.Nat.{ℕ, zero, suc, _+_, _-_, _*_, _/_, _%_, _≤_, _<_}
+use native.Mathlib.Decide.{ℕ-discrete}
 use native.Mathlib.Omega.{arith}
 use borrow.Author.Tests.{leb-true, leb-false, le-leb, lt-leb, eq-eqb, ne-eqb}
 use borrow.Rule.Slice.PartMut.{midOf, putMid}
@@ -17,22 +18,23 @@ use Rattle.decimal.proofs.Laws.{digits-length, page-all, page-none}
 use Rattle.decimal.proofs.Pages.{TextGoing, go-start, go-as, go-room, go-next, go-end}
 use Rattle.fields.specs.LittleEndian.{un}
 use Rattle.types.specs.declared.Step.{Step}
-use Rattle.types.specs.declared.Step.the-variants.{Read, Write, Flush, Arrive, Retire}
+use Rattle.types.specs.declared.Step.the-variants.{Flush}
 use Rattle.types.specs.declared.Numbers.{Numbers}
 use Rattle.types.specs.declared.Refusal.{Refusal}
 use Rattle.types.specs.declared.Refusal.the-variants.{OutOfRange, ShortBuffer}
-use Rattle.types.specs.Types.{numbersFrom, stepOf}
+use Rattle.types.specs.Types.{numbersFrom, stepOf, telling, told, refusalFrom}
+use Rattle.types.proofs.Refusals.{refusal-is}
 use Rattle.types.proofs.Steps.{step-read, step-write, step-arrive, step-retire, step-flush}
 use Rattle.landlord.specs.Catalog.{listed as itemListed}
-use Rattle.landlord.specs.Calls.{inRange}
-use Rattle.landlord.proofs.Ranges.{item-facts, range-write, range-arrive, range-wide, range-flush}
-use Rattle.season_lines.specs.Lines.{headings, headingOf, kindUnder, numbersUnder}
-use Rattle.season_lines.proofs.Laws.{kind-new}
+use Rattle.landlord.specs.Steps.{inRange, rangeRefusal}
+use Rattle.landlord.proofs.Ranges.{item-facts, range-write, range-arrive, range-wide}
+use Rattle.landlord.proofs.Steps.{free-range}
+use Rattle.season_lines.specs.Lines.{headings, headingOf, kindUnder, numbersUnder, rangeUnder}
 use Rattle.season_log.specs.declared.LogAnswer.{LogAnswer}
 use Rattle.season_log.specs.declared.LogAnswer.the-variants.{Count, Refused as Not}
-use Rattle.season_log.specs.Log.{Logged, steps, fault, ahead, isHeading, noValues, stepText, stepLines, logText, listNumber, listNumbers, toldLine, listedFrom, listedUnder, listed, writeAnswer, writtenPage}
-use Rattle.season_log.specs.Inner.{namesText, namedText, arrivalText, numbersAt, rangedAt, stepAt, lineBytes, Arrives, textBytes, FaultIs, LineFits, LinesFit, LinesOn}
-use Rattle.season_log.proofs.Lines.{by-kind, kind-kept}
+use Rattle.season_log.specs.Log.{Logged, steps, fault, ahead, noValues, stepText, stepLines, logText, listNumber, listNumbers, toldLine, listedFrom, listedUnder, listed, writeAnswer, writtenPage}
+use Rattle.season_log.specs.Inner.{namesText, namedText, arrivalText, rangeAt, stepAt, Arrives, textSize, LineFits, LinesFit, LinesOn}
+use Rattle.season_log.proofs.Lines.{by-kind, kind-kept, under-same}
 
 -- ## Numbers in range
 
@@ -64,11 +66,7 @@ named-letter n r = by-kind (λ m. m .kind ≤ 87) n r (λ e. omega arith) (λ e.
 
 -- ## Numbers under a heading
 
--- numbers whose kind the heading keeps are kept
-pub under-same : (form : ℕ) (n : Numbers) → kindUnder form (n .kind) ≡ n .kind → numbersUnder form n ≡ n
-under-same form n e = λ i. numbersFrom (e i) (n .item) (n .minutes) (n .blocks) (n .load) (n .write)
-
--- every kind but A and Q is
+-- every kind but A and Q is kept
 pub old-kind : (form k : ℕ) → (eqb k 65 || eqb k 81) ≡ false → kindUnder form k ≡ k
 old-kind form k e = rw e (go (eqb form 1))
   where
@@ -76,79 +74,41 @@ old-kind form k e = rw e (go (eqb form 1))
     go true = refl
     go false = refl
 
+-- so a landing is kept
+pub flush-kept : (form : ℕ) (n : Numbers) → n .kind ≡ 76 → n ≡ numbersUnder form n
+flush-kept form n e = sym (under-same form n (old-kind form (n .kind) (rw e)))
+
 -- numbers in range under a heading are so as they are
-pub kept : (form : ℕ) (n : Numbers) → inRange (numbersUnder form n) ≡ true → (numbersUnder form n ≡ n) × (inRange n ≡ true)
+pub kept : (form : ℕ) (n : Numbers) → rangeUnder form n ≡ 0 → (numbersUnder form n ≡ n) × (inRange n ≡ true)
 kept form n r =
-    let e = under-same form n (kind-kept form n r) in
-    (e, ap inRange (sym e) ∙ r)
+    let near = free-range (numbersUnder form n) r in
+    let e = under-same form n (kind-kept form n near) in
+    (e, ap inRange (sym e) ∙ near)
 
 -- ## The line of a step
 
--- how many bytes the line of numbers has
-abbrev pub bytesUnder : ℕ → Numbers → ℕ
-bytesUnder form x = cond (inRange x) (length (stepText form (stepOf x))) 0
-
-abbrev pub bytesOf : ℕ → Numbers → ℕ
-bytesOf form n = bytesUnder form (numbersUnder form n)
-
-kept-line :
-    (form : ℕ) (n : Numbers) (s : Step) → kindUnder form (n .kind) ≡ n .kind → inRange n ≡ true → stepOf n ≡ s → length (stepText form s) ≡ bytesOf form n
-kept-line form n s k r e =
-    sym
-    (ap (bytesUnder form) (under-same form n k)
-    ∙ ap (λ (t : Bool). cond t (length (stepText form (stepOf n))) 0) r
-    ∙ ap (λ (x : Step). length (stepText form x)) e)
-
+-- how many bytes it has, by its kind
 module _ (form : ℕ) (n : Numbers) where
-  pub flush-line : n .kind ≡ 76 → 5 + length (noValues form) ≡ bytesOf form n
+  pub arrive-line : n .kind ≡ 65 → length (arrivalText n) ≡ length (stepText form (stepOf n))
+  unfolding stepText
+  arrive-line e = ap (λ (s : Step). length (stepText form s)) (sym (step-arrive n e))
+
+  pub flush-line : n .kind ≡ 76 → 5 + length (noValues form) ≡ length (stepText form (stepOf n))
   unfolding stepText
   flush-line e =
-      let k : kindUnder form (n .kind) ≡ n .kind = old-kind form (n .kind) (rw e) in
       omega arith
-      ∙ kept-line form n Flush k (sym (range-flush n e)) (step-flush n (λ z. omega arith) (λ z. omega arith) (λ z. omega arith) (λ z. omega arith))
+      ∙ ap (λ (s : Step). length (stepText form s)) (sym (step-flush n (λ z. omega arith) (λ z. omega arith) (λ z. omega arith) (λ z. omega arith)))
 
-  pub no-line : inRange n ≡ false → 0 ≡ bytesOf form n
-  no-line e = go (inRange (numbersUnder form n)) refl
-    where
-      go : (t : Bool) → inRange (numbersUnder form n) ≡ t → 0 ≡ cond t (length (stepText form (stepOf (numbersUnder form n)))) 0
-      go true r = absurd (false≢true (sym e ∙ kept form n r .1))
-      go false r = refl
+  pub write-line : n .kind ≡ 87 → 3 + length (digitsOf (n .item)) + length (digitsOf (n .minutes)) + length (noValues form) ≡ length (stepText form (stepOf n))
+  unfolding stepText
+  write-line e =
+      omega (arith, length-append (digitsOf (n .item)) (textOf " " ++ (digitsOf (n .minutes) ++ noValues form)), length-append (digitsOf (n .minutes)) (noValues form))
+      ∙ ap (λ (s : Step). length (stepText form s)) (sym (step-write n e))
 
-  module _ (r : inRange n ≡ true) where
-    pub read-line : n .kind ≡ 82 → 4 + length (digitsOf (n .item)) + length (noValues form) ≡ bytesOf form n
-    unfolding stepText
-    read-line e =
-        omega (arith, length-append (digitsOf (n .item)) (textOf " -" ++ noValues form))
-        ∙ kept-line form n (Read (n .item)) (old-kind form (n .kind) (rw e)) r (step-read n e)
-
-    pub write-line : n .kind ≡ 87 → 3 + length (digitsOf (n .item)) + length (digitsOf (n .minutes)) + length (noValues form) ≡ bytesOf form n
-    unfolding stepText
-    write-line e =
-        omega (arith, length-append (digitsOf (n .item)) (textOf " " ++ (digitsOf (n .minutes) ++ noValues form)), length-append (digitsOf (n .minutes)) (noValues form))
-        ∙ kept-line form n (Write (n .item) (n .minutes)) (old-kind form (n .kind) (rw e)) r (step-write n e)
-
-    -- under the old heading nothing else is in range
-    pub gone-line : n .kind ≢ 76 → n .kind ≢ 82 → n .kind ≢ 87 → form ≢ 1 → 0 ≡ bytesOf form n
-    gone-line l d w f =
-        by-kind (λ m. 0 ≡ bytesOf form m) n r
-        (λ e. absurd (d e)) (λ e. absurd (w e)) (λ e. rw (e, ne-eqb form 1 f)) (λ e. rw (e, ne-eqb form 1 f)) (λ e. absurd (l e))
-
-    -- and under the new one a retirement and an arrival
-    pub retire-line : form ≡ 1 → n .kind ≡ 81 → 4 + length (digitsOf (n .item)) + length (noValues form) ≡ bytesOf form n
-    unfolding stepText
-    retire-line f e =
-        omega (arith, length-append (digitsOf (n .item)) (textOf " -" ++ noValues form))
-        ∙ kept-line form n (Retire (n .item)) (sym (kind-new form (n .kind) f)) r (step-retire n e)
-
-    pub arrive-line : form ≡ 1 → n .kind ≡ 65 → length (arrivalText n) ≡ bytesOf form n
-    unfolding stepText
-    arrive-line f e =
-        kept-line form n (Arrive (n .item) (n .blocks) (n .load) (n .write)) (sym (kind-new form (n .kind) f)) r (step-arrive n e)
-
-    -- what is none of the others arrives
-    pub is-arrival : n .kind ≢ 76 → n .kind ≢ 82 → n .kind ≢ 87 → n .kind ≢ 81 → n .kind ≡ 65
-    is-arrival l d w q =
-        by-kind (λ m. m .kind ≡ 65) n r (λ e. absurd (d e)) (λ e. absurd (w e)) (λ e. e) (λ e. absurd (q e)) (λ e. absurd (l e))
+  pub named-line :
+      n .kind ≢ 76 → n .kind ≢ 87 → n .kind ≢ 65 → inRange n ≡ true → 4 + length (digitsOf (n .item)) + length (noValues form) ≡ length (stepText form (stepOf n))
+  named-line l w a r =
+      omega (arith, length-append (digitsOf (n .item)) (textOf " -" ++ noValues form)) ∙ ap length (named-step form n l w a r)
 
 -- the digits of each number
 pub item-digits : (i : ℕ) → i ≤ 255 → length (digitsOf i) ≤ 3
@@ -221,15 +181,6 @@ names-old zero n = refl
 names-old (suc zero) n = absurd (n refl)
 names-old (suc (suc form)) n = refl
 
--- no line is empty
-line-some : (form : ℕ) (s : Step) → 1 ≤ length (stepText form s)
-unfolding stepText
-line-some form (Read i) = omega arith
-line-some form (Write i m) = omega arith
-line-some form Flush = omega arith
-line-some form (Arrive i b l w) = omega arith
-line-some form (Retire i) = omega arith
-
 -- a text on a page: how many bytes it has, and the page with it at its start
 abbrev pub TextOn : List ℕ → List ℕ → ℕ → List ℕ → Type 0
 TextOn text before n after = (n ≡ length text) × (after ≡ textOver text before)
@@ -240,23 +191,23 @@ module _ (form : ℕ) where
   abbrev restAt : ℕ → List ℕ → Logged
   restAt at list = listedFrom form ((length list - at) / 24) (at / 24 + 2) (drop at list)
 
-  -- the fault of the step at a place
-  abbrev faultAt : ℕ → Logged
-  faultAt at = fault (OutOfRange (toldLine (at / 24 + 2)))
-
   rest-start : (list : List ℕ) → restAt 0 list ≡ listedUnder form list
   rest-start list = let e : length list - 0 ≡ length list = omega arith in ap (λ (n : ℕ). listedFrom form (n / 24) 2 list) e
 
+  -- the refusal of a number for the step of line n
+  abbrev refusedAt : ℕ → ℕ → Refusal
+  refusedAt number n = refusalFrom (telling number (toldLine n) 0)
+
   -- a step of these numbers, and what follows it
   abbrev stepThen : Numbers → ℕ → Logged → Logged
-  stepThen m n x = cond (inRange (numbersUnder form m)) (ahead (stepOf (numbersUnder form m)) x) (fault (OutOfRange (toldLine n)))
+  stepThen m n x = cond (eqb (rangeUnder form m) 0) (ahead (stepOf (numbersUnder form m)) x) (fault (refusedAt (rangeUnder form m) n))
 
   first-step : (w n : ℕ) (l : List ℕ) → listedFrom form (suc w) n l ≡ stepThen (listNumbers 0 l) n (listedFrom form w (suc n) (drop 24 l))
   unfolding listedFrom
   first-step w n l = refl
 
   module _ (list : List ℕ) (at : ℕ) (more : at + 24 ≤ length list) where
-    step-here : restAt at list ≡ cond (rangedAt form at list) (ahead (stepAt form at list) (restAt (at + 24) list)) (faultAt at)
+    step-here : restAt at list ≡ stepThen (listNumbers at list) (at / 24 + 2) (restAt (at + 24) list)
     step-here =
         let count : (length list - at) / 24 ≡ suc ((length list - (at + 24)) / 24) = omega arith in
         let line : suc (at / 24 + 2) ≡ (at + 24) / 24 + 2 = omega arith in
@@ -269,37 +220,20 @@ module _ (form : ℕ) where
         ∙ first-step ((length list - (at + 24)) / 24) (at / 24 + 2) (drop at list)
         ∙ (λ j. stepThen (numbers j) (at / 24 + 2) (rest j))
 
-    rest-next : rangedAt form at list ≡ true → restAt at list ≡ ahead (stepAt form at list) (restAt (at + 24) list)
-    rest-next r = step-here ∙ ap (λ (t : Bool). cond t (ahead (stepAt form at list) (restAt (at + 24) list)) (faultAt at)) r
+    rest-next : rangeAt form at list ≡ 0 → restAt at list ≡ ahead (stepAt form at list) (restAt (at + 24) list)
+    rest-next r = step-here ∙ rw (eq-eqb (rangeAt form at list) 0 r)
 
-    rest-fault : rangedAt form at list ≡ false → restAt at list ≡ faultAt at
-    rest-fault r = step-here ∙ ap (λ (t : Bool). cond t (ahead (stepAt form at list) (restAt (at + 24) list)) (faultAt at)) r
+    rest-fault : rangeAt form at list ≢ 0 → restAt at list ≡ fault (refusedAt (rangeAt form at list) (at / 24 + 2))
+    rest-fault r = step-here ∙ rw (ne-eqb (rangeAt form at list) 0 r)
 
-    -- a line of no bytes is a fault
-    rest-none : lineBytes form at list ≡ 0 → restAt at list ≡ faultAt at
-    rest-none e = go (rangedAt form at list) refl e
-      where
-        go : (t : Bool) → rangedAt form at list ≡ t → cond t (length (stepText form (stepAt form at list))) 0 ≡ 0 → restAt at list ≡ faultAt at
-        go true r z = absurd (omega (arith, line-some form (stepAt form at list)))
-        go false r z = rest-fault r
-
-    -- and one of some bytes is a step's
-    rest-some :
-        lineBytes form at list ≢ 0 →
-        (lineBytes form at list ≡ length (stepText form (stepAt form at list))) × (restAt at list ≡ ahead (stepAt form at list) (restAt (at + 24) list))
-    rest-some n = go (rangedAt form at list) refl n
-      where
-        go :
-            (t : Bool) → rangedAt form at list ≡ t → cond t (length (stepText form (stepAt form at list))) 0 ≢ 0 →
-            (cond t (length (stepText form (stepAt form at list))) 0 ≡ length (stepText form (stepAt form at list)))
-            × (restAt at list ≡ ahead (stepAt form at list) (restAt (at + 24) list))
-        go true r z = (refl, rest-next r)
-        go false r z = absurd (z refl)
+  -- the fault of a step that is not whole
+  abbrev tornAt : ℕ → Logged
+  tornAt at = fault (OutOfRange (toldLine (at / 24 + 2)))
 
   -- no whole step is left
   rest-few :
       (list : List ℕ) (at : ℕ) → length list < at + 24 →
-      restAt at list ≡ cond (eqb (length (drop at list)) 0) (steps form []) (faultAt at)
+      restAt at list ≡ cond (eqb (length (drop at list)) 0) (steps form []) (tornAt at)
   unfolding listedFrom
   rest-few list at h =
       let none : (length list - at) / 24 ≡ 0 = omega arith in
@@ -307,11 +241,11 @@ module _ (form : ℕ) where
 
   rest-end : (list : List ℕ) (at : ℕ) → length list ≤ at → restAt at list ≡ steps form []
   rest-end list at h =
-      rest-few list at (omega arith) ∙ ap (λ (t : Bool). cond t (steps form []) (faultAt at)) (eq-eqb (length (drop at list)) 0 (omega (arith, length-drop at list)))
+      rest-few list at (omega arith) ∙ ap (λ (t : Bool). cond t (steps form []) (tornAt at)) (eq-eqb (length (drop at list)) 0 (omega (arith, length-drop at list)))
 
-  rest-torn : (list : List ℕ) (at : ℕ) → at < length list → length list < at + 24 → restAt at list ≡ faultAt at
+  rest-torn : (list : List ℕ) (at : ℕ) → at < length list → length list < at + 24 → restAt at list ≡ tornAt at
   rest-torn list at h k =
-      rest-few list at k ∙ ap (λ (t : Bool). cond t (steps form []) (faultAt at)) (ne-eqb (length (drop at list)) 0 (λ e. omega (arith, length-drop at list)))
+      rest-few list at k ∙ ap (λ (t : Bool). cond t (steps form []) (tornAt at)) (ne-eqb (length (drop at list)) 0 (λ e. omega (arith, length-drop at list)))
 
   -- ## Whole lists
 
@@ -321,9 +255,9 @@ module _ (form : ℕ) where
   Under (fault r) = Unit {0}
 
   under-then : (m : Numbers) (n : ℕ) (x : Logged) → Under x → Under (stepThen m n x)
-  under-then m n x u = go (inRange (numbersUnder form m)) x u
+  under-then m n x u = go (eqb (rangeUnder form m) 0) x u
     where
-      go : (t : Bool) (x : Logged) → Under x → Under (cond t (ahead (stepOf (numbersUnder form m)) x) (fault (OutOfRange (toldLine n))))
+      go : (t : Bool) (x : Logged) → Under x → Under (cond t (ahead (stepOf (numbersUnder form m)) x) (fault (refusedAt (rangeUnder form m) n)))
       go true (steps f ss) u = u
       go true (fault r) u = u
       go false x u = tt
@@ -362,123 +296,84 @@ module _ (form : ℕ) where
   pub log-count : (ss : List Step) → length (logText form ss) ≡ length (namesText form) + length (stepLines form ss)
   log-count ss = ap length (log-is ss) ∙ length-append (namesText form) (stepLines form ss)
 
-  -- the bytes of the whole, b of them being passed
-  abbrev bytesFrom : ℕ → Logged → ℕ
-  bytesFrom b (steps f ss) = b + length (stepLines form ss)
-  bytesFrom b (fault r) = 0
+  -- the size of the whole, b bytes of it being passed
+  abbrev sizeFrom : ℕ → Logged → LogAnswer
+  sizeFrom b (steps f ss) = Count (b + length (stepLines form ss))
+  sizeFrom b (fault r) = Not r
 
-  bytes-start : (x : Logged) → Under x → textBytes x ≡ bytesFrom (length (namesText form)) x
-  bytes-start (steps f ss) u = rw u (log-count ss)
-  bytes-start (fault r) u = refl
+  size-start : (x : Logged) → Under x → textSize x ≡ sizeFrom (length (namesText form)) x
+  size-start (steps f ss) u = rw u (ap Count (log-count ss))
+  size-start (fault r) u = refl
 
-  bytes-next : (s : Step) (b : ℕ) (x : Logged) → bytesFrom b (ahead s x) ≡ bytesFrom (b + length (stepText form s)) x
+  size-next : (s : Step) (b : ℕ) (x : Logged) → sizeFrom b (ahead s x) ≡ sizeFrom (b + length (stepText form s)) x
   unfolding stepLines
-  bytes-next s b (steps f ss) = omega (arith, length-append (stepText form s) (stepLines form ss))
-  bytes-next s b (fault r) = refl
+  size-next s b (steps f ss) = ap Count (omega (arith, length-append (stepText form s) (stepLines form ss)))
+  size-next s b (fault r) = refl
 
-  -- The loop's invariant: the bytes of what is left, those of the passed steps being counted, are the bytes of the whole. A line has at most
+  -- The loop's invariant: the size of what is left, the bytes of the passed steps being counted, is the size of the whole. A line has at most
   -- 23 bytes of a step's 24, so that the count stays below the list's length but for the names.
   pub record Counting (list : List ℕ) (at bytes : ℕ) : Type 0 where
     pub within : at ≤ length list
-    pub even : (length list - at) % 24 ≡ 0
+    pub even : at % 24 ≡ 0
     pub small : 24 * bytes ≤ 23 * at + 864
-    pub leads : textBytes (listedUnder form list) ≡ bytesFrom bytes (restAt at list)
+    pub leads : textSize (listedUnder form list) ≡ sizeFrom bytes (restAt at list)
 
-  pub counting : (list : List ℕ) (names : ℕ) → length list % 24 ≡ 0 → names ≡ length (namesText form) → names ≤ 36 → Counting list 0 names
-  counting list names e is few =
+  pub counting : (list : List ℕ) (names : ℕ) → names ≡ length (namesText form) → names ≤ 36 → Counting list 0 names
+  counting list names is few =
       record {
         within = omega arith;
-        even = omega arith;
+        even = refl;
         small = omega arith;
-        leads = bytes-start (listedUnder form list) (list-under list) ∙ (λ j. bytesFrom (sym is j) (sym (rest-start list) j));
+        leads = size-start (listedUnder form list) (list-under list) ∙ (λ j. sizeFrom (sym is j) (sym (rest-start list) j));
       }
 
   module _ {list : List ℕ} {at b : ℕ} (g : Counting list at b) where
-    -- a step that is left is whole
-    pub counting-more : at < length list → at + 24 ≤ length list
+    -- a whole step is left, of these numbers as the heading takes them
+    module _ (more : at + 24 ≤ length list) {x : Numbers} (is : x ≡ numbersUnder form (listNumbers at list)) where
+      range-is : rangeRefusal x ≡ rangeAt form at list
+      range-is = ap rangeRefusal is
+
+      pub counting-next : {n : ℕ} → rangeRefusal x ≡ 0 → n ≡ length (stepText form (stepOf x)) → n ≤ 23 → Counting list (at + 24) (b + n)
+      counting-next {n} free e l =
+          record {
+            within = more;
+            even = omega (arith, g .even);
+            small = omega (arith, g .small);
+            leads =
+                g .leads ∙ ap (sizeFrom b) (rest-next list at more (sym range-is ∙ free)) ∙ size-next (stepAt form at list) b (restAt (at + 24) list)
+                ∙ ap (λ (m : ℕ). sizeFrom (b + m) (restAt (at + 24) list)) (sym (e ∙ ap (λ (y : Numbers). length (stepText form (stepOf y))) is));
+          }
+
+      pub counted-fault :
+          {number : ℕ} {line : ℕ} →
+          number ≡ rangeRefusal x →
+          number ≢ 0 →
+          line ≡ toldLine (at / 24 + 2) →
+          (r : Refusal) →
+          told r ≡ telling number line 0 →
+          Not r ≡ textSize (listedUnder form list)
+      counted-fault {number} {line} e f l r t =
+          let same : number ≡ rangeAt form at list = e ∙ range-is in
+          ap Not (refusal-is r (telling number line 0) t ∙ (λ j. refusalFrom (telling (same j) (l j) 0)))
+          ∙ sym (g .leads ∙ ap (sizeFrom b) (rest-fault list at more (λ z. f (same ∙ z))))
+
+    -- a whole step is left before the end of the whole ones
+    pub counting-more : at < length list - length list % 24 → at + 24 ≤ length list
     counting-more h = omega (arith, g .even)
 
-    pub counting-next :
-        {n : ℕ} → at + 24 ≤ length list → n ≡ lineBytes form at list → n ≤ 23 → n ≢ 0 → Counting list (at + 24) (b + n)
-    counting-next {n} more e l z =
-        let s = rest-some list at more (λ y. z (e ∙ y)) in
-        record {
-          within = more;
-          even = omega (arith, g .even);
-          small = omega (arith, g .small);
-          leads =
-              g .leads ∙ ap (bytesFrom b) (s .1) ∙ bytes-next (stepAt form at list) b (restAt (at + 24) list)
-              ∙ ap (λ (x : ℕ). bytesFrom (b + x) (restAt (at + 24) list)) (sym (s .0) ∙ sym e);
-        }
+    -- and behind it none, but bytes of one
+    pub counted-torn :
+        {whole line : ℕ} → whole ≡ length list - length list % 24 → whole ≤ at → whole < length list → line ≡ toldLine (whole / 24 + 2) →
+        Not (OutOfRange line) ≡ textSize (listedUnder form list)
+    counted-torn {whole} e h k l =
+        let here : whole ≡ at = omega (arith, g .even, g .within) in
+        ap (λ (n : ℕ). Not (OutOfRange n)) (l ∙ ap (λ (w : ℕ). toldLine (w / 24 + 2)) here)
+        ∙ sym (g .leads ∙ ap (sizeFrom b) (rest-torn list at (omega arith) (omega arith)))
 
-    pub counted-fault : at + 24 ≤ length list → 0 ≡ lineBytes form at list → 0 ≡ textBytes (listedUnder form list)
-    counted-fault more e = sym (g .leads ∙ ap (bytesFrom b) (rest-none list at more (sym e)))
-
-    pub counted-whole : length list ≤ at → b ≡ textBytes (listedUnder form list)
+    -- or nothing
+    pub counted-whole : length list ≤ at → Count b ≡ textSize (listedUnder form list)
     unfolding stepLines
-    counted-whole h = let e : b + 0 ≡ b = omega arith in sym (g .leads ∙ ap (bytesFrom b) (rest-end list at h) ∙ e)
-
-  -- a list of no multiple of 24 bytes has a fault
-  odd-fault : (m n : ℕ) (list : List ℕ) → m * 24 < length list → length list < m * 24 + 24 → isWhole (listedFrom form m n list) ≡ false
-  unfolding listedFrom
-  odd-fault zero n list h k = rw (ne-eqb (length list) 0 (λ e. omega arith))
-  odd-fault (suc m) n list h k =
-      let rest = listedFrom form m (suc n) (drop 24 list) in
-      let e : isWhole rest ≡ false = odd-fault m (suc n) (drop 24 list) (omega (arith, length-drop 24 list)) (omega (arith, length-drop 24 list)) in
-      go (inRange (numbersUnder form (listNumbers 0 list))) (stepOf (numbersUnder form (listNumbers 0 list))) rest e
-    where
-      go : (t : Bool) (s : Step) (x : Logged) → isWhole x ≡ false → isWhole (cond t (ahead s x) (fault (OutOfRange (toldLine n)))) ≡ false
-      go true s x e = whole-ahead s x ∙ e
-      go false s x e = refl
-
-  no-bytes : (x : Logged) → isWhole x ≡ false → 0 ≡ textBytes x
-  no-bytes (steps f ss) e = absurd (false≢true (sym e))
-  no-bytes (fault r) e = refl
-
-  pub counted-odd : (list : List ℕ) → length list % 24 ≢ 0 → 0 ≡ textBytes (listedUnder form list)
-  counted-odd list n = no-bytes (listedUnder form list) (odd-fault (length list / 24) 2 list (omega arith) (omega arith))
-
-  -- ## The first fault
-
-  fault-ahead : (s : Step) (x : Logged) (r : Refusal) → FaultIs x r → FaultIs (ahead s x) r
-  fault-ahead s (steps f ss) r told = told
-  fault-ahead s (fault q) r told = told
-
-  -- The loop's invariant: the first fault of what is left is that of the whole.
-  pub record Seeking (list : List ℕ) (at : ℕ) : Type 0 where
-    pub within : at ≤ length list
-    pub leads : (r : Refusal) → FaultIs (restAt at list) r → FaultIs (listedUnder form list) r
-
-  pub seeking : (list : List ℕ) → Seeking list 0
-  seeking list =
-      record { within = omega arith; leads = λ r f. subst (λ (x : Logged). FaultIs x r) (rest-start list) f }
-
-  module _ {list : List ℕ} {at : ℕ} (g : Seeking list at) where
-    pub seeking-next : at + 24 ≤ length list → rangedAt form at list ≡ true → Seeking list (at + 24)
-    seeking-next more r =
-        record {
-          within = more;
-          leads = λ q f.
-              g .leads q
-              (subst (λ (x : Logged). FaultIs x q) (sym (rest-next list at more r))
-              (fault-ahead (stepAt form at list) (restAt (at + 24) list) q f));
-        }
-
-    module _ (line : ℕ) (told : line ≡ toldLine (at / 24 + 2)) where
-      fault-here : restAt at list ≡ faultAt at → FaultIs (listedUnder form list) (OutOfRange line)
-      fault-here e = g .leads (OutOfRange line) (subst (λ (x : Logged). FaultIs x (OutOfRange line)) (sym e) (ap OutOfRange (sym told)))
-
-      -- the step at the place is out of range
-      pub sought-fault : at + 24 ≤ length list → rangedAt form at list ≡ false → FaultIs (listedUnder form list) (OutOfRange line)
-      sought-fault more r = fault-here (rest-fault list at more r)
-
-      -- no whole step is left
-      pub sought-end : length list < at + 24 → FaultIs (listedUnder form list) (OutOfRange line)
-      sought-end h = go (leb (length list) at) refl
-        where
-          go : (t : Bool) → leb (length list) at ≡ t → FaultIs (listedUnder form list) (OutOfRange line)
-          go true e = g .leads (OutOfRange line) (subst (λ (x : Logged). FaultIs x (OutOfRange line)) (sym (rest-end list at (leb-true (length list) at e))) tt)
-          go false e = fault-here (rest-torn list at (leb-false (length list) at e) h)
+    counted-whole h = let e : b + 0 ≡ b = omega arith in sym (g .leads ∙ ap (sizeFrom b) (rest-end list at h) ∙ ap Count e)
 
   -- ## The lines of a list on a page
 
@@ -497,12 +392,12 @@ module _ (form : ℕ) where
         go false e = absurd (false≢true (sym (ap isWhole (rest-torn list at h (leb-false (at + 24) (length list) e))) ∙ w))
 
     -- and in range
-    whole-range : at + 24 ≤ length list → rangedAt form at list ≡ true
-    whole-range more = go (rangedAt form at list) refl
+    whole-range : at + 24 ≤ length list → rangeAt form at list ≡ 0
+    whole-range more = go (ℕ-discrete (rangeAt form at list) 0)
       where
-        go : (t : Bool) → rangedAt form at list ≡ t → rangedAt form at list ≡ true
-        go true e = e
-        go false e = absurd (false≢true (sym (ap isWhole (rest-fault list at more e)) ∙ w))
+        go : Dec (rangeAt form at list ≡ 0) → rangeAt form at list ≡ 0
+        go (yes e) = e
+        go (no e) = absurd (false≢true (sym (ap isWhole (rest-fault list at more e)) ∙ w))
 
     -- and what is behind it is whole too
     whole-next :
@@ -584,25 +479,26 @@ module _ (form : ℕ) where
 abbrev pub Answers : Logged → List ℕ → LogAnswer → List ℕ → Type 0
 Answers x page r after = (r ≡ writeAnswer x page) × (after ≡ writtenPage x page)
 
-names-some : (form : ℕ) → 1 ≤ length (namesText form)
-names-some form = omega (arith, length-append (headingOf 2 form) (textOf "\n"))
+pub told-fault : (x : Logged) (r : Refusal) (page : List ℕ) → Not r ≡ textSize x → Answers x page (Not r) page
+told-fault (steps f ss) r page e = absurd (let z : _≡_ {A = ℕ} 0 1 = cc in omega arith)
+told-fault (fault q) r page e = (e, refl)
 
-pub told-fault :
-    (x : Logged) (n : ℕ) (r : Refusal) (page : List ℕ) → n ≡ textBytes x → n ≡ 0 → FaultIs x r → Answers x page (Not r) page
-told-fault (steps f ss) n r page e z told = absurd (omega (arith, log-count f ss, names-some f))
-told-fault (fault q) n r page e z told = (ap Not (sym told), refl)
-
--- a list whose text has some bytes has no fault
+-- a list whose text has so many bytes has no fault
 abbrev pub Sized : Logged → ℕ → Type 0
-Sized x n = (n ≡ textBytes x) × (n ≢ 0)
+Sized x n = Count n ≡ textSize x
+
+no-size : {n : ℕ} {q : Refusal} → Sized (fault q) n → ⊥
+no-size e = let z : _≡_ {A = ℕ} 0 1 = cc in omega arith
 
 pub sized-whole : (form : ℕ) (x : Logged) (n : ℕ) → Under form x → Sized x n → (x ≡ steps form (stepsOf form x)) × (n ≡ length (logText form (stepsOf form x)))
-sized-whole form (steps f ss) n u z = (ap (λ (g : ℕ). steps g ss) u, z .0 ∙ ap (λ (g : ℕ). length (logText g ss)) u)
-sized-whole form (fault q) n u z = absurd (z .1 (z .0))
+sized-whole form (steps f ss) n u z =
+    let same : n ≡ length (logText f ss) = cc in
+    (ap (λ (g : ℕ). steps g ss) u, same ∙ ap (λ (g : ℕ). length (logText g ss)) u)
+sized-whole form (fault q) n u z = absurd (no-size z)
 
 pub told-short :
     (x : Logged) (n : ℕ) (page : List ℕ) → Sized x n → (65536 < n) ⊎ (length page < n) → Answers x page (Not (ShortBuffer 0)) page
-told-short (fault q) n page z d = absurd (z .1 (z .0))
+told-short (fault q) n page z d = absurd (no-size z)
 told-short (steps f ss) n page z d = go (leb (length (logText f ss)) 65536) refl (leb (length (logText f ss)) (length page)) refl
   where
     go :
@@ -615,7 +511,7 @@ told-short (steps f ss) n page z d = go (leb (length (logText f ss)) 65536) refl
     go true e true h =
         let l = leb-true (length (logText f ss)) 65536 e in
         let k = leb-true (length (logText f ss)) (length page) h in
-        let n-is = z .0 in
+        let n-is : n ≡ length (logText f ss) = cc in
         absurd (⊎-elim (λ y. omega arith) (λ y. omega arith) d)
 
 pub told-text :
@@ -626,10 +522,10 @@ pub told-text :
     n ≤ length page →
     after ≡ textOver (logText form (stepsOf form x)) page →
     Answers x page (Count n) after
-told-text form (fault q) n page after u z small room e = absurd (z .1 (z .0))
+told-text form (fault q) n page after u z small room e = absurd (no-size z)
 told-text form (steps f ss) n page after u z small room e =
     let t = logText f ss in
-    let n-is = z .0 in
+    let n-is : n ≡ length t = cc in
     let put : after ≡ textOver t page = e ∙ ap (λ (g : ℕ). textOver (logText g ss) page) (sym u) in
     rw (le-leb (length t) 65536 (omega arith), le-leb (length t) (length page) (omega arith))
     (ap Count n-is, put ∙ sym (page-all t page (omega arith)))

@@ -1,12 +1,13 @@
 -- What the inner functions of `season_log` ask and give. Assumes nothing.
-use mathlib.Core.{Path._≡_, Bool.{Bool, true, cond}, List.{List, _∷_, _++_}}
+use mathlib.Core.{Path._≡_, Bool.true, List.{List, _∷_, _++_}}
 use Prim.Native.Nat.{ℕ, _+_, _≤_}
 use lib.ListN.{length}
 use Rattle.decimal.specs.{Decimal.{textOf, digitsOf}, InnerPages.textOver}
-use Rattle.types.specs.declared.{Step.Step, Numbers.Numbers, Refusal.Refusal}
+use Rattle.types.specs.declared.{Step.Step, Numbers.Numbers}
 use Rattle.types.specs.Types.{stepOf}
-use Rattle.landlord.specs.{Catalog.{listed as itemListed, itemInRange}, Calls.{isItemNumber, inRange}}
-use Rattle.season_lines.specs.Lines.{headingOf, numbersUnder}
+use Rattle.landlord.specs.{Catalog.{listed as itemListed, itemInRange}, Steps.isItemNumber}
+use Rattle.season_lines.specs.Lines.{headingOf, numbersUnder, rangeUnder}
+use Rattle.season_log.specs.declared.LogAnswer.{LogAnswer, the-variants.{Count, Refused as Not}}
 use Rattle.season_log.specs.Log.{Logged, steps, fault, noValues, stepText, stepLines, logText, listNumbers, listedUnder}
 
 -- steps in front of what follows them
@@ -31,38 +32,26 @@ arrivalText n =
 abbrev pub valueText : List ℕ → ℕ → List ℕ
 valueText text v = text ++ digitsOf v
 
--- the numbers of the step at a place of a list, as the heading takes them; whether it is in range, and the step
-abbrev pub numbersAt : ℕ → ℕ → List ℕ → Numbers
-numbersAt form at list = numbersUnder form (listNumbers at list)
-
-abbrev pub rangedAt : ℕ → ℕ → List ℕ → Bool
-rangedAt form at list = inRange (numbersAt form at list)
+-- what the table says by their ranges to the numbers of the step at a place of a list, and the step
+abbrev pub rangeAt : ℕ → ℕ → List ℕ → ℕ
+rangeAt form at list = rangeUnder form (listNumbers at list)
 
 abbrev pub stepAt : ℕ → ℕ → List ℕ → Step
-stepAt form at list = stepOf (numbersAt form at list)
-
--- how many bytes its line has; 0 if it is out of range
-abbrev pub lineBytes : ℕ → ℕ → List ℕ → ℕ
-lineBytes form at list = cond (rangedAt form at list) (length (stepText form (stepAt form at list))) 0
+stepAt form at list = stepOf (numbersUnder form (listNumbers at list))
 
 -- the numbers of an arrival in range
 abbrev pub Arrives : Numbers → Type 0
 Arrives n = (isItemNumber (n .item) ≡ true) × (itemInRange (itemListed (n .blocks) (n .load) (n .write)) ≡ true)
 
--- how many bytes a text has; 0 if there is none
-abbrev pub textBytes : Logged → ℕ
-textBytes (steps form ss) = length (logText form ss)
-textBytes (fault r) = 0
-
--- the refusal of a list that has a fault
-abbrev pub FaultIs : Logged → Refusal → Type 0
-FaultIs (steps form ss) r = Unit {0}
-FaultIs (fault q) r = q ≡ r
+-- how many bytes the text of a list has, or the refusal of its first fault
+abbrev pub textSize : Logged → LogAnswer
+textSize (steps form ss) = Count (length (logText form ss))
+textSize (fault r) = Not r
 
 -- a step in range at a place of a list whose line has room on the page
 pub record LineFits (form : ℕ) (list : List ℕ) (at : ℕ) (page : List ℕ) : Type 0 where
   pub whole : at + 24 ≤ length list
-  pub ranged : rangedAt form at list ≡ true
+  pub ranged : rangeAt form at list ≡ 0
   pub room : length (stepText form (stepAt form at list)) ≤ length page
 
 -- a list of whole steps in range whose lines have room on the page

@@ -5,11 +5,10 @@ use lib.{ListN.{length, take, drop}, Dec.{leb, eqb}}
 use Rattle.decimal.specs.Decimal.{textOf, digitsOf, fits, pageOf}
 use Rattle.fields.specs.LittleEndian.{un, le}
 use Rattle.types.specs.declared.{Step.{Step, the-variants.{Read, Write, Flush, Arrive, Retire}}, Numbers.Numbers, Refusal.{Refusal, the-variants.{Malformed, Heading, OutOfRange, ShortBuffer, InputTooLong}}}
-use Rattle.types.specs.Types.{numbersFrom, numbersOf, stepOf, Told, nothingTold, told}
-use Rattle.landlord.specs.Calls.{inRange}
+use Rattle.types.specs.Types.{numbersFrom, numbersOf, stepOf, Told, telling, nothingTold, told, refusalFrom}
 use Rattle.season_lines.specs.declared.{Names.{Names, the-variants.{Form, Unknown}}, Line.{Line, the-variants.{Sizes, Item as ItemLine, Step as StepLine, Act as ActLine, Refused}}}
 use Rattle.line_fields.specs.Fields.{split, fieldsOf}
-use Rattle.season_lines.specs.Lines.{headingOf, formOf, numbersUnder, lineIn}
+use Rattle.season_lines.specs.Lines.{headingOf, formOf, numbersUnder, rangeUnder, lineIn}
 use Rattle.season_log.specs.declared.LogAnswer.{LogAnswer, the-variants.{Count, Refused as Not}}
 
 -- the heading and the steps of a list or of a text, or the refusal of its first fault
@@ -70,8 +69,10 @@ toldLine n = cond (leb n 4294967295) n 4294967295
 unfoldable pub listedFrom : ℕ → ℕ → ℕ → List ℕ → Logged
 listedFrom form zero n list = cond (eqb (length list) 0) (steps form []) (fault (OutOfRange (toldLine n)))
 listedFrom form (suc m) n list =
-    let numbers = numbersUnder form (listNumbers 0 list) in
-    cond (inRange numbers) (ahead (stepOf numbers) (listedFrom form m (suc n) (drop 24 list))) (fault (OutOfRange (toldLine n)))
+    let numbers = listNumbers 0 list in
+    let range = rangeUnder form numbers in
+    cond (eqb range 0) (ahead (stepOf (numbersUnder form numbers)) (listedFrom form m (suc n) (drop 24 list)))
+    (fault (refusalFrom (telling range (toldLine n) 0)))
 
 -- the names are line 1, the first step is line 2
 abbrev pub listedUnder : ℕ → List ℕ → Logged
@@ -158,7 +159,7 @@ pub record LogWritten (log : Logged) (before : List ℕ) (r : LogAnswer) (after 
 -- steps that a log of a heading may have: "A and Q under the old one are off the tape"
 unfoldable pub stepsInRange : ℕ → List Step → Bool
 stepsInRange form [] = true
-stepsInRange form (s ∷ rest) = inRange (numbersUnder form (numbersOf s)) && stepsInRange form rest
+stepsInRange form (s ∷ rest) = eqb (rangeUnder form (numbersOf s)) 0 && stepsInRange form rest
 
 -- "the reader gives back those steps, and a text the reader takes is what the writer makes of them"; "the text is the only one for that
 -- heading and those steps"

@@ -2,12 +2,16 @@
 // 0 is `step sail minutes`, 1 is `step sail minutes blocks load write`. A list of steps is lent as bytes, 24 a step under both headings: its
 // kind, item, minutes, blocks, load and write, four bytes each, the low byte first.
 ghost use mathlib.Core.Path.{_≡_};
+ghost use mathlib.Core.Bool.{true};
 ghost use Prim.Native.Nat.{_+_, _/_, _≤_, _<_};
 ghost use lib.ListN.{length};
 ghost use Rattle.decimal.specs.InnerPages.{textOver};
 ghost use Rattle.types.specs.declared.Step.the-variants.{Write, Flush};
+ghost use Rattle.types.specs.Types.{stepOf};
+ghost use Rattle.landlord.specs.Steps.{inRange};
+ghost use Rattle.season_lines.specs.Lines.{numbersUnder};
 ghost use Rattle.season_log.specs.Log.{noValues, stepText, listNumber, listNumbers, toldLine, listedUnder, listed, LogWritten};
-ghost use Rattle.season_log.specs.Inner.{namesText, namedText, arrivalText, valueText, rangedAt, stepAt, lineBytes, Arrives, textBytes, FaultIs, LineFits, LinesFit, LinesOn};
+ghost use Rattle.season_log.specs.Inner.{namesText, namedText, arrivalText, valueText, stepAt, Arrives, textSize, LineFits, LinesFit, LinesOn};
 use types::Numbers;
 use types::Refusal;
 
@@ -59,20 +63,17 @@ fn numbers_at(list: &[u8], at: usize) -> Numbers
     }
 }
 
-// Whether the step at a place of a list may be in a log under the heading: it is in range as the heading takes it.
-fn is_ranged(heading: u32, list: &[u8], at: usize) -> bool
+// The same as the heading takes them. A landing is the same under both headings; where it is asked for first, the compiler reads no other
+// number of it.
+fn step_at(heading: u32, list: &[u8], at: usize) -> Numbers
     requires { ⌜ at + 24 ≤ length (now list) ⌝ }
-    ensures { λ r. ⌜ r ≡ rangedAt heading at (now (list .entry)) ⌝ }
+    ensures { λ r. ⌜ r ≡ numbersUnder heading (listNumbers at (now (list .entry))) ⌝ }
 {
     let n = numbers_at(list, at);
-    landlord::in_range(Numbers {
-        kind: season_lines::kind_under(heading, n.kind),
-        item: n.item,
-        minutes: n.minutes,
-        blocks: n.blocks,
-        load: n.load,
-        write: n.write,
-    })
+    if n.kind == types::FLUSH {
+        return n;
+    }
+    season_lines::numbers_under(heading, n)
 }
 
 // The line of the step at a place of a list, as far as 32 bits hold it.
@@ -110,34 +111,24 @@ fn arrival_bytes(n: Numbers) -> usize
     8 + item + blocks + load + write
 }
 
-// How many bytes the line of the step at a place of a list has; 0 if the step is out of range. Under the old heading A and Q are.
-fn line_bytes(heading: u32, list: &[u8], at: usize) -> usize
-    requires { ⌜ at + 24 ≤ length (now list) ⌝ }
-    ensures { λ r. ⌜ r ≡ lineBytes heading at (now (list .entry)) ⌝ }
+// How many bytes the line of a step in range has.
+fn line_bytes(heading: u32, n: Numbers) -> usize
+    requires { ⌜ inRange n ≡ true ⌝ }
+    ensures { λ r. ⌜ r ≡ length (stepText heading (stepOf n)) ⌝ }
     ensures { λ r. ⌜ r ≤ 23 ⌝ }
 {
-    let n = numbers_at(list, at);
+    if n.kind == types::ARRIVE {
+        return arrival_bytes(n);
+    }
     let end = end_bytes(heading);
-    if n.kind == 76 {
+    if n.kind == types::FLUSH {
         return 5 + end;
     }
-    if !landlord::in_range(n) {
-        return 0;
-    }
     let digits = decimal::short_width(n.item);
-    if n.kind == 82 {
-        return 4 + digits + end;
-    }
-    if n.kind == 87 {
+    if n.kind == types::WRITE {
         return 3 + digits + decimal::short_width(n.minutes) + end;
     }
-    if heading != 1 {
-        return 0;
-    }
-    if n.kind == 81 {
-        return 4 + digits + end;
-    }
-    arrival_bytes(n)
+    4 + digits + end
 }
 
 // How many bytes the names have, with their line feed.
@@ -151,40 +142,29 @@ fn names_bytes(heading: u32) -> usize
     18
 }
 
-// How many bytes the text of a list has; 0 if a step of it is out of range or not whole. A line has fewer bytes than its step in the list,
-// so that no sum can wrap, however long the list is.
-fn text_bytes(heading: u32, list: &[u8]) -> usize
-    ensures { λ r. ⌜ r ≡ textBytes (listedUnder heading (now (list .entry))) ⌝ }
+// How many bytes the text of a list has, or the refusal of its first step that is out of range or not whole. A line has fewer bytes than
+// its step in the list, so that no sum can wrap, however long the list is.
+fn text_size(heading: u32, list: &[u8]) -> LogAnswer
+    ensures { λ r. ⌜ r ≡ textSize (listedUnder heading (now (list .entry))) ⌝ }
 {
-    if list.len() % 24 != 0 {
-        return 0;
-    }
+    let whole = list.len() - list.len() % 24;
     let mut bytes = names_bytes(heading);
     let mut at = 0;
-    while at < list.len() {
-        let line = line_bytes(heading, list, at);
-        if line == 0 {
-            return 0;
+    while at < whole {
+        let step = step_at(heading, list, at);
+        let number = landlord::range_refusal(step);
+        if number != 0 {
+            return LogAnswer::Refused(types::refusal_of(number, line_of(at), 0));
         }
-        bytes += line;
+        bytes += line_bytes(heading, step);
         at += 24;
     }
-    bytes
-}
-
-// The refusal of the first step that is out of range or not whole.
-fn first_fault(heading: u32, list: &[u8]) -> Refusal
-    ensures { λ r. ⌜ FaultIs (listedUnder heading (now (list .entry))) r ⌝ }
-{
-    let n = list.len();
-    let mut at = 0;
-    while 24 <= n - at {
-        if !is_ranged(heading, list, at) {
-            break;
-        }
-        at += 24;
+    if whole < list.len() {
+        return LogAnswer::Refused(Refusal::OutOfRange {
+            line: line_of(whole),
+        });
     }
-    Refusal::OutOfRange { line: line_of(at) }
+    LogAnswer::Count(bytes)
 }
 
 // Writes the names at the start of the page, which has room for them.
@@ -279,14 +259,14 @@ fn put_step(heading: u32, list: &[u8], at: usize, page: &mut [u8]) -> usize
     ensures { λ _. ⌜ now (page .exit) ≡ textOver (stepText heading (stepAt heading at (now (list .entry)))) (now (page .entry)) ⌝ }
 {
     let kind = number_at(list, at);
-    if kind == 76 {
+    if kind == types::FLUSH {
         return put_flush(heading, page);
     }
     let item = number_at(list, at + 4);
-    if kind == 87 {
+    if kind == types::WRITE {
         return put_write(heading, item, number_at(list, at + 8), page);
     }
-    if kind == 65 {
+    if kind == types::ARRIVE {
         return put_arrival(numbers_at(list, at), page);
     }
     put_named(heading, kind as u8, item, page)
@@ -314,14 +294,15 @@ pub fn write_log(heading: u32, list: &[u8], page: &mut [u8]) -> LogAnswer
     if 1 < heading {
         return LogAnswer::Refused(Refusal::OutOfRange { line: 1 });
     }
-    let bytes = text_bytes(heading, list);
-    if bytes == 0 {
-        return LogAnswer::Refused(first_fault(heading, list));
+    match text_size(heading, list) {
+        LogAnswer::Refused(r) => LogAnswer::Refused(r),
+        LogAnswer::Count(bytes) => {
+            if LIMIT < bytes || page.len() < bytes {
+                return LogAnswer::Refused(Refusal::ShortBuffer { line: 0 });
+            }
+            let at = put_names(heading, page);
+            put_lines(heading, list, &mut page[at..]);
+            LogAnswer::Count(bytes)
+        }
     }
-    if LIMIT < bytes || page.len() < bytes {
-        return LogAnswer::Refused(Refusal::ShortBuffer { line: 0 });
-    }
-    let at = put_names(heading, page);
-    put_lines(heading, list, &mut page[at..]);
-    LogAnswer::Count(bytes)
 }

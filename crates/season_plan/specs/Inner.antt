@@ -1,5 +1,5 @@
 -- How the program holds what a plan has, and what its functions give. Assumes nothing.
-use Rattle.types.specs.{declared.Step.Step, Types.{numbersOf, stepItem, actItem}}
+use Rattle.types.specs.{declared.Step.Step, Types.{readKind, writeKind, flushKind, arriveKind, numbersOf, stepItem, actItem}}
 use Rattle.landlord.specs.{Plan.{Plan, Copy, noCopy, cleanCopy, dirtyCopy, copyAt, isChanged, cleaned, owed, Done, done, faulty, Fault, unknownItem, retiredItem, notHeld, alreadyHeld, requestNotHeld, overCapacity, faultNumber, planUsed, planEvicts, planFetches, planActs, allActs, planServes}, Fold.tab, Catalog.{Catalog, CatalogOk, itemAt, catalogNext}}
 use Rattle.season_items.specs.Inner.{itemRoom, HasItems}
 use Rattle.season_tables.specs.{Tables.{Placed, Tables}, declared.Seen.Seen, Inner.{Holds, Roomy, FewRead}, InnerSound.{Sound, placedAt, catalogBefore}}
@@ -103,12 +103,12 @@ pub record Cleans (p r : Copies) : Type 0 where
 
 -- the step is a read or a write, and the plan has no copy of its item
 abbrev pub lacking : ℕ → ℕ → Bool
-lacking kind mark = cond (eqb kind 82 || eqb kind 87) (eqb mark 0) false
+lacking kind mark = cond (eqb kind readKind || eqb kind writeKind) (eqb mark 0) false
 
 -- a step that is in the log: a flush, an arrival, or of a known item; what stands for a flush's item has a place too
 pub record PlanServable (xs : List ℕ) (p : Copies) (kind item : ℕ) : Type 0 where
   pub ready : PlanReady xs p
-  pub known : kind ≢ 76 → kind ≢ 65 → item < p .n
+  pub known : kind ≢ flushKind → kind ≢ arriveKind → item < p .n
   pub place : item < 256
 
 -- a step of this kind and item is served; the catalog is then as the step leaves it

@@ -104,7 +104,7 @@ fn act(catalog: &[u8], p: Copies, kind: u32, item: usize) -> Did
     requires { ⌜ Known (now catalog) p item ⌝ }
     ensures { λ r. ⌜ Acts (now (catalog .entry)) p kind item r ⌝ }
 {
-    if kind == 68 {
+    if kind == types::EVICT {
         return evict(catalog, p, item);
     }
     fetch(catalog, p, item)
@@ -192,10 +192,10 @@ fn clean(p: Copies) -> Copies
 fn lacks(kind: u32, mark: u8) -> bool
     ensures { λ r. ⌜ r ≡ lacking kind mark ⌝ }
 {
-    if kind == 82 {
+    if kind == types::READ {
         return mark == 0;
     }
-    if kind == 87 {
+    if kind == types::WRITE {
         return mark == 0;
     }
     false
@@ -222,19 +222,19 @@ fn serve(catalog: &[u8], h: u32, p: Copies, kind: u32, item: usize) -> Did
     if !fits {
         return failed(13, p);
     }
-    if kind == 81 {
+    if kind == types::RETIRE {
         return done(lose(catalog, p, item));
     }
     let mut q = p;
-    if kind == 76 {
+    if kind == types::FLUSH {
         q.paid = p.paid + owed(catalog, p);
         return done(clean(q));
     }
-    if kind == 65 {
+    if kind == types::ARRIVE {
         q.n = p.n + 1;
         return done(q);
     }
-    if kind == 87 {
+    if kind == types::WRITE {
         q.marks[item] = 2;
     }
     done(q)

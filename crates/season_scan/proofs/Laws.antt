@@ -18,7 +18,7 @@ use Rattle.types.specs.declared.Step.{Step}
 use Rattle.types.specs.Types.{stepItem, actItem}
 use Rattle.landlord.specs.Fold.{fold}
 use Rattle.landlord.specs.Catalog.{Catalog, listed, catalogNext, catalogAfter}
-use Rattle.landlord.specs.Calls.{ifKnown, itemRefusal}
+use Rattle.landlord.specs.Steps.{ifKnown, itemRefusal}
 use Rattle.landlord.proofs.Catalogs.{next-length, next-follows, after-more}
 use Rattle.line_fields.specs.declared.Field.{Field}
 use Rattle.season_lines.specs.declared.Names.{Names}

@@ -19,7 +19,7 @@ use Rattle.types.specs.declared.Refusal.the-variants.{Heading, OutOfSequence, P
 use Rattle.types.specs.Types.{numbersOf, stepOf, stepItem, actItem, telling, told}
 use Rattle.landlord.specs.Fold.{fold}
 use Rattle.landlord.specs.Catalog.{Catalog, listed, catalogNext, catalogAfter}
-use Rattle.landlord.specs.Calls.{inRange, ifKnown, itemRefusal}
+use Rattle.landlord.specs.Steps.{inRange, ifKnown, itemRefusal}
 use Rattle.landlord.proofs.Folds.{fold-append}
 use Rattle.landlord.proofs.Catalogs.{after-follows, after-more}
 use Rattle.types.proofs.Refusals.{refusal-one}

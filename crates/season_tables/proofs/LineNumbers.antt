@@ -2,7 +2,6 @@
 -- n lines have been read (linesRead); the line leads on, and adds at most one, or stops the reading and is the line named. Assumes
 -- nothing.
 use mathlib.Core.Path.{_≡_, refl, ap, subst}
-use mathlib.Core.Logic.{⊎-elim}
 use mathlib.Core.Bool.{Bool, true, false, cond, _&&_, false≢true}
 use mathlib.Core.List.{List, [], _∷_}
 use Prim.Native.Nat.{ℕ, zero, suc, _+_, _*_, _-_, _≤_, _<_}
@@ -13,7 +12,7 @@ use borrow.Author.Tests.{eqb-true}
 use Rattle.types.specs.declared.Refusal.{Refusal}
 use Rattle.types.specs.Types.{stepItem, actItem, refusalLine}
 use Rattle.landlord.specs.Catalog.{listed, catalogAfter}
-use Rattle.landlord.specs.Calls.{ifKnown, itemRefusal}
+use Rattle.landlord.specs.Steps.{ifKnown, itemRefusal}
 use Rattle.landlord.proofs.Folds.{either}
 use Rattle.season_lines.specs.declared.Names.{Names}
 use Rattle.season_lines.specs.declared.Names.the-variants.{Form, Unknown}
@@ -94,8 +93,7 @@ module _ (n : ℕ) (v : Sofar) (few : linesRead v < n) where
       let number = ifKnown (catalogAfter (v .read .catalog) (take place (v .read .steps))) (actItem act) 0 in
       either (ByLine still n) (inTurn (v .read) place) _ _
       (λ e. unless-by still n number (actItem act) _ (omega (arith, length-append (v .read .acts) (a ∷ [])))) (λ e. refl)
-  takes-by table fields (Refused r) o =
-      ⊎-elim (λ m. ap refusalLine m) (⊎-elim (λ m. ap refusalLine m) (λ m. ap refusalLine m)) o
+  takes-by table fields (Refused r) o = o
 
   line-by : (upto : ℕ) (l : List ℕ) → ByLine linesRead n (readLine upto v l n)
   unfolding readLine

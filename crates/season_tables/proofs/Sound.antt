@@ -9,7 +9,7 @@ use native.Mathlib.Decide.{ℕ-discrete}
 use lib.ListN.{length, getD, length-append, List·getD-append}
 use lib.Seq.{getD-append-seam, take-append-le, take-append-seam}
 use lib.Dec.{leb, ltb, eqb}
-use borrow.Author.Tests.{eqb-true, eqb-false, leb-true, ltb-true, lt-leb}
+use borrow.Author.Tests.{eqb-true, eqb-false, leb-true, ltb-true}
 use Rattle.types.specs.declared.Step.{Step}
 use Rattle.types.specs.declared.Step.the-variants.{Flush}
 use Rattle.types.specs.declared.Act.{Act}
@@ -19,10 +19,11 @@ use Rattle.types.specs.Types.{numbersOf, actItem}
 use Rattle.types.proofs.Steps.{same-step}
 use Rattle.landlord.specs.Fold.{fold}
 use Rattle.landlord.specs.Catalog.{Catalog, noItem, listed, catalogAfter, noneLeft}
-use Rattle.landlord.specs.Calls.{callOf, inRange, ifKnown, itemRefusal, refusalAt}
+use Rattle.landlord.specs.Steps.{inRange, ifKnown, itemRefusal, stepRefusal}
 use Rattle.landlord.specs.Inner.{ItemFacts, CatalogFacts}
 use Rattle.landlord.proofs.Folds.{either, fold-append}
 use Rattle.landlord.proofs.Ranges.{item-facts, catalog-ok, capacity-ok}
+use Rattle.landlord.proofs.Steps.{range-free, let-through}
 use Rattle.season_lines.specs.declared.Names.{Names}
 use Rattle.season_lines.specs.declared.Names.the-variants.{Form, Unknown}
 use Rattle.season_lines.specs.declared.Line.{Line}
@@ -428,9 +429,10 @@ pub accepted-few : (s : List ℕ) (v : Tables) → readingOf s ≡ gives v → l
 accepted-few s v e = accepted 3 s v (omega arith) e .few
 
 -- the table lets a step through that is in range, not refused by its item, and not behind too many others
-let-through : (k : ℕ) (cat : Catalog) (j : ℕ) (s : Step) → j < 1000000 → StepFits k cat s → refusalAt k cat j false (callOf s) ≡ 0
-unfolding refusalAt
-let-through k cat j s l f = rw (lt-leb 1000000 j l, f .ranged, same-step s) (f .taken)
+fits-through : (k : ℕ) (cat : Catalog) (j : ℕ) (s : Step) → j < 1000000 → StepFits k cat s → stepRefusal k cat j (numbersOf s) ≡ 0
+fits-through k cat j s l f =
+    let-through k cat j (numbersOf s)
+    (record { few = l; range = range-free (numbersOf s) (f .ranged); item = ap (itemRefusal k cat) (same-step s) ∙ f .taken })
 
 -- and what it says is sound
 pub accepted-sound : (s : List ℕ) (v : Tables) → length s ≤ 65536 → readingOf s ≡ gives v → Sound v
@@ -443,7 +445,7 @@ accepted-sound s v l e =
       rivalHigh = p .sizes .rivalHigh;
       catalog = catalog-ok (v .catalog) (p .catalog);
       fresh = p .fresh;
-      allowed = record { each = λ j b. let-through (v .k) (catalogBefore v j) j (getD (v .steps) j Flush) (omega arith) (p .steps j b) };
+      allowed = record { each = λ j b. fits-through (v .k) (catalogBefore v j) j (getD (v .steps) j Flush) (omega arith) (p .steps j b) };
       each =
           λ j b.
           let f = p .acts j b in

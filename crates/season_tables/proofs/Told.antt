@@ -12,7 +12,7 @@ use Rattle.types.specs.declared.Step.the-variants.{Read, Write, Flush, Arrive, 
 use Rattle.types.specs.declared.Act.{Act}
 use Rattle.types.specs.Types.{actItem, telling, told}
 use Rattle.landlord.specs.Catalog.{Catalog, itemAt}
-use Rattle.landlord.specs.Calls.{ifKnown, itemRefusal}
+use Rattle.landlord.specs.Steps.{ifKnown, itemRefusal}
 use Rattle.landlord.proofs.Folds.{either}
 use Rattle.season_items.specs.declared.Present.{Present}
 use Rattle.season_items.specs.Inner.{knownNumber, TellsKnown}

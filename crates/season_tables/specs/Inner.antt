@@ -3,7 +3,7 @@
 -- Assumes nothing.
 use lib.{ListN.{length, take, drop}, Dec.{eqb, leb}}
 use Rattle.types.specs.{declared.{Step.Step, Act.Act, Deduction.the-variants.WriteFirst, Refusal.{Refusal, the-variants.Heading}}, Types.{numbersOf, actKind, actItem}}
-use Rattle.landlord.specs.{Fold.fold, Catalog.catalogAfter, Calls.inRange}
+use Rattle.landlord.specs.{Fold.fold, Catalog.catalogAfter, Steps.inRange}
 use mathlib.Core.{Bool.{Bool, true, false, cond, not, _&&_}, List.{List, [], _∷_, map}, Path._≡_}
 use Rattle.season_tables.specs.declared.{Stage.Stage, Seen.Seen, Scanned.Scanned, LineRead.LineRead, Verdict.{Verdict, the-variants.{Taken, Refused}}}
 use Rattle.season_tables.specs.Tables.{Placed, Tables, Sofar, OrRefusal, gives, stops, mayEnd, mustEnd, readLine}

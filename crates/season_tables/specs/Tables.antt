@@ -5,7 +5,7 @@ use Prim.Native.Nat.{ℕ, suc}
 use lib.{ListN.{length, take}, Dec.{leb, ltb, eqb}}
 use Rattle.types.specs.declared.{Step.Step, Act.Act, Deduction.{Deduction, the-variants.WriteFirst}, Refusal.{Refusal, the-variants.{Malformed, Heading, OutOfSequence, PlanTooLarge, UnknownItem, ItemTooLarge, ActOutOfOrder, NotNextNumber, RetiredItem}}}
 use Rattle.types.specs.Types.{stepItem, actItem}
-use Rattle.landlord.specs.{Fold.fold, Catalog.{Catalog, listed, catalogAfter}, Calls.{ifKnown, itemRefusal}}
+use Rattle.landlord.specs.{Fold.fold, Catalog.{Catalog, listed, catalogAfter}, Steps.{ifKnown, itemRefusal}}
 use Rattle.season_lines.specs.declared.{Names.{Names, the-variants.{Form, Unknown}}, Line.{Line, the-variants.{Sizes, Item as ItemLine, Step as StepLine, Act as ActLine, Refused}}}
 use Rattle.line_fields.specs.Fields.{split, fieldsOf}
 use Rattle.season_lines.specs.Lines.{formOf, lineIn}

@@ -13,9 +13,11 @@ use Rattle.types.specs.declared.Step.{Step}
 use Rattle.types.specs.declared.Step.the-variants.{Flush}
 use Rattle.landlord.specs.Fold.{fold}
 use Rattle.landlord.specs.Catalog.{Catalog, catalogAfter}
+use Rattle.types.specs.Types.{numbersOf, deductionNumber}
 use Rattle.landlord.specs.Slot.{splitOf}
 use Rattle.landlord.specs.Figures.{start, ran, totalCost, leftSide, rightSide}
 use Rattle.landlord.specs.Plan.{costs}
+use Rattle.landlord.specs.Steps.{stepRefusal}
 use Rattle.landlord.specs.Calls.{Call, close, callOf, Log, noLog, refusalAt, refusalIn, refusal, joins, logOf, ruleOver, openingRefusal}
 use Rattle.landlord.specs.Claims.{AllowedLog}
 use Rattle.landlord.proofs.Folds.{fold-append}
@@ -52,9 +54,9 @@ calls-before (s ∷ steps) (suc i) l = ap (λ (z : List Call). callOf s ∷ z) (
 allowed-first : (k : ℕ) (cat : Catalog) (steps : List Step) (i : ℕ) → i ≤ length steps → AllowedLog k cat steps → AllowedLog k cat (take i steps)
 allowed-first k cat steps i l a = record { each = λ j b. through j (omega (arith, length-take-le i steps l)) }
   where
-    through : (j : ℕ) → j < i → refusalAt k (catalogAfter cat (take j (take i steps))) j false (callOf (getD (take i steps) j Flush)) ≡ 0
+    through : (j : ℕ) → j < i → stepRefusal k (catalogAfter cat (take j (take i steps))) j (numbersOf (getD (take i steps) j Flush)) ≡ 0
     through j b =
-        (λ z. refusalAt k (catalogAfter cat (take-take j i steps (omega arith) z)) j false (callOf (getD-take i steps j Flush b z)))
+        (λ z. stepRefusal k (catalogAfter cat (take-take j i steps (omega arith) z)) j (numbersOf (getD-take i steps j Flush b z)))
         ∙ a .each j (omega arith)
 
 module _ (v : Tables) (ok : Sound v) where
@@ -111,11 +113,14 @@ module _ (v : Tables) (ok : Sound v) where
           ap (λ (z : Log). refusalIn (v .k) (v .catalog) z call) (log-before i l)
           ∙ ap (λ (t : ℕ). refusalAt (v .k) (catalogAfter (v .catalog) (take i (v .steps))) t false call) (length-take-le i (v .steps) l)
 
+      open-asked : (cat : Catalog) (t : ℕ) (s : Step) → refusalAt (v .k) cat t false (callOf s) ≡ stepRefusal (v .k) cat t (numbersOf s)
+      open-asked cat t s = unfold refusalAt in refl
+
       asked-at : (i : ℕ) → Dec (i ≡ length (v .steps)) → i ≤ length (v .steps) → refusal (v .k) (v .catalog) (take i (callsIn v)) (getD (callsIn v) i close) ≡ 0
       asked-at i (yes e) l = unfold refusalAt in rw (asked i, getD-at (map callOf (v .steps)) close [] close i (length-map (v .steps) callOf ∙ (omega arith)))
       asked-at i (no e) l =
           let b : i < length (v .steps) = omega arith in
-          rw (asked i, call-at-step (v .steps) i b) (ok .allowed .each i b)
+          rw (asked i, call-at-step (v .steps) i b, open-asked (catalogAfter (v .catalog) (take i (v .steps))) i (getD (v .steps) i Flush)) (ok .allowed .each i b)
 
 -- the figures reported are those of every such state, and left is at most right
 pub text-compared : (v : Tables) (cost : ℕ) → Sound v → priceOf v ≡ costs cost → Compared v cost

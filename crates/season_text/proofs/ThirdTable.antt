@@ -10,10 +10,10 @@ use lib.Dec.{leb, eqb}
 use borrow.Author.Tests.{eqb-true, eqb-false, ne-eqb, le-leb}
 use Rattle.types.specs.declared.Step.{Step}
 use Rattle.types.specs.declared.Refusal.{Refusal}
-use Rattle.types.specs.declared.Refusal.the-variants.{Malformed, OutOfRange}
-use Rattle.types.specs.Types.{numbersFrom, stepOf, actItem}
+use Rattle.types.specs.declared.Refusal.the-variants.{Malformed}
+use Rattle.types.specs.Types.{numbersFrom, stepOf, actItem, telling, refusalFrom}
 use Rattle.landlord.specs.Catalog.{catalogAfter}
-use Rattle.landlord.specs.Calls.{ifKnown, inRange, itemRefusal}
+use Rattle.landlord.specs.Steps.{ifKnown, itemRefusal}
 use Rattle.landlord.proofs.Folds.{either}
 use Rattle.decimal.specs.Decimal.{textOf, sameText}
 use Rattle.season_lines.specs.declared.Names.{Names}
@@ -22,7 +22,7 @@ use Rattle.season_lines.specs.declared.Line.{Line}
 use Rattle.season_lines.specs.declared.Line.the-variants.{Sizes, Item as ItemLine, Step as StepLine, Act as ActLine, Refused}
 use Rattle.line_fields.specs.declared.Field.{Field}
 use Rattle.line_fields.specs.Fields.{onto, split, allFields, fieldsOf, fieldAt, isLetter, valueIn, noneEmpty}
-use Rattle.season_lines.specs.Lines.{headings, namesIn, formAmong, formOf, shapeThenRange, kindUnder, valueField, stepShape, stepLine, valuesIn, lineIn}
+use Rattle.season_lines.specs.Lines.{headings, namesIn, formAmong, formOf, numbersUnder, rangeUnder, valueField, stepShape, stepLine, valuesIn, lineIn}
 use Rattle.line_fields.proofs.Laws.{and-parts}
 use Rattle.line_fields.proofs.Pieces.{no-bytes}
 use Rattle.season_lines.proofs.Pieces.{empty-malformed, Says, line-says}
@@ -170,13 +170,13 @@ not-step r s e = subst isStep (sym e) tt
 
 -- a line of the third table goes by its number only where it is refused
 on-any-line :
-    (counted shape range : Bool) (x : Line) (m n : ℕ) (s : Step) →
-    cond counted (shapeThenRange shape range x m) (Refused (Malformed m)) ≡ StepLine s →
-    cond counted (shapeThenRange shape range x n) (Refused (Malformed n)) ≡ StepLine s
-on-any-line true true true x m n s e = e
-on-any-line true true false x m n s e = absurd (not-step (OutOfRange m) s e)
-on-any-line true false range x m n s e = absurd (not-step (Malformed m) s e)
-on-any-line false shape range x m n s e = absurd (not-step (Malformed m) s e)
+    (counted shape free : Bool) (refused : ℕ → Refusal) (x : Line) (m n : ℕ) (s : Step) →
+    cond counted (cond shape (cond free x (Refused (refused m))) (Refused (Malformed m))) (Refused (Malformed m)) ≡ StepLine s →
+    cond counted (cond shape (cond free x (Refused (refused n))) (Refused (Malformed n))) (Refused (Malformed n)) ≡ StepLine s
+on-any-line true true true refused x m n s e = e
+on-any-line true true false refused x m n s e = absurd (not-step (refused m) s e)
+on-any-line true false free refused x m n s e = absurd (not-step (Malformed m) s e)
+on-any-line false shape free refused x m n s e = absurd (not-step (Malformed m) s e)
 
 step-anywhere : (form : ℕ) (fs : List Field) (m n : ℕ) (s : Step) → lineIn 2 form fs m ≡ StepLine s → lineIn 2 form fs n ≡ StepLine s
 unfolding lineIn valuesIn stepLine
@@ -187,10 +187,10 @@ step-anywhere form fs m n s e =
     let blocks = valueField form (fieldAt fs 3) in
     let load = valueField form (fieldAt fs 4) in
     let write = valueField form (fieldAt fs 5) in
-    let letter = kindUnder form (valueIn kind) in
-    let numbers = numbersFrom letter (valueIn item) (valueIn minutes) (valueIn blocks) (valueIn load) (valueIn write) in
-    on-any-line (eqb (length fs) (namesIn 2 form) && noneEmpty fs) (isLetter kind && stepShape letter item minutes blocks load write)
-    (inRange numbers) (StepLine (stepOf numbers)) m n s e
+    let values = numbersFrom (valueIn kind) (valueIn item) (valueIn minutes) (valueIn blocks) (valueIn load) (valueIn write) in
+    let numbers = numbersUnder form values in
+    on-any-line (eqb (length fs) (namesIn 2 form) && noneEmpty fs) (isLetter kind && stepShape (numbers .kind) item minutes blocks load write)
+    (eqb (rangeUnder form values) 0) (λ k. refusalFrom (telling (rangeUnder form values) k 0)) (StepLine (stepOf numbers)) m n s e
 
 -- what each line that leads on leaves to be said
 module _ (n : ℕ) (l : List ℕ) (rest : List (List ℕ)) where

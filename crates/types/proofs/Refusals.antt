@@ -1,23 +1,15 @@
 -- A refusal is told by its number, its line and its item, and its number is one of the table's. Assumes nothing.
 use mathlib.Core.Path.{_≡_, refl, sym, ap, _∙_}
-use mathlib.Core.List.{List, [], _∷_}
-use Prim.Native.Nat.{ℕ, _≤_}
+use mathlib.Core.List.{List, [], _∷_, map}
+use Prim.Native.Nat.{ℕ, zero, suc, _≤_}
 use native.Mathlib.Omega.{arith}
-use lib.ListN.{getD}
+use lib.ListN.{length, getD, drop, replicate}
 use Rattle.types.specs.declared.Refusal.{Refusal}
 use Rattle.types.specs.declared.Refusal.the-variants.{Malformed, Heading, OutOfRange, OutOfSequence, PlanTooLarge, UnknownItem, ItemTooLarge, LogFull, Closed, ActOutOfOrder, NotHeld, AlreadyHeld, OverCapacity, RequestNotHeld, ShortBuffer, InputTooLong, InvalidState, UnknownRule, NotNextNumber, RetiredItem}
-use Rattle.types.specs.Types.{Told, told, refusalNumber}
-
--- the refusals on a line and about an item, in the order of the table
-abbrev refusals : ℕ → ℕ → List Refusal
-refusals l i =
-    Malformed l ∷ Heading l ∷ OutOfRange l ∷ OutOfSequence l ∷ PlanTooLarge l ∷ UnknownItem l i ∷ ItemTooLarge l i ∷ LogFull l ∷ Closed l ∷ ActOutOfOrder l ∷ NotHeld l i ∷ AlreadyHeld l i ∷ OverCapacity l ∷ RequestNotHeld l i ∷ ShortBuffer l ∷ InputTooLong l ∷ InvalidState l ∷ UnknownRule l ∷ NotNextNumber l i ∷ RetiredItem l i ∷ []
-
--- the refusal that tells so much; nothing has number 0
-abbrev refusalFrom : Told → Refusal
-refusalFrom t = getD (InvalidState 0 ∷ refusals (t .line) (t .item)) (t .number) (InvalidState 0)
+use Rattle.types.specs.Types.{Told, told, refusalNumber, refusalLine, refusals, refusalFrom}
 
 refusal-back : (r : Refusal) → refusalFrom (told r) ≡ r
+unfolding refusalFrom
 refusal-back (Malformed l) = refl
 refusal-back (Heading l) = refl
 refusal-back (OutOfRange l) = refl
@@ -39,9 +31,27 @@ refusal-back (UnknownRule l) = refl
 refusal-back (NotNextNumber l i) = refl
 refusal-back (RetiredItem l i) = refl
 
--- two refusals that tell the same are the same
+-- a refusal is the one that tells what it tells
+pub refusal-is : (r : Refusal) (t : Told) → told r ≡ t → r ≡ refusalFrom t
+refusal-is r t e = sym (refusal-back r) ∙ ap refusalFrom e
+
+-- so two refusals that tell the same are the same
 pub refusal-one : (r z : Refusal) → told r ≡ told z → r ≡ z
-refusal-one r z e = sym (refusal-back r) ∙ ap refusalFrom e ∙ refusal-back z
+refusal-one r z e = refusal-is r (told z) e ∙ refusal-back z
+
+-- the refusal that tells a line is told on it, whatever its number
+pub refusal-line : (t : Told) → refusalLine (refusalFrom t) ≡ t .line
+unfolding refusalFrom
+refusal-line t = entry (t .number) (InvalidState (t .line) ∷ refusals (t .line) (t .item)) (InvalidState (t .line)) refl refl
+  where
+    entry :
+        (m : ℕ) (rs : List Refusal) (past : Refusal) →
+        map refusalLine rs ≡ replicate (length rs) (t .line) →
+        refusalLine past ≡ t .line →
+        refusalLine (getD rs m past) ≡ t .line
+    entry m [] past e f = f
+    entry zero (r ∷ rs) past e f = ap (λ (ls : List ℕ). getD ls 0 0) e
+    entry (suc m) (r ∷ rs) past e f = entry m rs past (ap (drop 1) e) f
 
 -- a refusal's number is one of the table's
 pub refusal-range : (r : Refusal) → (1 ≤ refusalNumber r) × (refusalNumber r ≤ 20)

@@ -1,8 +1,8 @@
 -- The papers' number, letter and values for each case of the shared types.
 -- Assumes nothing.
-use mathlib.Core.Bool.{Bool, cond, _||_}
+use mathlib.Core.{Bool.{Bool, cond, _||_}, List.{List, [], _∷_}}
 use Prim.Native.Nat.{ℕ}
-use lib.Dec.{leb, eqb}
+use lib.{ListN.getD, Dec.{leb, eqb}}
 use Rattle.types.specs.declared.{Step.{Step, the-variants.{Read, Write, Flush, Arrive, Retire}}, Numbers.Numbers, Act.{Act, the-variants.{Evict, Fetch}}, Deduction.{Deduction, the-variants.{WriteFirst, LoadFirst}}, Refusal.{Refusal, the-variants.{Malformed, Heading, OutOfRange, OutOfSequence, PlanTooLarge, UnknownItem, ItemTooLarge, LogFull, Closed, ActOutOfOrder, NotHeld, AlreadyHeld, OverCapacity, RequestNotHeld, ShortBuffer, InputTooLong, InvalidState, UnknownRule, NotNextNumber, RetiredItem}}}
 
 -- a step's numbers: the code of its letter, the item, the minutes, the blocks, the load cost and the write cost
@@ -10,13 +10,36 @@ abbrev pub numbersFrom : ℕ → ℕ → ℕ → ℕ → ℕ → ℕ → Numbers
 numbersFrom kind item minutes blocks load write =
     record { kind = kind; item = item; minutes = minutes; blocks = blocks; load = load; write = write }
 
--- A step as a call names it: R is 82, W is 87, L is 76, A is 65, Q is 81. What a step lacks is 0.
+-- the code of each letter that stands for a step: R, W, L, A and Q
+abbrev pub readKind : ℕ
+readKind = 82
+
+abbrev pub writeKind : ℕ
+writeKind = 87
+
+abbrev pub flushKind : ℕ
+flushKind = 76
+
+abbrev pub arriveKind : ℕ
+arriveKind = 65
+
+abbrev pub retireKind : ℕ
+retireKind = 81
+
+-- and for an act: D and F
+abbrev pub evictKind : ℕ
+evictKind = 68
+
+abbrev pub fetchKind : ℕ
+fetchKind = 70
+
+-- A step as a call names it. What a step lacks is 0.
 abbrev pub numbersOf : Step → Numbers
-numbersOf (Read i) = numbersFrom 82 i 0 0 0 0
-numbersOf (Write i m) = numbersFrom 87 i m 0 0 0
-numbersOf Flush = numbersFrom 76 0 0 0 0 0
-numbersOf (Arrive i b l w) = numbersFrom 65 i 0 b l w
-numbersOf (Retire i) = numbersFrom 81 i 0 0 0 0
+numbersOf (Read i) = numbersFrom readKind i 0 0 0 0
+numbersOf (Write i m) = numbersFrom writeKind i m 0 0 0
+numbersOf Flush = numbersFrom flushKind 0 0 0 0 0
+numbersOf (Arrive i b l w) = numbersFrom arriveKind i 0 b l w
+numbersOf (Retire i) = numbersFrom retireKind i 0 0 0 0
 
 -- the item that a step names; a flush names none, and it is not looked at
 abbrev pub stepItem : Step → ℕ
@@ -25,16 +48,16 @@ stepItem s = numbersOf s .item
 -- the step that numbers of a known kind mean; values that a step lacks are not looked at
 unfoldable pub stepOf : Numbers → Step
 stepOf n =
-    cond (eqb (n .kind) 82) (Read (n .item))
-    (cond (eqb (n .kind) 87) (Write (n .item) (n .minutes))
-    (cond (eqb (n .kind) 65) (Arrive (n .item) (n .blocks) (n .load) (n .write))
-    (cond (eqb (n .kind) 81) (Retire (n .item))
+    cond (eqb (n .kind) readKind) (Read (n .item))
+    (cond (eqb (n .kind) writeKind) (Write (n .item) (n .minutes))
+    (cond (eqb (n .kind) arriveKind) (Arrive (n .item) (n .blocks) (n .load) (n .write))
+    (cond (eqb (n .kind) retireKind) (Retire (n .item))
     Flush)))
 
--- an act's letter, as its code: D is 68, F is 70
+-- an act's letter, as its code
 abbrev pub actKind : Act → ℕ
-actKind (Evict i) = 68
-actKind (Fetch i) = 70
+actKind (Evict i) = evictKind
+actKind (Fetch i) = fetchKind
 
 -- the item that an act names
 abbrev pub actItem : Act → ℕ
@@ -108,3 +131,12 @@ refusalLine r = told r .line
 
 abbrev pub refusalItem : Refusal → ℕ
 refusalItem r = told r .item
+
+-- the refusals on a line and about an item, in the order of the table
+abbrev pub refusals : ℕ → ℕ → List Refusal
+refusals l i =
+    Malformed l ∷ Heading l ∷ OutOfRange l ∷ OutOfSequence l ∷ PlanTooLarge l ∷ UnknownItem l i ∷ ItemTooLarge l i ∷ LogFull l ∷ Closed l ∷ ActOutOfOrder l ∷ NotHeld l i ∷ AlreadyHeld l i ∷ OverCapacity l ∷ RequestNotHeld l i ∷ ShortBuffer l ∷ InputTooLong l ∷ InvalidState l ∷ UnknownRule l ∷ NotNextNumber l i ∷ RetiredItem l i ∷ []
+
+-- the refusal that tells so much (proofs/Refusals.antt, refusal-is); nothing has number 0
+unfoldable pub refusalFrom : Told → Refusal
+refusalFrom t = getD (InvalidState (t .line) ∷ refusals (t .line) (t .item)) (t .number) (InvalidState (t .line))

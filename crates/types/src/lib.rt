@@ -4,6 +4,22 @@ ghost use mathlib.Core.Path.{_≡_};
 ghost use Prim.Native.Nat.{_≤_};
 ghost use Rattle.types.specs.Types.{numbersFrom, numbersOf, stepOf, stepItem, actKind, actItem, deductionNumber, deductionOf, told, telling, refusalNumber, refusalLine, refusalItem};
 
+// The code of each letter that stands for a step: R, W, L, A and Q.
+pub const READ: u32 = b'R' as u32;
+
+pub const WRITE: u32 = b'W' as u32;
+
+pub const FLUSH: u32 = b'L' as u32;
+
+pub const ARRIVE: u32 = b'A' as u32;
+
+pub const RETIRE: u32 = b'Q' as u32;
+
+// And for an act: D and F.
+pub const EVICT: u32 = b'D' as u32;
+
+pub const FETCH: u32 = b'F' as u32;
+
 // A step of the log. Its numbers are as given: nothing here says that they are in range.
 pub enum Step {
     Read {
@@ -113,21 +129,21 @@ fn six_numbers(kind: u32, item: u32, minutes: u32, blocks: u32, load: u32, write
 }
 
 impl Step {
-    // The step's numbers. Its letter stands for it in the log, as its code: R, W, L, A or Q.
+    // The step's numbers. Its letter stands for it in the log, as its code.
     pub fn numbers(self) -> Numbers
         ensures { λ r. ⌜ r ≡ numbersOf self ⌝ }
     {
         match self {
-            Step::Read { item } => six_numbers(82, item, 0, 0, 0, 0),
-            Step::Write { item, minutes } => six_numbers(87, item, minutes, 0, 0, 0),
-            Step::Flush => six_numbers(76, 0, 0, 0, 0, 0),
+            Step::Read { item } => six_numbers(READ, item, 0, 0, 0, 0),
+            Step::Write { item, minutes } => six_numbers(WRITE, item, minutes, 0, 0, 0),
+            Step::Flush => six_numbers(FLUSH, 0, 0, 0, 0, 0),
             Step::Arrive {
                 item,
                 blocks,
                 load,
                 write,
-            } => six_numbers(65, item, 0, blocks, load, write),
-            Step::Retire { item } => six_numbers(81, item, 0, 0, 0, 0),
+            } => six_numbers(ARRIVE, item, 0, blocks, load, write),
+            Step::Retire { item } => six_numbers(RETIRE, item, 0, 0, 0, 0),
         }
     }
 }
@@ -156,16 +172,16 @@ impl Step {
 pub fn step_of(n: Numbers) -> Step
     ensures { λ r. ⌜ r ≡ stepOf n ⌝ }
 {
-    if n.kind == 82 {
+    if n.kind == READ {
         return Step::Read { item: n.item };
     }
-    if n.kind == 87 {
+    if n.kind == WRITE {
         return Step::Write {
             item: n.item,
             minutes: n.minutes,
         };
     }
-    if n.kind == 65 {
+    if n.kind == ARRIVE {
         return Step::Arrive {
             item: n.item,
             blocks: n.blocks,
@@ -173,20 +189,20 @@ pub fn step_of(n: Numbers) -> Step
             write: n.write,
         };
     }
-    if n.kind == 81 {
+    if n.kind == RETIRE {
         return Step::Retire { item: n.item };
     }
     Step::Flush
 }
 
 impl Act {
-    // The letter that stands for the act in the text, as its code: D or F.
+    // The letter that stands for the act in the text, as its code.
     pub fn kind(self) -> u32
         ensures { λ r. ⌜ r ≡ actKind self ⌝ }
     {
         match self {
-            Act::Evict { item: _ } => 68,
-            Act::Fetch { item: _ } => 70,
+            Act::Evict { item: _ } => EVICT,
+            Act::Fetch { item: _ } => FETCH,
         }
     }
 }

@@ -12,7 +12,7 @@ use Rattle.types.specs.declared.Step.{Step}
 use Rattle.types.specs.declared.Step.the-variants.{Write, Flush}
 use Rattle.types.specs.Types.{stepOf}
 use Rattle.types.proofs.Steps.{step-write, step-arrive, step-flush}
-use Rattle.landlord.specs.Calls.{inRange}
+use Rattle.landlord.specs.Steps.{inRange}
 use Rattle.season_log.specs.Log.{stepText, listNumbers}
 use Rattle.season_log.specs.Inner.{namedText, arrivalText, stepAt}
 use Rattle.season_log.proofs.Writing.{TextOn, kept, item-range, minutes-range, named-step, named-letter}

@@ -21,11 +21,14 @@ use Rattle.season_log.proofs.write_log.Tie as tie
 returns : tie.Need-returns
 returns c = let a = c .before .before .before .args in log-written (told-heading (a .heading) (a .list .now) (a .page .now) (c .if1 .taken))
 
-text-bytes-requires : tie.Need-text-bytes-requires
-text-bytes-requires c κs = search needs
+text-size-requires : tie.Need-text-size-requires
+text-size-requires c κs = search needs
 
-first-fault-requires : tie.Need-first-fault-requires
-first-fault-requires c κs = search needs
+enum-known-r : tie.Need-enum-known-r
+enum-known-r c = search needs
+
+enum-known-bytes : tie.Need-enum-known-bytes
+enum-known-bytes c = search needs
 
 -- what the list is, the lines of its steps, and its text
 abbrev given : (s : tie.Start) → Logged
@@ -48,40 +51,39 @@ asked c r after h =
     let a = c .before .before .before .args in
     log-written (subst (λ (x : Logged). Answers x (a .page .now) r after) (under-heading (a .heading) (a .list .now) (c .if1 .left)) h)
 
+-- how many bytes its text has
+abbrev size : (c : tie.After-bytes) → ℕ
+size c = c .bytes .given .0 .0
+
+sized : (c : tie.After-bytes) → Sized (given (c .before .before .before .before .before .before)) (size c)
+sized c = sym (c .bytes .given .1) ∙ c .before .before .text-size .ensures
+
 returns-2 : tie.Need-returns-2
 returns-2 c =
-    asked (c .before .before .before) _ _ (told-fault (given (c .before .before .before .before .before .before)) _ _ (c .before .before .before .before .before .before .args .page .now) (c .before .before .text-bytes .ensures) (c .before .if2 .taken) (c .first-fault .ensures))
-
--- how many bytes its text has
-sized : (c : tie.Else2) → Sized (given (c .before .before .before .before .before)) (c .before .text-bytes .result)
-sized c = (c .before .text-bytes .ensures, c .if2 .left)
-
-returns-3 : tie.Need-returns-3
-returns-3 c =
-    asked (c .before .before .before) _ _
-    (told-short (given (c .before .before .before .before .before .before)) _ (c .before .before .before .before .before .before .args .page .now) (sized (c .before)) (⊎-elim (λ w. inl (w .taken)) (λ w. inr (ltb-true _ _ (w .1 .taken))) (c .if3 .came)))
+    asked (c .before .before .before .before .before) _ _
+    (told-short (given (c .before .before .before .before .before .before .before .before)) _ (c .before .before .before .before .before .before .before .before .args .page .now) (sized (c .before .before)) (⊎-elim (λ w. inl (w .taken)) (λ w. inr (ltb-true _ _ (w .1 .taken))) (c .if2 .came)))
 
 -- past the tests the text has room
-room : (c : tie.Else4) → length (text (c .before .before .before .before .before .before .before)) ≤ length (c .before .before .before .before .before .before .before .args .page .now)
+room : (c : tie.Else3) → length (text (c .before .before .before .before .before .before .before .before .before)) ≤ length (c .before .before .before .before .before .before .before .before .before .args .page .now)
 room c =
-    let s = c .before .before .before .before .before .before .before in
-    let n = c .before .before .before .text-bytes .result in
+    let s = c .before .before .before .before .before .before .before .before .before in
+    let n = size (c .before .before .before) in
     omega (
       arith,
-      sized-whole (s .args .heading) (given s) n (list-under (s .args .heading) (s .args .list .now)) (sized (c .before .before)) .1,
+      sized-whole (s .args .heading) (given s) n (list-under (s .args .heading) (s .args .list .now)) (sized (c .before .before .before)) .1,
       ap length (text-is s),
-      ltb-false (length (s .args .page .now)) n (c .if4 .left),
+      ltb-false (length (s .args .page .now)) n (c .if3 .left),
     )
 
 put-names-requires : tie.Need-put-names-requires
-put-names-requires c κs = let s = c .before .before .before .before .before .before .before .before in omega (arith, room (c .before), length-append (namesText (s .args .heading)) (lines s))
+put-names-requires c κs = let s = c .before .before .before .before .before .before .before .before .before .before in omega (arith, room (c .before), length-append (namesText (s .args .heading)) (lines s))
 
 -- the names are written, and the lines are left
 named :
     (c : tie.After-put-names) →
-    (let s = c .before .before .before .before .before .before .before .before .before in TextGoing (text s) (s .args .page .now) (c .put-names .result) (lines s ++ []) (c .put-names .last .1 .0))
+    (let s = c .before .before .before .before .before .before .before .before .before .before .before in TextGoing (text s) (s .args .page .now) (c .put-names .result) (lines s ++ []) (c .put-names .last .1 .0))
 named c =
-    let s = c .before .before .before .before .before .before .before .before .before in
+    let s = c .before .before .before .before .before .before .before .before .before .before .before in
     let p = c .put-names in
     go-as (sym (append-nil _)) (go-first (namesText (s .args .heading)) (lines s) (s .args .page .now) (room (c .before .before)) (p .ensures .0) (p .ensures .1))
 
@@ -96,23 +98,26 @@ part-put-lines-end c = search needs
 
 put-lines-requires : tie.Need-put-lines-requires
 put-lines-requires c κs =
-    let s = c .before .before .before .before .before .before .before .before .before .before .before .before in
+    let s = c .before .before .before .before .before .before .before .before .before .before .before .before .before .before in
     let form = s .args .heading in
     record {
       taken = stepsOf form (given s);
-      whole = sized-whole form (given s) _ (list-under form (s .args .list .now)) (sized (c .before .before .before .before .before .before .before)) .0;
+      whole = sized-whole form (given s) _ (list-under form (s .args .list .now)) (sized (c .before .before .before .before .before .before .before .before)) .0;
       room = go-room (room (c .before .before .before .before .before)) _ (lines s) [] _ (named (c .before .before .before));
     }
+
+returns-3 : tie.Need-returns-3
+returns-3 c = asked (c .before .before .before .before) _ _ (told-fault (given (c .before .before .before .before .before .before .before)) _ (c .before .before .before .before .before .before .before .args .page .now) (sym (c .before .r .given .1) ∙ c .before .before .before .text-size .ensures))
 
 -- the lines are written too
 written :
     (c : tie.After-put-lines) →
-    (let s = c .before .before .before .before .before .before .before .before .before .before .before .before .before in
+    (let s = c .before .before .before .before .before .before .before .before .before .before .before .before .before .before .before in
     let p = c .before .before .before .before .put-names in
     putMid (p .result) (length (p .last .1 .0) - p .result) (p .last .1 .0) (c .put-lines .last .1 .1 .0)
     ≡ textOver (logText (s .args .heading) (stepsOf (s .args .heading) (given s))) (s .args .page .now))
 written c =
-    let s = c .before .before .before .before .before .before .before .before .before .before .before .before .before in
+    let s = c .before .before .before .before .before .before .before .before .before .before .before .before .before .before .before in
     let put = lines-on (s .args .heading) (given s) _ _ (list-under (s .args .heading) (s .args .list .now)) (c .put-lines .ensures) in
     go-end (go-next (room (c .before .before .before .before .before .before)) (lines s) [] (named (c .before .before .before .before)) refl put) .1 ∙ ap (λ (t : List ℕ). textOver t (s .args .page .now)) (sym (text-is s))
 
@@ -121,12 +126,12 @@ same-length c = search needs
 
 returns-4 : tie.Need-returns-4
 returns-4 c =
-    let s = c .before .before .before .before .before .before .before .before .before .before .before .before .before .before .before in
+    let s = c .before .before .before .before .before .before .before .before .before .before .before .before .before .before .before .before .before in
     let form = s .args .heading in
     let under = list-under form (s .args .list .now) in
-    let n = c .before .before .before .before .before .before .before .before .before .before .before .text-bytes .result in
-    asked (c .before .before .before .before .before .before .before .before .before .before .before .before) _ _
-    (told-text form (given s) n (s .args .page .now) _ under (sized (c .before .before .before .before .before .before .before .before .before .before)) (c .before .before .before .before .before .before .before .before .before .if3 .left) (ltb-false (length (s .args .page .now)) n (c .before .before .before .before .before .before .before .before .if4 .left))
+    let n = size (c .before .before .before .before .before .before .before .before .before .before .before) in
+    asked (c .before .before .before .before .before .before .before .before .before .before .before .before .before .before) _ _
+    (told-text form (given s) n (s .args .page .now) _ under (sized (c .before .before .before .before .before .before .before .before .before .before .before)) (c .before .before .before .before .before .before .before .before .before .if2 .left) (ltb-false (length (s .args .page .now)) n (c .before .before .before .before .before .before .before .before .if3 .left))
     (written (c .before .before)))
 
 pub write-log-spec : {M : Type 1} → statement M
@@ -134,14 +139,15 @@ write-log-spec =
     tie.close
     (tie.spec
     returns
-    text-bytes-requires
-    first-fault-requires
+    text-size-requires
+    enum-known-r
+    enum-known-bytes
     returns-2
-    returns-3
     put-names-requires
     sub-put-lines
     part-put-lines-start
     part-put-lines-end
     put-lines-requires
+    returns-3
     same-length
     returns-4)
