@@ -12,7 +12,7 @@ use Rattle.types.specs.declared.Numbers.{Numbers}
 use Rattle.types.specs.declared.Step.the-variants.{Read, Write, Flush, Arrive, Retire}
 use Rattle.types.specs.declared.Deduction.the-variants.{WriteFirst}
 use Rattle.types.specs.declared.Refusal.the-variants.{UnknownRule}
-use Rattle.types.specs.Types.{numbersFrom, stepOf}
+use Rattle.types.specs.Types.{numbersFrom, stepOf, actOf}
 use Rattle.landlord.specs.Calls.{isItemNumber, inRange}
 use Rattle.landlord.specs.Catalog.{listed, itemInRange}
 use Rattle.line_fields.specs.declared.Field.{Field}
@@ -23,7 +23,7 @@ use Rattle.line_fields.proofs.Laws.{and-parts}
 use Rattle.line_fields.proofs.Held.{held-number, held-dash, held-letter, held-rule, held-rule-in, held-most, held-least, held-is, held-same, at-held, none-held}
 use Rattle.season_lines.specs.declared.Line.{Line}
 use Rattle.season_lines.specs.declared.Line.the-variants.{Sizes, Item as ItemLine, Step, Act as Placed, Refused}
-use Rattle.season_lines.specs.Lines.{shapeThenRange, sizesLine, ruleField, itemLine, kindUnder, valueField, stepShape, stepLine, actOf, actLine, valuesIn, lineIn}
+use Rattle.season_lines.specs.Lines.{shapeThenRange, sizesLine, ruleField, itemLine, kindUnder, valueField, stepShape, stepLine, actLine, valuesIn, lineIn}
 use Rattle.season_lines.proofs.Laws.{item-bounds, sizesShape, itemShape, actsShape, sizesRange, itemsRange, actsRange}
 use Rattle.season_lines.proofs.Pieces.{sizes-bounds, acts-bounds}
 

@@ -12,7 +12,7 @@ use lib.ListN.{length}
 use Rattle.types.specs.declared.Refusal.the-variants.{Malformed, OutOfRange, UnknownRule}
 use Rattle.types.specs.declared.Numbers.{Numbers}
 use Rattle.types.specs.declared.Step.the-variants.{Read, Write, Flush, Arrive, Retire}
-use Rattle.types.specs.Types.{numbersFrom, numbersOf, stepOf}
+use Rattle.types.specs.Types.{numbersFrom, numbersOf, stepOf, actOf}
 use Rattle.landlord.specs.Calls.{isItemNumber, inRange}
 use Rattle.landlord.specs.Catalog.{listed, capacityInRange, itemInRange}
 use Rattle.line_fields.specs.declared.Field.{Field}
@@ -21,7 +21,7 @@ use Rattle.line_fields.proofs.Laws.{and-parts}
 use Rattle.line_fields.proofs.Pieces.{one-empty}
 use Rattle.season_lines.specs.declared.Line.{Line}
 use Rattle.season_lines.specs.declared.Line.the-variants.{Sizes, Item as ItemLine, Step, Act as Placed, Refused}
-use Rattle.season_lines.specs.Lines.{namesIn, shapeThenRange, sizesLine, ruleField, itemLine, kindUnder, valueField, stepLine, isActKind, actOf, actLine, valuesIn, lineIn}
+use Rattle.season_lines.specs.Lines.{namesIn, shapeThenRange, sizesLine, ruleField, itemLine, kindUnder, valueField, stepLine, isActKind, actLine, valuesIn, lineIn}
 use Rattle.season_lines.proofs.Laws.{sizesShape, itemShape, stepsShape, actsShape, sizesRange, itemsRange, actsRange, names-three, names-3}
 
 -- ## Lines that are torn whatever their heading

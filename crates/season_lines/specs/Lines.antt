@@ -7,8 +7,8 @@ use lib.{ListN.{length, getD}, Dec.{leb, eqb}}
 use Rattle.decimal.specs.Decimal.{textOf, sameText}
 use Rattle.line_fields.specs.{declared.Field.{Field, the-variants.{Dash, Rule}}, Fields.{split, fieldAt, isNumber, isLetter, isDash, isRule, valueIn, ruleIn, isEither, noneEmpty}}
 use Rattle.season_lines.specs.declared.{Names.{Names, the-variants.{Form, Unknown}}, Line.{Line, the-variants.{Sizes, Item as ItemLine, Step, Act as Placed, Refused}}}
-use Rattle.types.specs.declared.{Numbers.Numbers, Act.{Act, the-variants.{Evict, Fetch}}, Deduction.the-variants.WriteFirst, Refusal.the-variants.{Malformed, OutOfRange, UnknownRule}}
-use Rattle.types.specs.Types.{numbersFrom, stepOf}
+use Rattle.types.specs.declared.{Numbers.Numbers, Deduction.the-variants.WriteFirst, Refusal.the-variants.{Malformed, OutOfRange, UnknownRule}}
+use Rattle.types.specs.Types.{numbersFrom, stepOf, actOf}
 use Rattle.landlord.specs.{Catalog.{listed, itemInRange, capacityInRange}, Calls.inRange}
 
 -- ## The headings: "A table is a line of names"
@@ -100,9 +100,6 @@ stepLine form kind item minutes blocks load write n =
 -- D or F
 abbrev pub isActKind : ℕ → Bool
 isActKind kind = eqb kind 68 || eqb kind 70
-
-abbrev pub actOf : ℕ → ℕ → Act
-actOf kind item = cond (eqb kind 68) (Evict item) (Fetch item)
 
 -- `at act sail`: "`at` from 0 to 999,999"; only behind an unknown kind may the sail be `-`
 unfoldable pub actLine : Field → Field → Field → ℕ → Line
