@@ -12,7 +12,7 @@ use Rattle.types.specs.declared.Numbers.{Numbers}
 use Rattle.types.specs.declared.Step.the-variants.{Read, Write, Flush, Arrive, Retire}
 use Rattle.types.specs.declared.Deduction.the-variants.{WriteFirst}
 use Rattle.types.specs.declared.Refusal.the-variants.{Malformed}
-use Rattle.types.specs.Types.{numbersFrom, stepOf, telling, refusalFrom}
+use Rattle.types.specs.Types.{actOf, numbersFrom, stepOf, telling, refusalFrom}
 use Rattle.landlord.specs.Steps.{isItemNumber, rangeRefusal}
 use Rattle.landlord.specs.Catalog.{listed, itemInRange}
 use Rattle.landlord.proofs.Steps.{free-range}
@@ -24,7 +24,7 @@ use Rattle.line_fields.proofs.Laws.{and-parts}
 use Rattle.line_fields.proofs.Held.{held-number, held-dash, held-letter, held-rule, held-rule-in, held-most, held-least, held-is, held-same, at-held, none-held}
 use Rattle.season_lines.specs.declared.Line.{Line}
 use Rattle.season_lines.specs.declared.Line.the-variants.{Sizes, Item as ItemLine, Step, Act as Placed, Refused}
-use Rattle.season_lines.specs.Lines.{judged, sizesLine, ruleField, itemLine, kindUnder, valueField, stepShape, stepLine, actOf, actLine, valuesIn, lineIn}
+use Rattle.season_lines.specs.Lines.{judged, sizesLine, ruleField, itemLine, kindUnder, valueField, stepShape, stepLine, actLine, valuesIn, lineIn}
 use Rattle.season_lines.proofs.Laws.{item-bounds, sizesShape, itemShape, actsShape, sizesRange, itemsRange, actsRange, or-3, or-18-or-3}
 use Rattle.season_lines.proofs.Pieces.{not-3, sizes-bounds, acts-bounds}
 

@@ -17,7 +17,7 @@ use Rattle.types.specs.declared.Deduction.{Deduction}
 use Rattle.types.specs.declared.Deduction.the-variants.{WriteFirst}
 use Rattle.types.specs.declared.Refusal.{Refusal}
 use Rattle.types.specs.declared.Refusal.the-variants.{Malformed, OutOfRange, UnknownRule}
-use Rattle.types.specs.Types.{numbersFrom, stepOf, telling, told, refusalFrom}
+use Rattle.types.specs.Types.{actOf, numbersFrom, stepOf, telling, told, refusalFrom}
 use Rattle.types.proofs.Refusals.{refusal-is}
 use Rattle.landlord.specs.Steps.{rangeRefusal}
 use Rattle.landlord.specs.Catalog.{listed, capacityInRange, itemInRange}
@@ -27,7 +27,7 @@ use Rattle.line_fields.specs.Fields.{split, fieldAt, isNumber, isLetter, isRule
 use Rattle.season_lines.specs.declared.Names.the-variants.{Form, Unknown}
 use Rattle.season_lines.specs.declared.Line.{Line}
 use Rattle.season_lines.specs.declared.Line.the-variants.{Sizes, Item as ItemLine, Step, Act as Placed, Refused}
-use Rattle.season_lines.specs.Lines.{headings, namesIn, formAmong, formOf, judged, sizesLine, ruleField, itemLine, kindUnder, numbersUnder, valueField, stepShape, stepLine, isActKind, actOf, actLine, valuesIn, lineIn}
+use Rattle.season_lines.specs.Lines.{headings, namesIn, formAmong, formOf, judged, sizesLine, ruleField, itemLine, kindUnder, numbersUnder, valueField, stepShape, stepLine, isActKind, actLine, valuesIn, lineIn}
 use Rattle.landlord.proofs.Ranges.{item-facts}
 
 -- ## Tests
@@ -444,3 +444,21 @@ module _ (table form : ℕ) (fields : List Field) (count n : ℕ) (few : count �
           at 1 (omega arith),
           at 2 (omega arith),
         )
+
+-- no heading is the empty line
+pub blank-unnamed : (table : ℕ) → formOf table [] ≡ Unknown
+unfolding formOf formAmong headings sameText
+blank-unnamed table = go (eqb table 0) (eqb table 1) (eqb table 2)
+  where
+    go :
+        (p q r : Bool) →
+        formAmong 0
+        (cond p (textOf "locker rival" ∷ textOf "locker rival rule" ∷ [])
+        (cond q (textOf "sail blocks load write" ∷ [])
+        (cond r (textOf "step sail minutes" ∷ textOf "step sail minutes blocks load write" ∷ [])
+        (textOf "at act sail" ∷ []))))
+        [] ≡ Unknown
+    go true q r = refl
+    go false true r = refl
+    go false false true = refl
+    go false false false = refl

@@ -10,7 +10,7 @@ use lib.Dec.{leb, eqb}
 use lib.ListN.{length}
 use Rattle.types.specs.declared.Refusal.the-variants.{Malformed}
 use Rattle.types.specs.declared.Numbers.{Numbers}
-use Rattle.types.specs.Types.{numbersOf, stepOf, telling, refusalLine, refusalFrom}
+use Rattle.types.specs.Types.{actOf, numbersOf, stepOf, telling, refusalLine, refusalFrom}
 use Rattle.types.proofs.Refusals.{refusal-line}
 use Rattle.landlord.specs.Steps.{inRange, rangeRefusal}
 use Rattle.landlord.specs.Catalog.{listed, capacityInRange, itemInRange}
@@ -22,7 +22,7 @@ use Rattle.line_fields.proofs.Laws.{and-parts}
 use Rattle.line_fields.proofs.Pieces.{one-empty}
 use Rattle.season_lines.specs.declared.Line.{Line}
 use Rattle.season_lines.specs.declared.Line.the-variants.{Sizes, Item as ItemLine, Step, Act as Placed, Refused}
-use Rattle.season_lines.specs.Lines.{namesIn, judged, sizesLine, ruleField, itemLine, numbersUnder, valueField, stepLine, isActKind, actOf, actLine, valuesIn, lineIn}
+use Rattle.season_lines.specs.Lines.{namesIn, judged, sizesLine, ruleField, itemLine, numbersUnder, valueField, stepLine, isActKind, actLine, valuesIn, lineIn}
 use Rattle.season_lines.proofs.Laws.{sizesShape, itemShape, stepsShape, actsShape, sizesRange, itemsRange, actsRange, or-3, or-18-or-3, valuesOf, names-three, names-3}
 
 -- ## Lines that are torn whatever their heading

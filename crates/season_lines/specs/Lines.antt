@@ -7,8 +7,8 @@ use lib.{ListN.{length, getD}, Dec.{leb, eqb}}
 use Rattle.decimal.specs.Decimal.{textOf, sameText}
 use Rattle.line_fields.specs.{declared.Field.{Field, the-variants.{Dash, Rule}}, Fields.{split, fieldAt, isNumber, isLetter, isDash, isRule, valueIn, ruleIn, isEither, noneEmpty}}
 use Rattle.season_lines.specs.declared.{Names.{Names, the-variants.{Form, Unknown}}, Line.{Line, the-variants.{Sizes, Item as ItemLine, Step, Act as Placed, Refused}}}
-use Rattle.types.specs.declared.{Numbers.Numbers, Act.{Act, the-variants.{Evict, Fetch}}, Deduction.the-variants.WriteFirst, Refusal.the-variants.Malformed}
-use Rattle.types.specs.Types.{numbersFrom, readKind, writeKind, flushKind, arriveKind, retireKind, evictKind, fetchKind, stepOf, telling, refusalFrom}
+use Rattle.types.specs.declared.{Numbers.Numbers, Deduction.the-variants.WriteFirst, Refusal.the-variants.Malformed}
+use Rattle.types.specs.Types.{actOf, numbersFrom, readKind, writeKind, flushKind, arriveKind, retireKind, evictKind, fetchKind, stepOf, telling, refusalFrom}
 use Rattle.landlord.specs.{Catalog.{listed, itemInRange, capacityInRange}, Steps.rangeRefusal}
 
 -- ## The headings: "A table is a line of names"
@@ -105,9 +105,6 @@ stepLine form kind item minutes blocks load write n =
 -- D or F
 abbrev pub isActKind : ℕ → Bool
 isActKind kind = eqb kind evictKind || eqb kind fetchKind
-
-abbrev pub actOf : ℕ → ℕ → Act
-actOf kind item = cond (eqb kind evictKind) (Evict item) (Fetch item)
 
 -- `at act sail`: "`at` from 0 to 999,999"; only behind an unknown kind may the sail be `-`
 unfoldable pub actLine : Field → Field → Field → ℕ → Line

@@ -10,10 +10,9 @@ use native.Mathlib.Omega.{arith}
 use native.Mathlib.Decide.{ℕ-discrete, decLt}
 use lib.ListN.{length, getD, drop}
 use Rattle.types.specs.declared.Act.{Act}
-use Rattle.types.specs.Types.{actKind, actItem}
+use Rattle.types.specs.Types.{actKind, actItem, actOf}
 use Rattle.landlord.specs.Catalog.{Catalog, CatalogOk, itemAt}
 use Rattle.landlord.specs.Plan.{Copy, Done, done, faulty, planActs, andPaid, andThen, allActs}
-use Rattle.season_lines.specs.Lines.{actOf}
 use Rattle.season_tables.specs.declared.Seen.{Seen}
 use Rattle.season_tables.specs.Tables.{Tables}
 use Rattle.season_tables.specs.InnerSound.{placedAt, catalogBefore}

@@ -15,12 +15,11 @@ use Rattle.types.specs.declared.Step.the-variants.{Flush}
 use Rattle.types.specs.declared.Act.{Act}
 use Rattle.types.specs.declared.Act.the-variants.{Evict, Fetch}
 use Rattle.types.specs.declared.Numbers.{Numbers}
-use Rattle.types.specs.Types.{numbersOf, stepItem, actKind, actItem}
+use Rattle.types.specs.Types.{numbersOf, stepItem, actKind, actItem, actOf}
 use Rattle.landlord.specs.Fold.{fold}
 use Rattle.landlord.specs.Catalog.{CatalogOk, catalogNext}
 use Rattle.landlord.proofs.Keeps.{Served, next-ok}
 use Rattle.landlord.proofs.Logs.{allowed-served}
-use Rattle.season_lines.specs.Lines.{actOf}
 use Rattle.season_tables.specs.declared.Seen.{Seen}
 use Rattle.season_tables.specs.Tables.{Placed, Tables}
 use Rattle.landlord.specs.CallNumbers.{callNumbers}

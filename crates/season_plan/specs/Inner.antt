@@ -1,5 +1,5 @@
 -- How the program holds what a plan has, and what its functions give. Assumes nothing.
-use Rattle.types.specs.{declared.Step.Step, Types.{readKind, writeKind, flushKind, arriveKind, numbersOf, stepItem, actItem}}
+use Rattle.types.specs.{declared.Step.Step, Types.{readKind, writeKind, flushKind, arriveKind, numbersOf, stepItem, actItem, actOf}}
 use Rattle.landlord.specs.{Plan.{Plan, Copy, noCopy, cleanCopy, dirtyCopy, copyAt, isChanged, cleaned, owed, Done, done, faulty, Fault, unknownItem, retiredItem, notHeld, alreadyHeld, requestNotHeld, overCapacity, faultNumber, planUsed, planEvicts, planFetches, planActs, allActs, planServes}, Fold.tab, Catalog.{Catalog, CatalogOk, itemAt, catalogNext}}
 use Rattle.season_items.specs.Inner.{itemRoom, HasItems}
 use Rattle.season_tables.specs.{Tables.{Placed, Tables}, declared.Seen.Seen, Inner.{Holds, Roomy, FewRead}, InnerSound.{Sound, placedAt, catalogBefore}}
@@ -8,7 +8,6 @@ use Rattle.season_plan.specs.Plans.{actsAt, actsBefore, priceOf, PricedB
 use mathlib.Core.{Path._≡_, Logic._≢_, Bool.{Bool, false, cond, _||_}, List.List}
 use Prim.Native.Nat.{ℕ, suc, _+_, _*_, _≤_, _<_}
 use lib.{ListN.{length, getD, set}, Dec.eqb}
-use Rattle.season_lines.specs.Lines.{actOf}
 
 -- the text's acts as a plan
 abbrev pub planOf : List Placed → Plan

@@ -15,16 +15,16 @@ use Rattle.types.specs.Types.{numbersFrom, stepOf, actItem, telling, refusalFro
 use Rattle.landlord.specs.Catalog.{catalogAfter}
 use Rattle.landlord.specs.Steps.{ifKnown, itemRefusal}
 use Rattle.landlord.proofs.Folds.{either}
-use Rattle.decimal.specs.Decimal.{textOf, sameText}
 use Rattle.season_lines.specs.declared.Names.{Names}
 use Rattle.season_lines.specs.declared.Names.the-variants.{Form, Unknown}
 use Rattle.season_lines.specs.declared.Line.{Line}
 use Rattle.season_lines.specs.declared.Line.the-variants.{Sizes, Item as ItemLine, Step as StepLine, Act as ActLine, Refused}
 use Rattle.line_fields.specs.declared.Field.{Field}
 use Rattle.line_fields.specs.Fields.{onto, split, allFields, fieldsOf, fieldAt, isLetter, valueIn, noneEmpty}
-use Rattle.season_lines.specs.Lines.{headings, namesIn, formAmong, formOf, numbersUnder, rangeUnder, valueField, stepShape, stepLine, valuesIn, lineIn}
+use Rattle.season_lines.specs.Lines.{namesIn, formOf, numbersUnder, rangeUnder, valueField, stepShape, stepLine, valuesIn, lineIn}
 use Rattle.line_fields.proofs.Laws.{and-parts}
 use Rattle.line_fields.proofs.Pieces.{no-bytes}
+use Rattle.season_lines.proofs.Laws.{blank-unnamed}
 use Rattle.season_lines.proofs.Pieces.{empty-malformed, Says, line-says}
 use Rattle.season_tables.specs.Tables.{Tables, Sofar, OrRefusal, gives, goesOn, atStart, withStep, inTurn, takes, mayEnd, mustEnd, nextTable, namedBy, readLine, atEnd, readFrom, readingOf}
 use Rattle.season_tables.specs.Inner.{isBlank}
@@ -128,23 +128,6 @@ headingBehind (suc (suc zero)) form f = f
 headingBehind (suc (suc (suc t))) form f = form
 
 -- no heading is empty
-blank-unnamed : (table : ℕ) → formOf table [] ≡ Unknown
-unfolding formOf formAmong headings sameText
-blank-unnamed table = go (eqb table 0) (eqb table 1) (eqb table 2)
-  where
-    go :
-        (p q r : Bool) →
-        formAmong 0
-        (cond p (textOf "locker rival" ∷ textOf "locker rival rule" ∷ [])
-        (cond q (textOf "sail blocks load write" ∷ [])
-        (cond r (textOf "step sail minutes" ∷ textOf "step sail minutes blocks load write" ∷ [])
-        (textOf "at act sail" ∷ []))))
-        [] ≡ Unknown
-    go true q r = refl
-    go false true r = refl
-    go false false true = refl
-    go false false false = refl
-
 names-some : (table : ℕ) (l : List ℕ) (f : ℕ) → formOf table l ≡ Form f → length l ≡ 0 → ⊥
 names-some table [] f e z =
     let none : _≡_ {A = Names} Unknown (Form f) = sym (blank-unnamed table) ∙ e in

@@ -64,6 +64,10 @@ abbrev pub actItem : Act → ℕ
 actItem (Evict i) = i
 actItem (Fetch i) = i
 
+-- the act of a letter, D or F, and an item
+abbrev pub actOf : ℕ → ℕ → Act
+actOf kind item = cond (eqb kind evictKind) (Evict item) (Fetch item)
+
 -- "a call gives the rule as 0 or 1, in that order": write-first, load-first (paper 02, 'Three')
 abbrev pub deductionNumber : Deduction → ℕ
 deductionNumber WriteFirst = 0
