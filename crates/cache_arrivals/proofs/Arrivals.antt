@@ -4,7 +4,7 @@ use mathlib.Core.Path.{_≡_, refl, sym, ap, _∙_}
 use mathlib.Core.Logic.{_≢_}
 use mathlib.Core.Bool.{Bool, false, cond}
 use mathlib.Core.List.{[], _∷_, _++_}
-use Prim.Native.Nat.{ℕ, suc, _+_, _≤_, _<_}
+use Prim.Native.Nat.{ℕ, _+_, _≤_, _<_}
 use native.Mathlib.Nat.{add-zero, le-refl}
 use native.Mathlib.Numerals.{add-one}
 use native.Mathlib.Decide.{ℕ-discrete, decLe}
@@ -16,11 +16,11 @@ use Rattle.types.specs.declared.Step.the-variants.{Arrive}
 use Rattle.landlord.specs.Fold.{tab, fold}
 use Rattle.landlord.specs.Catalog.{listed}
 use Rattle.landlord.specs.Slot.{absent}
-use Rattle.landlord.specs.Rule.{arrived, size, step}
-use Rattle.landlord.specs.Figures.{Use, useOf, noUse, useAt, plusUse, plusTotals, adds, changed, took}
+use Rattle.landlord.specs.Rule.{arrived, step}
+use Rattle.landlord.specs.Figures.{Use, useOf, noUse, useAt, plusUse, plusTotals, adds, linesAfter, changed, took}
 use Rattle.landlord.proofs.Folds.{tab-eq, tab-more, tab-past}
 use Rattle.cache_state.specs.Cache.{Cache, dirtyAt, slotOf, catalogOf, slotsOf, usesOf, view, Emptied, Blank, Normal}
-use Rattle.cache_state.specs.InnerView.{itemOf, usageOf, slotFrom, stateOf, countsOf, figuresOf}
+use Rattle.cache_state.specs.InnerView.{itemOf, usageOf, slotFrom, countsOf, figuresOf}
 use Rattle.cache_state.specs.InnerBecomes.{Becomes}
 use Rattle.cache_state.proofs.Views.{size-is, use-is}
 use Rattle.layout.specs.InnerRows.{WholeArrays}
@@ -92,10 +92,10 @@ module _ (c : Cache) (b l w : ℕ) (s : WholeArrays c) (ok : Normal c) (few : c 
       ∙ sym (tab-past (c .n) (usageOf c) i noUse (omega arith))
   line i (no e) m = sym (use-is c i (omega arith))
 
-  uses-after : tab (c .n + 1) (usageOf c) ≡ tab (suc (size (stateOf c))) line-after
+  uses-after : tab (c .n + 1) (usageOf c) ≡ tab (linesAfter (catalogOf c) (arrived (c .n))) line-after
   uses-after =
       tab-eq (c .n + 1) (usageOf c) line-after (λ i m. line i (ℕ-discrete i (c .n)) m ∙ same-use (eqb i (c .n)) (useAt (figuresOf c) i))
-      ∙ ap (λ (m : ℕ). tab m line-after) (add-one (c .n) ∙ ap suc (sym (size-is c)))
+      ∙ ap (λ (m : ℕ). tab m line-after) (ap (λ (k : ℕ). k + 1) (sym (size-is c)))
 
   totals-after : countsOf (stepCounted c Arrivals) ≡ plusTotals (countsOf c) (adds (catalogOf c) (arrived (c .n)))
   totals-after = simp add-zero

@@ -116,7 +116,7 @@ module _ (c : Cache) (i : ℕ) (gone : List ℕ) (ok : Normal c) (l : i < c .n) 
         stands =
             λ z.
             changed (view c) (record { catalog = catalog-after z; slots = slotsOf c })
-            (record { totals = totals-after z; uses = uses-by c after (retired i) refl (λ k. refl) (λ j b. same-use (eqb j i) (usageOf c j)) z })
+            (record { totals = totals-after z; uses = uses-by c after (retired i) refl (add-zero (length (catalogOf c))) (λ j b. same-use (eqb j i) (usageOf c j)) z })
             (c .closed);
         fields = record { few = ok .few; past = past; absent = λ j b h. emptied j (ok .absent j b h); clean = ok .clean };
       }

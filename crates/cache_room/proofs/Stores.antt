@@ -16,8 +16,8 @@ use Rattle.types.specs.declared.Deduction.{Deduction}
 use Rattle.types.specs.declared.Deduction.the-variants.{WriteFirst, LoadFirst}
 use Rattle.landlord.specs.Fold.{tab}
 use Rattle.landlord.specs.Slot.{absent, clean, dirty, splitOf, lose}
-use Rattle.landlord.specs.Rule.{size, evicted}
-use Rattle.landlord.specs.Figures.{totalsOf, plusTotals, adds, Use, useOf, plusUse, noUse, usage, useAt, tally, changed}
+use Rattle.landlord.specs.Rule.{evicted}
+use Rattle.landlord.specs.Figures.{totalsOf, plusTotals, adds, Use, useOf, plusUse, noUse, usage, useAt, linesAfter, tally, changed}
 use Rattle.landlord.proofs.Folds.{tab-eq}
 use Rattle.marks.specs.Marks.{marked}
 use Rattle.marks.specs.Inner.{marks}
@@ -282,11 +282,15 @@ module _ (c : Cache) (v : ℕ) (sizes : EvictionSizes c) (ok : Normal c) (l : v 
       ∙ same-use true (usageOf c i)
       ∙ sym (ap (λ (t : Bool). plusUse (usageOf c i) (cond t (usage (evicted v true)) noUse)) (ne-eqb i v e))
 
-  uses-more : (d : Bool) → tab (c .n) (usageOf (counted d)) ≡ tab (size (stateOf c)) (λ i. plusUse (useAt (figuresOf c) i) (added d i))
+  lines : (d : Bool) → linesAfter (catalogOf c) (evicted v d) ≡ c .n
+  lines true = add-zero _ ∙ size-is c
+  lines false = add-zero _ ∙ size-is c
+
+  uses-more : (d : Bool) → tab (c .n) (usageOf (counted d)) ≡ tab (linesAfter (catalogOf c) (evicted v d)) (λ i. plusUse (useAt (figuresOf c) i) (added d i))
   uses-more d =
       tab-eq (c .n) (usageOf (counted d)) (λ i. plusUse (useAt (figuresOf c) i) (added d i))
       (λ i b. line d i (ℕ-discrete i v) ∙ sym (ap (λ (u : Use). plusUse u (added d i)) (use-is c i b)))
-      ∙ ap (λ (n : ℕ). tab n (λ i. plusUse (useAt (figuresOf c) i) (added d i))) (sym (size-is c))
+      ∙ ap (λ (n : ℕ). tab n (λ i. plusUse (useAt (figuresOf c) i) (added d i))) (sym (lines d))
 
   -- the totals: what the eviction does not add to stays
   totals-more : (d : Bool) → countsOf (counted d) ≡ plusTotals (countsOf c) (adds (catalogOf c) (evicted v d))

@@ -8,13 +8,13 @@ use Prim.Native.Nat.{ℕ, _≤_, _<_}
 use native.Mathlib.Nat.{add-zero}
 use native.Mathlib.Decide.{ℕ-discrete}
 use native.Mathlib.Omega.{arith}
-use lib.ListN.{getD, set}
+use lib.ListN.{length, getD, set}
 use lib.Dec.{eqb}
 use borrow.Author.Tests.{eq-eqb, ne-eqb}
 use Rattle.types.specs.declared.Deduction.{Deduction}
 use Rattle.landlord.specs.Fold.{tab, fold}
 use Rattle.landlord.specs.Slot.{splitOf}
-use Rattle.landlord.specs.Rule.{Event, size, putSlot}
+use Rattle.landlord.specs.Rule.{Event, putSlot}
 use Rattle.landlord.specs.Figures.{Use, useOf, usage, isAbout, plusTotals, plusUse, noUse, useAt, adds, linesAfter, tally, moved}
 use Rattle.landlord.proofs.Folds.{tab-set, tab-eq}
 use Rattle.marks.specs.Marks.{marked}
@@ -98,7 +98,7 @@ plus-none u = sym (λ z. useOf (add-zero (u .minutes) z) (add-zero (u .loads) z)
 pub uses-by :
     (c r : Cache) (e : Event) →
     r .n ≡ c .n →
-    ((m : ℕ) → linesAfter m e ≡ m) →
+    linesAfter (catalogOf c) e ≡ length (catalogOf c) →
     ((j : ℕ) → j < c .n → usageOf r j ≡ plusUse (usageOf c j) (cond (isAbout j e) (usage e) noUse)) →
     usesOf r ≡ tally (catalogOf c) (figuresOf c) e .uses
 unfolding usesOf
@@ -106,7 +106,7 @@ uses-by c r e same lines each =
     ap (λ (m : ℕ). tab m (usageOf r)) same
     ∙ tab-eq (c .n) (usageOf r) after
     (λ j l. each j l ∙ ap (λ (u : Use). plusUse u (cond (isAbout j e) (usage e) noUse)) (sym (use-is c j l)))
-    ∙ ap (λ (m : ℕ). tab m after) (sym (size-is c) ∙ sym (lines (size (stateOf c))))
+    ∙ ap (λ (m : ℕ). tab m after) (sym (size-is c) ∙ sym lines)
   where
     after : ℕ → Use
     after j = plusUse (useAt (figuresOf c) j) (cond (isAbout j e) (usage e) noUse)
@@ -116,7 +116,7 @@ uses-but :
     (c r : Cache) (i : ℕ) (e : Event) →
     OnlyAt c r i →
     c .n ≤ 256 →
-    ((m : ℕ) → linesAfter m e ≡ m) →
+    linesAfter (catalogOf c) e ≡ length (catalogOf c) →
     ((j : ℕ) → isAbout j e ≡ eqb j i) →
     usageOf r i ≡ plusUse (usageOf c i) (usage e) →
     usesOf r ≡ tally (catalogOf c) (figuresOf c) e .uses
@@ -137,7 +137,7 @@ pub stands-but :
     OnlyAt c r i →
     c .n ≤ 256 →
     i < c .n →
-    ((m : ℕ) → linesAfter m e ≡ m) →
+    linesAfter (catalogOf c) e ≡ length (catalogOf c) →
     ((j : ℕ) → isAbout j e ≡ eqb j i) →
     countsOf r ≡ plusTotals (countsOf c) (adds (catalogOf c) e) →
     usageOf r i ≡ plusUse (usageOf c i) (usage e) →

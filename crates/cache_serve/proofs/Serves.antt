@@ -5,7 +5,7 @@ use mathlib.Core.List.{List, [], _∷_}
 use Prim.Native.Nat.{ℕ, _+_, _≤_, _<_}
 use native.Mathlib.Nat.{add-zero}
 use native.Mathlib.Omega.{arith}
-use lib.ListN.{getD, set}
+use lib.ListN.{length, getD, set}
 use lib.Seq.{getD-set-same, getD-set-other, set-set}
 use lib.Dec.{eqb}
 use Rattle.landlord.specs.Fold.{fold}
@@ -57,7 +57,7 @@ read-becomes :
     OnlyAt c r i →
     ReadAt c r i →
     e ≡ found (stateOf c) i →
-    ((m : ℕ) → linesAfter m e ≡ m) →
+    linesAfter (catalogOf c) e ≡ length (catalogOf c) →
     ((j : ℕ) → isAbout j e ≡ eqb j i) →
     countsOf r ≡ plusTotals (countsOf c) (adds (catalogOf c) e) →
     usageOf r i ≡ plusUse (usageOf c i) (usage e) →
@@ -110,7 +110,7 @@ read-hit c i s ok h =
       write = refl;
     })
     (sym (ap (λ (t : Bool). cond t (hit i) (loaded i)) (held-is c i (ok .item) ∙ h)))
-    (λ m. refl)
+    (add-zero (length (catalogOf c)))
     (λ j. refl)
     (simp add-zero)
     (plus-none (usageOf c i))
@@ -148,7 +148,7 @@ read-load c i s ok h =
       write = refl;
     })
     (sym (ap (λ (t : Bool). cond t (hit i) (loaded i)) (held-is c i (ok .item) ∙ h)))
-    (λ m. refl)
+    (add-zero (length (catalogOf c)))
     (λ j. refl)
     (simp (add-zero, item-is c i (ok .item)))
     (simp (one, add-zero))
@@ -172,7 +172,7 @@ wrote-becomes :
 wrote-becomes c i minutes d s ok l h m =
     record {
       stands =
-          stands-but c r i (wrote i minutes) o (ok .few) l (λ m. refl) (λ j. refl) (simp add-zero) (simp (more, add-zero))
+          stands-but c r i (wrote i minutes) o (ok .few) l (add-zero (length (catalogOf c))) (λ j. refl) (simp add-zero) (simp (more, add-zero))
           ∙ (λ z. moved (view c) (record { state = putSlot (stateOf c) i (slot z); events = wrote i minutes ∷ [] }) (c .closed));
       fields = normal-but c r i o ok l h (λ q. absurd (false≢true (sym q ∙ mark)));
     }
@@ -246,9 +246,9 @@ module _ (c q : Cache) (i : ℕ) (ok : Servable c i) (read : Becomes (moved (vie
   no-minutes false false = refl
 
   -- and neither is an arrival
-  same-lines : (t : Bool) (m : ℕ) → linesAfter m (cond t (hit i) (loaded i)) ≡ m
-  same-lines true m = refl
-  same-lines false m = refl
+  same-lines : (t : Bool) → linesAfter (catalogOf c) (cond t (hit i) (loaded i)) ≡ length (catalogOf c)
+  same-lines true = add-zero (length (catalogOf c))
+  same-lines false = add-zero (length (catalogOf c))
 
   same-minutes : getD (q .minutes) i 0 ≡ getD (c .minutes) i 0
   unfolding fold
@@ -257,8 +257,8 @@ module _ (c q : Cache) (i : ℕ) (ok : Servable c i) (read : Becomes (moved (vie
       sym (ap (λ (u : Use). u .minutes) (use-is q i still-in))
       ∙ ap (λ (v : Standing). useAt (v .figures) i .minutes) (read .stands)
       ∙ ap (λ (u : Use). u .minutes)
-      (tab-at (linesAfter (size (stateOf c)) e) (λ j. plusUse (useAt (figuresOf c) j) (cond (isAbout j e) (usage e) noUse)) i noUse
-      (omega (arith, same-lines (held (slotAt (stateOf c) i)) (size (stateOf c)), size-is c, ok .item)))
+      (tab-at (linesAfter (catalogOf c) e) (λ j. plusUse (useAt (figuresOf c) j) (cond (isAbout j e) (usage e) noUse)) i noUse
+      (omega (arith, same-lines (held (slotAt (stateOf c) i)), size-is c, ok .item)))
       ∙ (λ z. use-is c i (ok .item) z .minutes + no-minutes (held (slotAt (stateOf c) i)) (isAbout i e) z)
       ∙ add-zero (getD (c .minutes) i 0)
 

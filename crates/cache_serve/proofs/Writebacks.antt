@@ -6,7 +6,7 @@ use Prim.Native.Nat.{ℕ, _+_, _*_, _≤_, _<_}
 use native.Mathlib.Nat.{add-zero}
 use native.Mathlib.Decide.{ℕ-discrete, decLt}
 use native.Mathlib.Omega.{arith}
-use lib.ListN.{getD, set, drop}
+use lib.ListN.{length, getD, set, drop}
 use lib.Seq.{getD-set-same, getD-set-other}
 use Rattle.types.specs.declared.Step.the-variants.{Flush}
 use Rattle.landlord.specs.Fold.{fold}
@@ -66,7 +66,7 @@ back-becomes :
 back-becomes c i d s ok l due m =
     record {
       stands =
-          stands-but c r i (wroteBack i) o (ok .few) l (λ m. refl) (λ j. refl) (simp (add-zero, item-is c i l)) (simp (one, add-zero))
+          stands-but c r i (wroteBack i) o (ok .few) l (add-zero (length (catalogOf c))) (λ j. refl) (simp (add-zero, item-is c i l)) (simp (one, add-zero))
           ∙ (λ z. moved (view c) (record { state = putSlot (stateOf c) i (slot z); events = wroteBack i ∷ [] }) (c .closed));
       fields = normal-but c r i o ok l (dirty-held c i ok l due) (λ q. spent);
     }
@@ -237,7 +237,7 @@ flushed-stands : (c : Cache) → view (stepCounted c Flushes) ≡ moved (view c)
 unfolding fold catalogOf slotsOf
 flushed-stands c =
     λ z.
-    changed (view c) (stateOf c) (record { totals = total z; uses = uses-by c (stepCounted c Flushes) flushStep refl (λ m. refl) (λ j l. plus-none (usageOf c j)) z }) (c .closed)
+    changed (view c) (stateOf c) (record { totals = total z; uses = uses-by c (stepCounted c Flushes) flushStep refl (add-zero (length (catalogOf c))) (λ j l. plus-none (usageOf c j)) z }) (c .closed)
   where
     total : countsOf (stepCounted c Flushes) ≡ plusTotals (countsOf c) (adds (catalogOf c) flushStep)
     total = simp add-zero

@@ -4,6 +4,8 @@ use mathlib.Core.Path.{_≡_, refl, ap, _∙_}
 use mathlib.Core.Bool.{Bool, true, false, cond}
 use mathlib.Core.List.{[], _∷_}
 use Prim.Native.Nat.{ℕ, zero, suc, _+_, _*_, _≤_, _<_}
+use native.Mathlib.Nat.{add-zero}
+use native.Mathlib.Numerals.{add-one}
 use native.Mathlib.Omega.{arith}
 use native.Mathlib.Decide.{ℕ-discrete}
 use lib.ListN.{length, List·getD-eq-default}
@@ -30,15 +32,16 @@ Names n (arrived i) = ⊥
 Names n (retired i) = i < n
 
 -- such an event adds no line
-lines-same : (n : ℕ) (e : Event) → Names n e → linesAfter n e ≡ n
-lines-same n (hit i) l = refl
-lines-same n (loaded i) l = refl
-lines-same n (evicted i d) l = refl
-lines-same n (wroteBack i) l = refl
-lines-same n (wrote i m) l = refl
-lines-same n flushStep l = refl
-lines-same n (arrived i) l = absurd l
-lines-same n (retired i) l = refl
+lines-same : (cat : Catalog) (e : Event) → Names (length cat) e → linesAfter cat e ≡ length cat
+lines-same cat (hit i) l = add-zero (length cat)
+lines-same cat (loaded i) l = add-zero (length cat)
+lines-same cat (evicted i false) l = add-zero (length cat)
+lines-same cat (evicted i true) l = add-zero (length cat)
+lines-same cat (wroteBack i) l = add-zero (length cat)
+lines-same cat (wrote i m) l = add-zero (length cat)
+lines-same cat flushStep l = add-zero (length cat)
+lines-same cat (arrived i) l = absurd l
+lines-same cat (retired i) l = add-zero (length cat)
 
 -- a sum with a term at one number only
 sum-one : (n v w : ℕ) → v < n → sumTo n (λ i. cond (eqb i v) w 0) ≡ w
@@ -54,10 +57,10 @@ sum-one n v w l =
 module _ (p : Use → ℕ) (plus : (a b : Use) → p (plusUse a b) ≡ p a + p b) (none : p noUse ≡ 0) where
   use-part :
       (cat : Catalog) (f : Figures) (e : Event) (i : ℕ) →
-      i < linesAfter (length cat) e →
+      i < linesAfter cat e →
       p (useAt (tally cat f e) i) ≡ p (useAt f i) + cond (isAbout i e) (p (usage e)) 0
   use-part cat f e i l =
-      ap p (tab-at (linesAfter (length cat) e) _ i noUse l)
+      ap p (tab-at (linesAfter cat e) _ i noUse l)
       ∙ plus (useAt f i) (cond (isAbout i e) (usage e) noUse)
       ∙ ap (λ (z : ℕ). p (useAt f i) + z) (part (isAbout i e))
     where
@@ -84,7 +87,7 @@ module _ (p : Use → ℕ) (plus : (a b : Use) → p (plusUse a b) ≡ p a + p b
       omega (
         arith,
         sum-eq (length cat) (λ i. p (useAt (tally cat f e) i)) (λ i. p (useAt f i) + cond (isAbout i e) (p (usage e)) 0)
-            (λ i b. use-part cat f e i (rw (lines-same (length cat) e l) b)),
+            (λ i b. use-part cat f e i (rw (lines-same cat e l) b)),
         sum-add (length cat) (λ i. p (useAt f i)) (λ i. cond (isAbout i e) (p (usage e)) 0),
         about-sum (length cat) e l,
       )
@@ -173,13 +176,13 @@ tallied cat f e g t h d top g' t' h' d' top' good l o gone step held dirty line 
       writebacks = omega arith;
       loadCost = omega arith;
       writeCost = omega arith;
-      uses = tab-length (linesAfter (length cat) e) _ ∙ lines-same (length cat) e l;
+      uses = tab-length (linesAfter cat e) _ ∙ lines-same cat e l;
       loadsAdd = omega (arith, uses-part (λ (u : Use). u .loads) (λ x y. refl) refl cat f e l);
       writebacksAdd = omega (arith, uses-part (λ (u : Use). u .writebacks) (λ x y. refl) refl cat f e l);
       minutes =
           λ i b. omega (
             arith,
-            use-part (λ (u : Use). u .minutes) (λ x y. refl) refl cat f e i (rw (lines-same (length cat) e l) b),
+            use-part (λ (u : Use). u .minutes) (λ x y. refl) refl cat f e i (rw (lines-same cat e l) b),
             o .minutes i b,
             most (isAbout i e) (usage e .minutes),
           );
@@ -258,7 +261,7 @@ arrived-counted cat f i g t h d top top' o up =
       writebacks = omega (arith, o .writebacks);
       loadCost = omega (arith, o .loadCost);
       writeCost = omega (arith, o .writeCost);
-      uses = tab-length (suc (length cat)) _;
+      uses = tab-length (linesAfter cat (arrived i)) _ ∙ add-one (length cat);
       loadsAdd = omega (arith, o .loadsAdd, total (λ (u : Use). u .loads) (λ x y. refl) refl refl);
       writebacksAdd = omega (arith, o .writebacksAdd, total (λ (u : Use). u .writebacks) (λ x y. refl) refl refl);
       minutes = λ j b. line j b (ℕ-discrete j (length cat));
@@ -280,7 +283,7 @@ arrived-counted cat f i g t h d top top' o up =
         j < suc (length cat) →
         p (useAt (tally cat f (arrived i)) j) ≡ p (useAt f j)
     part p plus none nil j b =
-        omega (arith, use-part p plus none cat f (arrived i) j b, ap (λ (n : ℕ). cond (isAbout j (arrived i)) n 0) nil, even (eqb j i))
+        omega (arith, use-part p plus none cat f (arrived i) j (omega arith), ap (λ (n : ℕ). cond (isAbout j (arrived i)) n 0) nil, even (eqb j i))
 
     total :
         (p : Use → ℕ) →

@@ -1,7 +1,7 @@
 -- What the rule pays and counts: a table of what each event adds, and the sums over a log from an empty cache.
 -- Paper 01, 'The step rule' and the report's names. Assumes nothing.
 use mathlib.Core.{Bool.{Bool, true, false, cond}, List.List}
-use Prim.Native.Nat.{ℕ, suc, _+_, _*_, _-_, _/_}
+use Prim.Native.Nat.{ℕ, _+_, _*_, _-_, _/_}
 use lib.{ListN.{length, getD}, Dec.eqb}
 use Rattle.types.specs.declared.Step.{Step}
 use Rattle.landlord.specs.{Fold.{tab, fold}, Catalog.{Catalog, itemAt}, Slot.Split, Rule.{State, Event, hit, loaded, evicted, wroteBack, wrote, flushStep, arrived, retired, Moved, emptied, flush, step}}
@@ -108,24 +108,16 @@ useAt f i = getD (f .uses) i noUse
 abbrev pub plusUse : Use → Use → Use
 plusUse a b = useOf (a .minutes + b .minutes) (a .loads + b .loads) (a .writebacks + b .writebacks)
 
--- how many items are counted for after an event, of n before it: an arrival has a line of its own from then on. "Left sails stay in the
--- report."
-abbrev pub linesAfter : ℕ → Event → ℕ
-linesAfter n (hit i) = n
-linesAfter n (loaded i) = n
-linesAfter n (evicted i d) = n
-linesAfter n (wroteBack i) = n
-linesAfter n (wrote i minutes) = n
-linesAfter n flushStep = n
-linesAfter n (arrived i) = suc n
-linesAfter n (retired i) = n
+-- how many items are counted for after an event: an arrival has a line of its own from then on. "Left sails stay in the report."
+abbrev pub linesAfter : Catalog → Event → ℕ
+linesAfter cat e = length cat + adds cat e .arrivals
 
 -- the figures after one event more
 abbrev pub tally : Catalog → Figures → Event → Figures
 tally cat f e =
     record {
       totals = plusTotals (f .totals) (adds cat e);
-      uses = tab (linesAfter (length cat) e) (λ i. plusUse (useAt f i) (cond (isAbout i e) (usage e) noUse));
+      uses = tab (linesAfter cat e) (λ i. plusUse (useAt f i) (cond (isAbout i e) (usage e) noUse));
     }
 
 -- "The state keeps minutes per sail; tenths are total minutes / 6 rounded down, at print"
