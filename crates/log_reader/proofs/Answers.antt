@@ -33,14 +33,14 @@ pub log-read : {x : Logged} {list : List ℕ} {r : ReadAnswer} {after : List ℕ
 log-read h = record { tells = ap readTold (h .0); heading = ap readHeading (h .0); count = ap readCount (h .0); list = h .1 }
 
 pub read-within :
-    (log : Logged) (list after : List ℕ) (heading n : ℕ) →
-    Steps heading n ≡ readAnswer log list →
+    (log : Logged) (list after : List ℕ) (answered n : ℕ) →
+    Steps answered n ≡ readAnswer log list →
     after ≡ readList log list →
     24 * n ≤ length after
-read-within (steps form ss) list after heading n e is =
+read-within (steps heading ss) list after answered n e is =
     omega (arith, go (fits (listOf ss) list) refl (ap readCount e), ap length is, page-length (listOf ss) list)
   where
-    go : (t : Bool) → fits (listOf ss) list ≡ t → n ≡ readCount (cond t (Steps form (length ss)) (Not (ShortBuffer 0))) → 24 * n ≤ length list
+    go : (t : Bool) → fits (listOf ss) list ≡ t → n ≡ readCount (cond t (Steps heading (length ss)) (Not (ShortBuffer 0))) → 24 * n ≤ length list
     go true h k = omega (arith, length-list ss, leb-true (length (listOf ss)) (length list) h)
     go false h k = omega arith
-read-within (fault r) list after heading n e is = let none : n ≡ 0 = ap readCount e in omega arith
+read-within (fault r) list after answered n e is = let none : n ≡ 0 = ap readCount e in omega arith

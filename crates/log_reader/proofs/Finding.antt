@@ -155,20 +155,20 @@ module _ {text : List ℕ} {from v end : ℕ} (n : NumberAt text from v end) (so
 
 -- ## The end of a line
 
-pub no-end : (form : ℕ) (text : List ℕ) (at : ℕ) → EndAt form text at 0
-no-end form text at = λ some. absurd (omega arith)
+pub no-end : (heading : ℕ) (text : List ℕ) (at : ℕ) → EndAt heading text at 0
+no-end heading text at = λ some. absurd (omega arith)
 
-pub end-feed : (form : ℕ) (text : List ℕ) (at : ℕ) → (form ≡ 1 → ⊥) → Stands text at (textOf "\n") → EndAt form text at (at + 1)
-end-feed form text at n h =
+pub end-feed : (heading : ℕ) (text : List ℕ) (at : ℕ) → (heading ≡ 1 → ⊥) → Stands text at (textOf "\n") → EndAt heading text at (at + 1)
+end-feed heading text at n h =
     λ some.
-    let e = sym (end-old form n) in
+    let e = sym (end-old heading n) in
     (ap (λ (t : List ℕ). at + length t) e, subst (Stands text at) e h)
 
 pub end-dashes :
-    (form : ℕ) (text : List ℕ) (at : ℕ) → form ≡ 1 → sameText (part at (at + 7) text) (textOf " - - -\n") ≡ true → EndAt form text at (at + 7)
-end-dashes form text at f h =
+    (heading : ℕ) (text : List ℕ) (at : ℕ) → heading ≡ 1 → sameText (part at (at + 7) text) (textOf " - - -\n") ≡ true → EndAt heading text at (at + 7)
+end-dashes heading text at f h =
     λ some.
-    let e = sym (end-new form f) in
+    let e = sym (end-new heading f) in
     let seven : at + 7 - at ≡ 7 = omega arith in
     let here : Stands text at (textOf " - - -\n") =
     ap (λ (n : ℕ). take n (drop at text)) (sym seven) ∙ same-true (part at (at + 7) text) (textOf " - - -\n") h in
@@ -176,14 +176,14 @@ end-dashes form text at f h =
 
 -- ## A line found
 
-pub none-in : (form : ℕ) (text : List ℕ) (r : Found) → r .bytes ≡ 0 → FoundIn form text r
-none-in form text r e = λ some. absurd (omega arith)
+pub none-in : (heading : ℕ) (text : List ℕ) (r : Found) → r .bytes ≡ 0 → FoundIn heading text r
+none-in heading text r e = λ some. absurd (omega arith)
 
 -- a step that every heading has
-ranged-under : (form : ℕ) (n : Numbers) → (eqb (n .kind) 65 || eqb (n .kind) 81) ≡ false → inRange n ≡ true → rangeUnder form n ≡ 0
-ranged-under form n e r = ap rangeRefusal (under-same form n (old-kind form (n .kind) e)) ∙ range-free n r
+ranged-under : (heading : ℕ) (n : Numbers) → (eqb (n .kind) 65 || eqb (n .kind) 81) ≡ false → inRange n ≡ true → rangeUnder heading n ≡ 0
+ranged-under heading n e r = ap rangeRefusal (under-same heading n (old-kind heading (n .kind) e)) ∙ range-free n r
 
-module _ (form : ℕ) (text : List ℕ) where
+module _ (heading : ℕ) (text : List ℕ) where
   pub read-begins :
       (v end bytes : ℕ) →
       take 2 text ≡ textOf "R " →
@@ -192,25 +192,25 @@ module _ (form : ℕ) (text : List ℕ) where
       v ≤ 255 →
       Stands text end (32 ∷ []) →
       Stands text (end + 1) (45 ∷ []) →
-      EndAt form text (end + 2) bytes →
+      EndAt heading text (end + 2) bytes →
       0 < bytes →
-      Begins form text (Read v) bytes
+      Begins heading text (Read v) bytes
   unfolding stepText
   read-begins v end bytes kind item some small space dash ends more =
       let feed = ends more in
-      let last : List ℕ = textOf " -" ++ noValues form in
+      let last : List ℕ = textOf " -" ++ noValues heading in
       let close : Stands text end last =
-      stands-then text end (end + 1) (32 ∷ []) (45 ∷ noValues form) space refl
-      (stands-then text (end + 1) (end + 2) (45 ∷ []) (noValues form) dash (omega arith) (feed .1)) in
-      let line : Stands text 0 (stepText form (Read v)) =
+      stands-then text end (end + 1) (32 ∷ []) (45 ∷ noValues heading) space refl
+      (stands-then text (end + 1) (end + 2) (45 ∷ []) (noValues heading) dash (omega arith) (feed .1)) in
+      let line : Stands text 0 (stepText heading (Read v)) =
       stands-then text 0 2 (textOf "R ") (digitsOf v ++ last) kind refl
       (stands-then text 2 end (digitsOf v) last (stands-number item some) (digits-count item some) close) in
-      let count : bytes ≡ length (stepText form (Read v)) =
+      let count : bytes ≡ length (stepText heading (Read v)) =
       omega (arith, feed .0, digits-count item some, length-append (digitsOf v) last) in
       record {
         count = count;
         line = ap (λ (n : ℕ). take n text) count ∙ line;
-        ranged = ranged-under form (numbersOf (Read v)) refl (le-leb v 255 small);
+        ranged = ranged-under heading (numbersOf (Read v)) refl (le-leb v 255 small);
       }
 
   pub write-begins :
@@ -223,38 +223,38 @@ module _ (form : ℕ) (text : List ℕ) where
       NumberAt text (space + 1) m end →
       space + 1 < end →
       m ≤ 1440 →
-      EndAt form text end bytes →
+      EndAt heading text end bytes →
       0 < bytes →
-      Begins form text (Write v m) bytes
+      Begins heading text (Write v m) bytes
   unfolding stepText
   write-begins v space m end bytes kind item some small between minutes more few ends all =
       let feed = ends all in
-      let last : List ℕ = digitsOf m ++ noValues form in
+      let last : List ℕ = digitsOf m ++ noValues heading in
       let close : Stands text (space + 1) last =
-      stands-then text (space + 1) end (digitsOf m) (noValues form) (stands-number minutes more) (digits-count minutes more) (feed .1) in
-      let line : Stands text 0 (stepText form (Write v m)) =
+      stands-then text (space + 1) end (digitsOf m) (noValues heading) (stands-number minutes more) (digits-count minutes more) (feed .1) in
+      let line : Stands text 0 (stepText heading (Write v m)) =
       stands-then text 0 2 (textOf "W ") (digitsOf v ++ (textOf " " ++ last)) kind refl
       (stands-then text 2 space (digitsOf v) (textOf " " ++ last) (stands-number item some) (digits-count item some)
       (stands-then text space (space + 1) (textOf " ") last between refl close)) in
-      let count : bytes ≡ length (stepText form (Write v m)) =
-      omega (arith, feed .0, digits-count item some, digits-count minutes more, length-append (digitsOf v) (textOf " " ++ last), length-append (digitsOf m) (noValues form)) in
+      let count : bytes ≡ length (stepText heading (Write v m)) =
+      omega (arith, feed .0, digits-count item some, digits-count minutes more, length-append (digitsOf v) (textOf " " ++ last), length-append (digitsOf m) (noValues heading)) in
       record {
         count = count;
         line = ap (λ (n : ℕ). take n text) count ∙ line;
-        ranged = ranged-under form (numbersOf (Write v m)) refl (rw (le-leb v 255 small) (le-leb m 1440 few));
+        ranged = ranged-under heading (numbersOf (Write v m)) refl (rw (le-leb v 255 small) (le-leb m 1440 few));
       }
 
-  pub flush-begins : (bytes : ℕ) → sameText (take 5 text) (textOf "L - -") ≡ true → EndAt form text 5 bytes → 0 < bytes → Begins form text Flush bytes
+  pub flush-begins : (bytes : ℕ) → sameText (take 5 text) (textOf "L - -") ≡ true → EndAt heading text 5 bytes → 0 < bytes → Begins heading text Flush bytes
   unfolding stepText
   flush-begins bytes h ends all =
       let feed = ends all in
-      let line : Stands text 0 (stepText form Flush) =
-      stands-then text 0 5 (textOf "L - -") (noValues form) (same-true (take 5 text) (textOf "L - -") h) refl (feed .1) in
-      let count : bytes ≡ length (stepText form Flush) = omega (arith, feed .0) in
+      let line : Stands text 0 (stepText heading Flush) =
+      stands-then text 0 5 (textOf "L - -") (noValues heading) (same-true (take 5 text) (textOf "L - -") h) refl (feed .1) in
+      let count : bytes ≡ length (stepText heading Flush) = omega (arith, feed .0) in
       record {
         count = count;
         line = ap (λ (n : ℕ). take n text) count ∙ line;
-        ranged = ranged-under form (numbersOf Flush) refl refl;
+        ranged = ranged-under heading (numbersOf Flush) refl refl;
       }
 
 -- the two bytes that a line of a read or a write begins with

@@ -77,12 +77,12 @@ unfolding noneEmpty
 fields-begin l fields e = record { slots = e; few = omega arith; some = refl; going = λ t. omega arith; same = refl }
 
 -- the log's headings have at most six names
-names-few : (form : ℕ) → namesIn 2 form ≤ 6
-names-few form = go (eqb form 1) refl
+names-few : (heading : ℕ) → namesIn 2 heading ≤ 6
+names-few heading = go (eqb heading 1) refl
   where
-    go : (t : Bool) → eqb form 1 ≡ t → namesIn 2 form ≤ 6
-    go true e = omega (arith, names-values 2 form refl (eqb-true form 1 e))
-    go false e = omega (arith, names-2 2 form refl (eqb-false form 1 e))
+    go : (t : Bool) → eqb heading 1 ≡ t → namesIn 2 heading ≤ 6
+    go true e = omega (arith, names-values 2 heading refl (eqb-true heading 1 e))
+    go false e = omega (arith, names-2 2 heading refl (eqb-false heading 1 e))
 
 -- the loop's measure: the bytes that are left for fields
 abbrev pub fieldsLeft : ℕ → ℕ → Bool → ℕ
@@ -151,12 +151,12 @@ module _
         }
 
     -- no line has an empty field, and none of this table more than six
-    pub field-malformed : (form n : ℕ) → (isEmpty field ≡ true) ⊎ (6 ≤ count) → Refused (Malformed n) ≡ lineIn 2 form (fieldsOf l) n
-    field-malformed form n = ⊎-elim empty many
+    pub field-malformed : (heading n : ℕ) → (isEmpty field ≡ true) ⊎ (6 ≤ count) → Refused (Malformed n) ≡ lineIn 2 heading (fieldsOf l) n
+    field-malformed heading n = ⊎-elim empty many
       where
         -- the line is judged by its fields as they are held
-        judged : lineIn 2 form (take count fields ++ rest) n ≡ Refused (Malformed n) → Refused (Malformed n) ≡ lineIn 2 form (fieldsOf l) n
-        judged e = sym (sym (held-line 2 form (fieldsOf l) n) ∙ (rw (← fields-here) e))
+        judged : lineIn 2 heading (take count fields ++ rest) n ≡ Refused (Malformed n) → Refused (Malformed n) ≡ lineIn 2 heading (fieldsOf l) n
+        judged e = sym (sym (held-line 2 heading (fieldsOf l) n) ∙ (rw (← fields-here) e))
 
         slots : length (take count fields) ≡ count
         slots = length-take-le count fields (omega (arith, f .slots, f .few))
@@ -167,16 +167,16 @@ module _
         here : fieldAt (take count fields ++ rest) count ≡ field
         here = getD-at (take count fields) field _ Empty count slots
 
-        empty : isEmpty field ≡ true → Refused (Malformed n) ≡ lineIn 2 form (fieldsOf l) n
-        empty o = judged (empty-malformed 2 form (take count fields ++ rest) n count (omega (arith, size)) (rw here o))
+        empty : isEmpty field ≡ true → Refused (Malformed n) ≡ lineIn 2 heading (fieldsOf l) n
+        empty o = judged (empty-malformed 2 heading (take count fields ++ rest) n count (omega (arith, size)) (rw here o))
 
-        many : 6 ≤ count → Refused (Malformed n) ≡ lineIn 2 form (fieldsOf l) n
-        many h = judged (many-malformed 2 form (take count fields ++ rest) n (omega (arith, size, names-few form)))
+        many : 6 ≤ count → Refused (Malformed n) ≡ lineIn 2 heading (fieldsOf l) n
+        many h = judged (many-malformed 2 heading (take count fields ++ rest) n (omega (arith, size, names-few heading)))
 
 -- all fields are found
 pub fields-judged :
-    (l : List ℕ) (fields : List Field) (count at : ℕ) (form n : ℕ) →
+    (l : List ℕ) (fields : List Field) (count at : ℕ) (heading n : ℕ) →
     Fielded l fields count at false →
-    lineIn 2 form (take count fields) n ≡ lineIn 2 form (fieldsOf l) n
-fields-judged l fields count at form n f =
-    ap (λ (fs : List Field). lineIn 2 form fs n) (sym (append-nil (take count fields)) ∙ f .same) ∙ held-line 2 form (fieldsOf l) n
+    lineIn 2 heading (take count fields) n ≡ lineIn 2 heading (fieldsOf l) n
+fields-judged l fields count at heading n f =
+    ap (λ (fs : List Field). lineIn 2 heading fs n) (sym (append-nil (take count fields)) ∙ f .same) ∙ held-line 2 heading (fieldsOf l) n

@@ -26,10 +26,10 @@ use Rattle.line_fields.specs.Fields.{split, fieldsOf}
 use Rattle.line_fields.specs.Inner.{before}
 use Rattle.line_fields.proofs.Pieces.{before-take, split-last, split-more, split-some}
 use Rattle.season_lines.specs.declared.Names.{Names}
-use Rattle.season_lines.specs.declared.Names.the-variants.{Form, Unknown}
+use Rattle.season_lines.specs.declared.Names.the-variants.{Known, Unknown}
 use Rattle.season_lines.specs.declared.Line.{Line}
 use Rattle.season_lines.specs.declared.Line.the-variants.{Sizes, Item as ItemLine, Step as StepLine, Act as ActLine, Refused}
-use Rattle.season_lines.specs.Lines.{formOf, rangeUnder, lineIn}
+use Rattle.season_lines.specs.Lines.{headingOf, rangeUnder, lineIn}
 use Rattle.season_log.specs.Log.{Logged, steps, fault, ahead, noValues, stepText, numbersOnto, listOf, follows, readLines, headed, readTable, readLog}
 use Rattle.season_log.specs.Inner.{onward}
 use Rattle.season_log.proofs.Lines.{split-first, ranged, lineOf, step-line, line-lacks, no-step as refused-no-step, step-written, step-reads}
@@ -47,19 +47,19 @@ use Rattle.log_reader.proofs.Judging.{tail, tail-is, piece-is, piece-le
 
 -- the first line of a text, and the lines behind it
 line-left :
-    (form n : ℕ) (s : List ℕ) →
+    (heading n : ℕ) (s : List ℕ) →
     0 < length s →
-    readLines form n (split 10 s)
-    ≡ follows (firstLine form n s) (readLines form (suc n) (split 10 (drop (length (before 10 s) + 1) s)))
+    readLines heading n (split 10 s)
+    ≡ follows (firstLine heading n s) (readLines heading (suc n) (split 10 (drop (length (before 10 s) + 1) s)))
 unfolding readLines firstLine
-line-left form n s p = go (ltb (length (before 10 s)) (length s)) refl
+line-left heading n s p = go (ltb (length (before 10 s)) (length s)) refl
   where
     go :
         (t : Bool) →
         ltb (length (before 10 s)) (length s) ≡ t →
-        readLines form n (split 10 s)
-        ≡ follows (cond t (lineIn 2 form (fieldsOf (before 10 s)) n) (Refused (Malformed n)))
-        (readLines form (suc n) (split 10 (drop (length (before 10 s) + 1) s)))
+        readLines heading n (split 10 s)
+        ≡ follows (cond t (lineIn 2 heading (fieldsOf (before 10 s)) n) (Refused (Malformed n)))
+        (readLines heading (suc n) (split 10 (drop (length (before 10 s) + 1) s)))
     go true h =
         rw (split-more 10 s (ltb-true (length (before 10 s)) (length s) h), split-some 10 (drop (length (before 10 s) + 1) s) .1)
     go false h =
@@ -67,9 +67,9 @@ line-left form n s p = go (ltb (length (before 10 s)) (length s)) refl
         rw (split-last 10 s all, ne-eqb (length (before 10 s)) 0 (λ z. omega arith))
 
 -- nothing is left
-none-left : (form : ℕ) (text : List ℕ) (at n : ℕ) → length text ≤ at → readLines form n (split 10 (drop at text)) ≡ steps form []
+none-left : (heading : ℕ) (text : List ℕ) (at n : ℕ) → length text ≤ at → readLines heading n (split 10 (drop at text)) ≡ steps heading []
 unfolding readLines split
-none-left form text at n h = rw (drop-of-length-le text {i = at} h)
+none-left heading text at n h = rw (drop-of-length-le text {i = at} h)
 
 -- a line that is no step
 abbrev pub NoStep : Line → Type 0
@@ -90,92 +90,92 @@ no-two n e (inr (inr (inl h))) = omega arith
 no-two n e (inr (inr (inr h))) = omega arith
 
 -- a step's line has five bytes or more, and a line feed
-end-some : (form : ℕ) → 1 ≤ length (noValues form)
-end-some form = go (eqb form 1)
+end-some : (heading : ℕ) → 1 ≤ length (noValues heading)
+end-some heading = go (eqb heading 1)
   where
     go : (t : Bool) → 1 ≤ length (cond t (textOf " - - -\n") (textOf "\n"))
     go true = omega arith
     go false = omega arith
 
-pub step-long : (form : ℕ) (s : Step) → 6 ≤ length (stepText form s)
+pub step-long : (heading : ℕ) (s : Step) → 6 ≤ length (stepText heading s)
 unfolding stepText
-step-long form (Read i) = omega (arith, end-some form, length-append (digitsOf i) (textOf " -" ++ noValues form), digits-some i)
-step-long form (Write i m) =
+step-long heading (Read i) = omega (arith, end-some heading, length-append (digitsOf i) (textOf " -" ++ noValues heading), digits-some i)
+step-long heading (Write i m) =
     omega (
       arith,
-      end-some form,
-      length-append (digitsOf i) (textOf " " ++ (digitsOf m ++ noValues form)),
-      length-append (digitsOf m) (noValues form),
+      end-some heading,
+      length-append (digitsOf i) (textOf " " ++ (digitsOf m ++ noValues heading)),
+      length-append (digitsOf m) (noValues heading),
       digits-some i,
       digits-some m,
     )
-step-long form Flush = omega (arith, end-some form)
-step-long form (Arrive i b l w) =
+step-long heading Flush = omega (arith, end-some heading)
+step-long heading (Arrive i b l w) =
     omega (arith, length-append (digitsOf i) (textOf " - " ++ (digitsOf b ++ (textOf " " ++ (digitsOf l ++ (textOf " " ++ (digitsOf w ++ textOf "\n")))))), digits-some i)
-step-long form (Retire i) = omega (arith, end-some form, length-append (digitsOf i) (textOf " -" ++ noValues form), digits-some i)
+step-long heading (Retire i) = omega (arith, end-some heading, length-append (digitsOf i) (textOf " -" ++ noValues heading), digits-some i)
 
-line-long : (form : ℕ) (l : List ℕ) (n : ℕ) (s : Step) → lineIn 2 form (fieldsOf l) n ≡ StepLine s → 5 ≤ length l
-line-long form l n s e = omega (arith, step-long form s, ap length (step-written form l n s e .0), length-append l (10 ∷ []))
+line-long : (heading : ℕ) (l : List ℕ) (n : ℕ) (s : Step) → lineIn 2 heading (fieldsOf l) n ≡ StepLine s → 5 ≤ length l
+line-long heading l n s e = omega (arith, step-long heading s, ap length (step-written heading l n s e .0), length-append l (10 ∷ []))
 
 -- ## The first line
 
 -- its line feed is found behind m bytes, or its end
-module _ (form n : ℕ) (s : List ℕ) (m : ℕ) (e : m ≡ length (before 10 s)) where
+module _ (heading n : ℕ) (s : List ℕ) (m : ℕ) (e : m ≡ length (before 10 s)) where
   -- it has none
-  pub first-unfed : length s ≤ m → FirstIs (firstLine form n s) s (NextRefused (Malformed n))
+  pub first-unfed : length s ≤ m → FirstIs (firstLine heading n s) s (NextRefused (Malformed n))
   unfolding firstLine
   first-unfed h rest = rw (le-ltb (length (before 10 s)) (length s) (omega arith))
 
   -- it is judged
-  module _ (l : Line) (fed : m < length s) (is : l ≡ lineIn 2 form (fieldsOf (take m s)) n) where
-    first-fed : firstLine form n s ≡ l
+  module _ (l : Line) (fed : m < length s) (is : l ≡ lineIn 2 heading (fieldsOf (take m s)) n) where
+    first-fed : firstLine heading n s ≡ l
     unfolding firstLine
     first-fed =
         rw (lt-ltb (length (before 10 s)) (length s) (omega arith))
-        (sym (is ∙ ap (λ (t : List ℕ). lineIn 2 form (fieldsOf t) n) (piece-is 10 s 0 m e)))
+        (sym (is ∙ ap (λ (t : List ℕ). lineIn 2 heading (fieldsOf t) n) (piece-is 10 s 0 m e)))
 
-    pub first-refused : (r : Refusal) → NoStep l → r ≡ lineRefusal l → FirstIs (firstLine form n s) s (NextRefused r)
+    pub first-refused : (r : Refusal) → NoStep l → r ≡ lineRefusal l → FirstIs (firstLine heading n s) s (NextRefused r)
     first-refused r h q rest = ap (λ (v : Line). follows v rest) first-fed ∙ no-step l rest h ∙ ap fault (sym q)
 
-    pub first-step : (t : Step) → l ≡ StepLine t → FirstIs (firstLine form n s) s (NextStep t (m + 1))
+    pub first-step : (t : Step) → l ≡ StepLine t → FirstIs (firstLine heading n s) s (NextStep t (m + 1))
     first-step t f = (first-fed ∙ f, omega arith)
 
 -- it is as the writer writes it
-pub first-written : (form n : ℕ) (s : List ℕ) (t : Step) (m : ℕ) → Begins form s t m → FirstIs (firstLine form n s) s (NextStep t m)
-first-written form n s t m g =
+pub first-written : (heading n : ℕ) (s : List ℕ) (t : Step) (m : ℕ) → Begins heading s t m → FirstIs (firstLine heading n s) s (NextStep t m)
+first-written heading n s t m g =
     let rest : List ℕ = drop m s in
-    let r : ranged form t ≡ true = eq-eqb (rangeUnder form (numbersOf t)) 0 (g .ranged) in
-    let size : length (stepText form t) ≡ length (lineOf form t) + 1 = ap length (step-line form t r) ∙ length-append (lineOf form t) (10 ∷ []) in
-    let text : s ≡ lineOf form t ++ (10 ∷ rest) =
+    let r : ranged heading t ≡ true = eq-eqb (rangeUnder heading (numbersOf t)) 0 (g .ranged) in
+    let size : length (stepText heading t) ≡ length (lineOf heading t) + 1 = ap length (step-line heading t r) ∙ length-append (lineOf heading t) (10 ∷ []) in
+    let text : s ≡ lineOf heading t ++ (10 ∷ rest) =
     sym (take-append-drop m s)
-    ∙ ap (λ (l : List ℕ). l ++ rest) (g .line ∙ step-line form t r)
-    ∙ append-assoc (lineOf form t) (10 ∷ []) rest in
-    let pieces : before 10 s ∷ split-some 10 s .0 ≡ lineOf form t ∷ split 10 rest =
-    sym (split-some 10 s .1) ∙ ap (split 10) text ∙ split-first 10 (lineOf form t) rest (line-lacks form t) in
-    let line : before 10 s ≡ lineOf form t = cc in
+    ∙ ap (λ (l : List ℕ). l ++ rest) (g .line ∙ step-line heading t r)
+    ∙ append-assoc (lineOf heading t) (10 ∷ []) rest in
+    let pieces : before 10 s ∷ split-some 10 s .0 ≡ lineOf heading t ∷ split 10 rest =
+    sym (split-some 10 s .1) ∙ ap (split 10) text ∙ split-first 10 (lineOf heading t) rest (line-lacks heading t) in
+    let line : before 10 s ≡ lineOf heading t = cc in
     let fed : length (before 10 s) < length s =
-    omega (arith, ap length line, ap length text, length-append (lineOf form t) (10 ∷ rest)) in
-    let reads : lineIn 2 form (fieldsOf (take (length (before 10 s)) s)) n ≡ StepLine t =
-    ap (λ (l : List ℕ). lineIn 2 form (fieldsOf l) n) (before-take 10 s ∙ line)
-    ∙ step-reads form (lineOf form t) n t r (step-line form t r) in (
-      first-fed form n s (length (before 10 s)) refl (StepLine t) fed (sym reads),
+    omega (arith, ap length line, ap length text, length-append (lineOf heading t) (10 ∷ rest)) in
+    let reads : lineIn 2 heading (fieldsOf (take (length (before 10 s)) s)) n ≡ StepLine t =
+    ap (λ (l : List ℕ). lineIn 2 heading (fieldsOf l) n) (before-take 10 s ∙ line)
+    ∙ step-reads heading (lineOf heading t) n t r (step-line heading t r) in (
+      first-fed heading n s (length (before 10 s)) refl (StepLine t) fed (sym reads),
       omega (arith, g .count, size, ap length line),
     )
 
 -- a step has five bytes or more, and its line feed
 first-long :
-    (form n : ℕ) (s : List ℕ) (t : Step) →
-    firstLine form n s ≡ StepLine t →
+    (heading n : ℕ) (s : List ℕ) (t : Step) →
+    firstLine heading n s ≡ StepLine t →
     (5 ≤ length (before 10 s)) × (length (before 10 s) < length s)
 unfolding firstLine
-first-long form n s t e = go (ltb (length (before 10 s)) (length s)) refl e
+first-long heading n s t e = go (ltb (length (before 10 s)) (length s)) refl e
   where
     go :
         (b : Bool) →
         ltb (length (before 10 s)) (length s) ≡ b →
-        cond b (lineIn 2 form (fieldsOf (before 10 s)) n) (Refused (Malformed n)) ≡ StepLine t →
+        cond b (lineIn 2 heading (fieldsOf (before 10 s)) n) (Refused (Malformed n)) ≡ StepLine t →
         (5 ≤ length (before 10 s)) × (length (before 10 s) < length s)
-    go true h e = (line-long form (before 10 s) n t e, ltb-true (length (before 10 s)) (length s) h)
+    go true h e = (line-long heading (before 10 s) n t e, ltb-true (length (before 10 s)) (length s) h)
     go false h e = absurd (refused-no-step (Malformed n) t e)
 
 -- ## Steps as a list
@@ -237,12 +237,12 @@ list-next old list after ss s n en room long e put =
 
 -- ## The steps read so far
 
-pub reading-begins : (form : ℕ) (text old : List ℕ) → ReadSoFar form text old 0 0 old
+pub reading-begins : (heading : ℕ) (text old : List ℕ) → ReadSoFar heading text old 0 0 old
 unfolding listOf
-reading-begins form text old =
+reading-begins heading text old =
     record {
       read = [];
-      left = onward-none (readLines form 2 (split 10 text));
+      left = onward-none (readLines heading 2 (split 10 text));
       stored = refl;
       long = refl;
       counted = refl;
@@ -252,15 +252,15 @@ reading-begins form text old =
 
 -- where one is, there is room for the steps that are left
 pub so-far-roomy :
-    {form : ℕ} {text old : List ℕ} {at count : ℕ} {list : List ℕ} →
+    {heading : ℕ} {text old : List ℕ} {at count : ℕ} {list : List ℕ} →
     (length text ≤ 65536) × (262128 ≤ length old) →
-    ReadSoFar form text old at count list →
+    ReadSoFar heading text old at count list →
     Roomy text at count list
 so-far-roomy fit g = (fit .0, omega (arith, fit .1, g .long), g .spent, g .within)
 
 -- bytes are left, and their first line is read next
-module _ (form : ℕ) (text : List ℕ) (at count : ℕ) (next : Next)
-    (more : at < length text) (is : FirstIs (firstLine form (count + 2) (tail at text)) (tail at text) next) where
+module _ (heading : ℕ) (text : List ℕ) (at count : ℕ) (next : Next)
+    (more : at < length text) (is : FirstIs (firstLine heading (count + 2) (tail at text)) (tail at text) next) where
   abbrev line : ℕ
   line = count + 2
 
@@ -268,33 +268,33 @@ module _ (form : ℕ) (text : List ℕ) (at count : ℕ) (next : Next)
   left = drop at text
 
   abbrev rest : Logged
-  rest = readLines form (suc line) (split 10 (drop (length (before 10 left) + 1) left))
+  rest = readLines heading (suc line) (split 10 (drop (length (before 10 left) + 1) left))
 
-  leads : readLines form line (split 10 left) ≡ follows (firstLine form line left) rest
-  leads = line-left form line left (omega (arith, length-drop at text))
+  leads : readLines heading line (split 10 left) ≡ follows (firstLine heading line left) rest
+  leads = line-left heading line left (omega (arith, length-drop at text))
 
-  first : FirstIs (firstLine form line left) left next
+  first : FirstIs (firstLine heading line left) left next
   first = rw (tail-is at text) at is
 
   -- it is no step
   pub read-stops :
       (r : Refusal) {old list : List ℕ} →
       next ≡ NextRefused r →
-      ReadSoFar form text old at count list →
-      ReadInto (readLines form 2 (split 10 text)) old (Not r) list
+      ReadSoFar heading text old at count list →
+      ReadInto (readLines heading 2 (split 10 text)) old (Not r) list
   read-stops r e g =
-      let stops : (x : Logged) → follows (firstLine form line left) x ≡ fault r = rw e at first in
-      let all : fault r ≡ readLines form 2 (split 10 text) = ap (onward (g .read)) (sym (leads ∙ stops rest)) ∙ g .left in
+      let stops : (x : Logged) → follows (firstLine heading line left) x ≡ fault r = rw e at first in
+      let all : fault r ≡ readLines heading 2 (split 10 text) = ap (onward (g .read)) (sym (leads ∙ stops rest)) ∙ g .left in
       rw (← all) refl
 
   -- it is a step
   module _ (s : Step) (bytes : ℕ) (e : next ≡ NextStep s bytes) where
-    step : (firstLine form line left ≡ StepLine s) × (bytes ≡ length (before 10 left) + 1)
+    step : (firstLine heading line left ≡ StepLine s) × (bytes ≡ length (before 10 left) + 1)
     step = rw e at first
 
     pub read-long : (6 ≤ bytes) × (at + bytes ≤ length text)
     read-long =
-        let long = first-long form line left s (step .0) in
+        let long = first-long heading line left s (step .0) in
         (omega (arith, long .0, step .1), omega (arith, long .1, step .1, length-drop at text))
 
     -- there is room for it
@@ -306,9 +306,9 @@ module _ (form : ℕ) (text : List ℕ) (at count : ℕ) (next : Next)
         (list after : List ℕ) →
         Roomy text at count list →
         after ≡ sets list (24 * count) (numbersOnto (numbersOf s) []) →
-        ReadsOn form text at count list (at + bytes) (count + 1) after × Roomy text (at + bytes) (count + 1) after
+        ReadsOn heading text at count list (at + bytes) (count + 1) after × Roomy text (at + bytes) (count + 1) after
     read-goes list after fit put =
-        let next : readLines form line (split 10 left) ≡ ahead s rest = leads ∙ ap (λ (v : Line). follows v rest) (step .0) in
+        let next : readLines heading line (split 10 left) ≡ ahead s rest = leads ∙ ap (λ (v : Line). follows v rest) (step .0) in
         let behind : drop (length (before 10 left) + 1) left ≡ drop (at + bytes) text =
         ap (λ (k : ℕ). drop k left) (sym (step .1)) ∙ drop-drop bytes at text in
         let later : suc line ≡ count + 1 + 2 = omega arith in
@@ -330,44 +330,44 @@ module _ (form : ℕ) (text : List ℕ) (at count : ℕ) (next : Next)
         )
 
 -- A line that was found is a step's: how long it is, that there is room for it, and that it is stored.
-module _ (form : ℕ) (text : List ℕ) (at count : ℕ) (r : Found) (list : List ℕ)
-    (more : at < length text) (f : FoundStep form (tail at text) r) (fit : Roomy text at count list) where
-  found-is : FirstIs (firstLine form (count + 2) (tail at text)) (tail at text) (NextStep (f .step) (r .bytes))
-  found-is = first-written form (count + 2) (tail at text) (f .step) (r .bytes) (f .begins)
+module _ (heading : ℕ) (text : List ℕ) (at count : ℕ) (r : Found) (list : List ℕ)
+    (more : at < length text) (f : FoundStep heading (tail at text) r) (fit : Roomy text at count list) where
+  found-is : FirstIs (firstLine heading (count + 2) (tail at text)) (tail at text) (NextStep (f .step) (r .bytes))
+  found-is = first-written heading (count + 2) (tail at text) (f .step) (r .bytes) (f .begins)
 
   pub found-long : (6 ≤ r .bytes) × (at + r .bytes ≤ length text)
-  found-long = read-long form text at count (NextStep (f .step) (r .bytes)) more found-is (f .step) (r .bytes) refl
+  found-long = read-long heading text at count (NextStep (f .step) (r .bytes)) more found-is (f .step) (r .bytes) refl
 
   pub found-room : 24 * count + 24 ≤ length list
-  found-room = read-room form text at count (NextStep (f .step) (r .bytes)) more found-is (f .step) (r .bytes) refl list fit
+  found-room = read-room heading text at count (NextStep (f .step) (r .bytes)) more found-is (f .step) (r .bytes) refl list fit
 
   found-goes :
       (after : List ℕ) →
       after ≡ sets list (24 * count) (numbersOnto (numbersFrom (r .kind) (r .item) (r .minutes) 0 0 0) []) →
-      ReadsOn form text at count list (at + r .bytes) (count + 1) after × Roomy text (at + r .bytes) (count + 1) after
+      ReadsOn heading text at count list (at + r .bytes) (count + 1) after × Roomy text (at + r .bytes) (count + 1) after
   found-goes after put =
-      read-goes form text at count (NextStep (f .step) (r .bytes)) more found-is (f .step) (r .bytes) refl list after fit
+      read-goes heading text at count (NextStep (f .step) (r .bytes)) more found-is (f .step) (r .bytes) refl list after fit
       (put ∙ ap (λ (n : Numbers). sets list (24 * count) (numbersOnto n [])) (f .numbers))
 
 -- The invariant of a loop that reads on, from a place, a count and a list: it has come further, with room for the steps that are left.
-pub record Going (form : ℕ) (text list₀ : List ℕ) (at₀ count₀ : ℕ) (list : List ℕ) (at count : ℕ) : Type 0 where
+pub record Going (heading : ℕ) (text list₀ : List ℕ) (at₀ count₀ : ℕ) (list : List ℕ) (at count : ℕ) : Type 0 where
   pub fit : Roomy text at count list
   pub same : length list ≡ length list₀
   pub further : at₀ ≤ at
-  pub on : ReadsOn form text at₀ count₀ list₀ at count list
+  pub on : ReadsOn heading text at₀ count₀ list₀ at count list
 
-pub going-starts : (form : ℕ) (text list : List ℕ) (at count : ℕ) → Roomy text at count list → Going form text list at count list at count
-going-starts form text list at count fit = record { fit = fit; same = refl; further = omega arith; on = λ old g. g }
+pub going-starts : (heading : ℕ) (text list : List ℕ) (at count : ℕ) → Roomy text at count list → Going heading text list at count list at count
+going-starts heading text list at count fit = record { fit = fit; same = refl; further = omega arith; on = λ old g. g }
 
 pub going-on :
-    {form : ℕ} {text list₀ : List ℕ} {at₀ count₀ : ℕ} {list : List ℕ} {at count : ℕ} (r : Found) (after : List ℕ) →
-    Going form text list₀ at₀ count₀ list at count →
+    {heading : ℕ} {text list₀ : List ℕ} {at₀ count₀ : ℕ} {list : List ℕ} {at count : ℕ} (r : Found) (after : List ℕ) →
+    Going heading text list₀ at₀ count₀ list at count →
     at < length text →
-    FoundStep form (tail at text) r →
+    FoundStep heading (tail at text) r →
     after ≡ sets list (24 * count) (numbersOnto (numbersFrom (r .kind) (r .item) (r .minutes) 0 0 0) []) →
-    Going form text list₀ at₀ count₀ after (at + r .bytes) (count + 1)
-going-on {form} {text} {list₀} {at₀} {count₀} {list} {at} {count} r after g more f put =
-    let goes = found-goes form text at count r list more f (g .fit) after put in
+    Going heading text list₀ at₀ count₀ after (at + r .bytes) (count + 1)
+going-on {heading} {text} {list₀} {at₀} {count₀} {list} {at} {count} r after g more f put =
+    let goes = found-goes heading text at count r list more f (g .fit) after put in
     record {
       fit = goes .1;
       same = ap length put ∙ length-sets list (24 * count) (numbersOnto (numbersFrom (r .kind) (r .item) (r .minutes) 0 0 0) []) ∙ g .same;
@@ -377,14 +377,14 @@ going-on {form} {text} {list₀} {at₀} {count₀} {list} {at} {count} r after 
 
 -- all lines are read
 pub read-ends :
-    {form : ℕ} {text old : List ℕ} {at count : ℕ} {list : List ℕ} →
+    {heading : ℕ} {text old : List ℕ} {at count : ℕ} {list : List ℕ} →
     length text ≤ 65536 →
-    ReadSoFar form text old at count list →
+    ReadSoFar heading text old at count list →
     length text ≤ at →
-    ReadInto (readLines form 2 (split 10 text)) old (Steps form count) list
-read-ends {form} {text} {old} {at} {count} {list} short g h =
-    let all : steps form (g .read) ≡ readLines form 2 (split 10 text) =
-    ap (steps form) (sym (append-nil (g .read))) ∙ ap (onward (g .read)) (sym (none-left form text at (count + 2) h)) ∙ g .left in
+    ReadInto (readLines heading 2 (split 10 text)) old (Steps heading count) list
+read-ends {heading} {text} {old} {at} {count} {list} short g h =
+    let all : steps heading (g .read) ≡ readLines heading 2 (split 10 text) =
+    ap (steps heading) (sym (append-nil (g .read))) ∙ ap (onward (g .read)) (sym (none-left heading text at (count + 2) h)) ∙ g .left in
     rw (← all) (refl, record { count = g .counted; few = omega (arith, g .spent, g .within); list = g .stored })
 
 -- ## The table
@@ -405,7 +405,7 @@ module _ (text old : List ℕ) (m : ℕ) (e : m ≡ length (before 10 text)) whe
       (last-piece 10 text 0 m e (omega arith), ne-eqb (length (take m text)) 0 (λ z. p (omega (arith, piece-length 10 text 0 m e))))
       refl
 
-  module _ (names : Names) (fed : m < length text) (en : names ≡ formOf 2 (take m text)) where
+  module _ (names : Names) (fed : m < length text) (en : names ≡ headingOf 2 (take m text)) where
     table-headed : readTable (split 10 text) ≡ headed names (split 10 (tail (m + 1) text))
     unfolding readTable
     table-headed =
@@ -418,11 +418,11 @@ module _ (text old : List ℕ) (m : ℕ) (e : m ≡ length (before 10 text)) whe
 
     -- it is the line of names
     pub table-read :
-        (form : ℕ) (got : ReadAnswer) (after : List ℕ) →
-        names ≡ Form form →
-        ReadInto (readLines form 2 (split 10 (tail (m + 1) text))) old got after →
+        (heading : ℕ) (got : ReadAnswer) (after : List ℕ) →
+        names ≡ Known heading →
+        ReadInto (readLines heading 2 (split 10 (tail (m + 1) text))) old got after →
         ReadInto (readTable (split 10 text)) old got after
-    table-read form got after f h = rw (table-headed, f) h
+    table-read heading got after f h = rw (table-headed, f) h
 
     -- it is another
     pub table-unknown : names ≡ Unknown → ReadInto (readTable (split 10 text)) old (Not (Heading 1)) old
@@ -432,15 +432,15 @@ module _ (text old : List ℕ) (m : ℕ) (e : m ≡ length (before 10 text)) whe
 
 -- what a reading that answers so has come to
 read-fault : (x : Logged) (old after : List ℕ) (r : Refusal) → ReadInto x old (Not r) after → x ≡ fault r
-read-fault (steps form ss) old after r h = absurd h
+read-fault (steps heading ss) old after r h = absurd h
 read-fault (fault q) old after r h = ap fault (sym h)
 
 read-steps :
-    (x : Logged) (old after : List ℕ) (form n : ℕ) →
-    ReadInto x old (Steps form n) after →
-    (ss : List Step) × (x ≡ steps form ss) × StepsIn ss old n after
-read-steps (steps f ss) old after form n h = (ss, ap (λ (g : ℕ). steps g ss) (sym (h .0)), h .1)
-read-steps (fault q) old after form n h = absurd h
+    (x : Logged) (old after : List ℕ) (heading n : ℕ) →
+    ReadInto x old (Steps heading n) after →
+    (ss : List Step) × (x ≡ steps heading ss) × StepsIn ss old n after
+read-steps (steps f ss) old after heading n h = (ss, ap (λ (g : ℕ). steps g ss) (sym (h .0)), h .1)
+read-steps (fault q) old after heading n h = absurd h
 
 -- the answer, and the list then
 abbrev pub Answered : List ℕ → List ℕ → ReadAnswer → List ℕ → Type 0
@@ -467,10 +467,10 @@ module _
         rw is (refl, refl)
 
     -- it has n steps
-    module _ (form n : ℕ) (e : got ≡ Steps form n) where
-      found : (ss : List Step) × (readLog text ≡ steps form ss) × StepsIn ss old n after
+    module _ (heading n : ℕ) (e : got ≡ Steps heading n) where
+      found : (ss : List Step) × (readLog text ≡ steps heading ss) × StepsIn ss old n after
       found =
-          let s = read-steps (readTable (split 10 text)) old after form n (rw e at read) in
+          let s = read-steps (readTable (split 10 text)) old after heading n (rw e at read) in
           (s .0, log-is ∙ s .1, s .2)
 
       size : length (listOf (found .0)) ≡ 24 * n
@@ -485,13 +485,13 @@ module _
           rw (found .1) (rw (lt-leb (length (listOf (found .0))) (length list) less), sym (page-none (listOf (found .0)) list less))
 
       pub answer-stored :
-          (new : List ℕ) → 24 * n ≤ length list → new ≡ textOver (take (24 * n) after) list → Answered text list (Steps form n) new
+          (new : List ℕ) → 24 * n ≤ length list → new ≡ textOver (take (24 * n) after) list → Answered text list (Steps heading n) new
       answer-stored new h put =
           let ss = found .0 in
           let fit : length (listOf ss) ≤ length list = omega (arith, size) in
           let bytes : take (24 * n) after ≡ listOf ss =
           ap (take (24 * n)) (found .2 .list) ∙ take-at (listOf ss) (drop (length (listOf ss)) old) (24 * n) size in
           rw (found .1) (
-            rw (le-leb (length (listOf ss)) (length list) fit) (ap (Steps form) (found .2 .count)),
+            rw (le-leb (length (listOf ss)) (length list) fit) (ap (Steps heading) (found .2 .count)),
             put ∙ ap (λ (t : List ℕ). textOver t list) bytes ∙ sym (page-all (listOf ss) list fit),
           )

@@ -9,25 +9,25 @@ use Rattle.log_reader.specs.declared.ReadAnswer.{ReadAnswer, the-variant
 
 -- the heading, and how many steps there are; or 15, which comes last
 abbrev pub readAnswer : Logged → List ℕ → ReadAnswer
-readAnswer (steps form ss) list = cond (fits (listOf ss) list) (Steps form (length ss)) (Refused (ShortBuffer 0))
+readAnswer (steps heading ss) list = cond (fits (listOf ss) list) (Steps heading (length ss)) (Refused (ShortBuffer 0))
 readAnswer (fault r) list = Refused r
 
 -- and the list then
 abbrev pub readList : Logged → List ℕ → List ℕ
-readList (steps form ss) list = pageOf (listOf ss) list
+readList (steps heading ss) list = pageOf (listOf ss) list
 readList (fault r) list = list
 
 -- the number and the line that an answer tells, the heading, and how many steps there are
 abbrev pub readTold : ReadAnswer → Told
-readTold (Steps form n) = nothingTold
+readTold (Steps heading n) = nothingTold
 readTold (Refused r) = told r
 
 abbrev pub readHeading : ReadAnswer → ℕ
-readHeading (Steps form n) = form
+readHeading (Steps heading n) = heading
 readHeading (Refused r) = 0
 
 abbrev pub readCount : ReadAnswer → ℕ
-readCount (Steps form n) = n
+readCount (Steps heading n) = n
 readCount (Refused r) = 0
 
 -- a log, read into a list

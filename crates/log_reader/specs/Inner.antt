@@ -37,23 +37,23 @@ Stands text at t = take (length t) (drop at text) ≡ t
 
 -- the end of a line that has none of the three last values, up to a place, unless that is 0
 abbrev pub EndAt : ℕ → List ℕ → ℕ → ℕ → Type 0
-EndAt form text at end = 0 < end → (end ≡ at + length (noValues form)) × Stands text at (noValues form)
+EndAt heading text at end = 0 < end → (end ≡ at + length (noValues heading)) × Stands text at (noValues heading)
 
 -- a text begins with the line that the writer writes of a step in range
-pub record Begins (form : ℕ) (text : List ℕ) (s : Step) (bytes : ℕ) : Type 0 where
-  pub count : bytes ≡ length (stepText form s)
-  pub line : take bytes text ≡ stepText form s
-  pub ranged : rangeUnder form (numbersOf s) ≡ 0
+pub record Begins (heading : ℕ) (text : List ℕ) (s : Step) (bytes : ℕ) : Type 0 where
+  pub count : bytes ≡ length (stepText heading s)
+  pub line : take bytes text ≡ stepText heading s
+  pub ranged : rangeUnder heading (numbersOf s) ≡ 0
 
 -- a step by its numbers that a text begins with
-pub record FoundStep (form : ℕ) (text : List ℕ) (r : Found) : Type 0 where
+pub record FoundStep (heading : ℕ) (text : List ℕ) (r : Found) : Type 0 where
   pub step : Step
   pub numbers : numbersFrom (r .kind) (r .item) (r .minutes) 0 0 0 ≡ numbersOf step
-  pub begins : Begins form text step (r .bytes)
+  pub begins : Begins heading text step (r .bytes)
 
 -- if so many bytes were found, and not none
 abbrev pub FoundIn : ℕ → List ℕ → Found → Type 0
-FoundIn form text r = 0 < r .bytes → FoundStep form text r
+FoundIn heading text r = 0 < r .bytes → FoundStep heading text r
 
 -- what a line that is no step is refused with
 abbrev pub lineRefusal : Line → Refusal
@@ -65,8 +65,8 @@ lineRefusal (ActLine place act) = Malformed 0
 
 -- what the first line of a text says on line n
 unfoldable pub firstLine : ℕ → ℕ → List ℕ → Line
-firstLine form n s =
-    cond (ltb (length (before 10 s)) (length s)) (lineIn 2 form (fieldsOf (before 10 s)) n) (Refused (Malformed n))
+firstLine heading n s =
+    cond (ltb (length (before 10 s)) (length s)) (lineIn 2 heading (fieldsOf (before 10 s)) n) (Refused (Malformed n))
 
 -- a step and the bytes of its line, or the refusal that follows
 abbrev pub FirstIs : Line → List ℕ → Next → Type 0
@@ -79,9 +79,9 @@ threeNumbers a b c = le 4 a ++ (le 4 b ++ le 4 c)
 
 -- Where a line begins: so many steps that were read stand at the start of the list, which was `old`, and what is left of the text follows
 -- them. A step took at least six bytes.
-pub record ReadSoFar (form : ℕ) (text old : List ℕ) (at count : ℕ) (list : List ℕ) : Type 0 where
+pub record ReadSoFar (heading : ℕ) (text old : List ℕ) (at count : ℕ) (list : List ℕ) : Type 0 where
   pub read : List Step
-  pub left : onward read (readLines form (count + 2) (split 10 (drop at text))) ≡ readLines form 2 (split 10 text)
+  pub left : onward read (readLines heading (count + 2) (split 10 (drop at text))) ≡ readLines heading 2 (split 10 text)
   pub stored : list ≡ textOver (listOf read) old
   pub long : length list ≡ length old
   pub counted : count ≡ length read
@@ -94,8 +94,8 @@ Roomy text at count list = (length text ≤ 65536) × (262128 ≤ length list) �
 
 -- whoever has read so far has then read further
 abbrev pub ReadsOn : ℕ → List ℕ → ℕ → ℕ → List ℕ → ℕ → ℕ → List ℕ → Type 0
-ReadsOn form text at count list later more after =
-    (old : List ℕ) → ReadSoFar form text old at count list → ReadSoFar form text old later more after
+ReadsOn heading text at count list later more after =
+    (old : List ℕ) → ReadSoFar heading text old at count list → ReadSoFar heading text old later more after
 
 -- the steps that were read stand at the start of a list that has room for them
 pub record StepsIn (ss : List Step) (before : List ℕ) (n : ℕ) (after : List ℕ) : Type 0 where
@@ -104,7 +104,7 @@ pub record StepsIn (ss : List Step) (before : List ℕ) (n : ℕ) (after : List 
   pub list : after ≡ textOver (listOf ss) before
 
 abbrev pub ReadInto : Logged → List ℕ → ReadAnswer → List ℕ → Type 0
-ReadInto (steps form ss) before (Steps heading n) after = (heading ≡ form) × StepsIn ss before n after
-ReadInto (steps form ss) before (Not r) after = ⊥
-ReadInto (fault r) before (Steps heading n) after = ⊥
+ReadInto (steps heading ss) before (Steps answered n) after = (answered ≡ heading) × StepsIn ss before n after
+ReadInto (steps heading ss) before (Not r) after = ⊥
+ReadInto (fault r) before (Steps answered n) after = ⊥
 ReadInto (fault r) before (Not q) after = q ≡ r

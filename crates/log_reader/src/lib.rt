@@ -359,10 +359,10 @@ fn read_table(text: &[u8], list: &mut [u8]) -> ReadAnswer
     if text.len() <= end {
         return ReadAnswer::Refused(Refusal::Malformed { line: 1 });
     }
-    match season_lines::form_of(2, &text[..end]) {
-        Names::Form(form) => {
+    match season_lines::heading_of(2, &text[..end]) {
+        Names::Known(heading) => {
             let from = end + 1;
-            read_lines(form, &text[from..], list)
+            read_lines(heading, &text[from..], list)
         }
         Names::Unknown => ReadAnswer::Refused(Refusal::Heading { line: 1 }),
     }

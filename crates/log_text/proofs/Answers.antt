@@ -12,7 +12,7 @@ use Rattle.decimal.specs.Decimal.{fits, pageOf}
 use Rattle.decimal.proofs.Laws.{page-all, page-none}
 use Rattle.types.specs.declared.{Step.Step, Refusal.{Refusal, the-variants.{ShortBuffer, InputTooLong}}}
 use Rattle.line_fields.specs.Fields.{split}
-use Rattle.season_lines.specs.Lines.{headingOf}
+use Rattle.season_lines.specs.Lines.{headingText}
 use Rattle.season_log.specs.declared.LogAnswer.{LogAnswer, the-variants.{Count, Refused as NotWritten}}
 use Rattle.season_log.specs.Log.{Logged, steps, fault, listOf, listed, stepText, stepLines, logText, readLog, readTable, writeAnswer, writtenPage}
 use Rattle.season_log.proofs.OneText.{one-text, length-list}
@@ -28,23 +28,23 @@ use Rattle.log_text.specs.Answer.{readOutcome, logOutcome}
 
 -- what an answer of the reader holds, told apart by its case
 abbrev isRead : ReadAnswer → ℕ
-isRead (Steps form n) = 1
+isRead (Steps heading n) = 1
 isRead (NotRead r) = 0
 
 abbrev reasonTold : Refusal → ReadAnswer → Refusal
-reasonTold d (Steps form n) = d
+reasonTold d (Steps heading n) = d
 reasonTold d (NotRead r) = r
 
 abbrev isLog : Logged → ℕ
-isLog (steps form ss) = 1
+isLog (steps heading ss) = 1
 isLog (fault r) = 0
 
 -- ## The size of a log
 
 -- a log that is read is not too long
-log-short : (s : List ℕ) (form : ℕ) (ss : List Step) → readLog s ≡ steps form ss → length s ≤ 65536
+log-short : (s : List ℕ) (heading : ℕ) (ss : List Step) → readLog s ≡ steps heading ss → length s ≤ 65536
 unfolding readLog
-log-short s form ss e = go (leb (length s) 65536) refl (ap isLog e)
+log-short s heading ss e = go (leb (length s) 65536) refl (ap isLog e)
   where
     go : (t : Bool) → leb (length s) 65536 ≡ t → isLog (cond t (readTable (split 10 s)) (fault (InputTooLong 0))) ≡ 1 → length s ≤ 65536
     go true h k = leb-true (length s) 65536 h
@@ -56,20 +56,20 @@ unfolding logOutcome
 log-fits s = go (readLog s) refl
   where
     go : (l : Logged) → readLog s ≡ l → OutcomeFits 65536 (readOutcome s l)
-    go (steps form ss) h = log-short s form ss h
+    go (steps heading ss) h = log-short s heading ss h
     go (fault r) h = tt
 
 -- and for its steps in the list
-lines-long : (form : ℕ) (ss : List Step) → 6 * length ss ≤ length (stepLines form ss)
+lines-long : (heading : ℕ) (ss : List Step) → 6 * length ss ≤ length (stepLines heading ss)
 unfolding stepLines
-lines-long form [] = omega arith
-lines-long form (s ∷ ss) = omega (arith, length-append (stepText form s) (stepLines form ss), step-long form s, lines-long form ss)
+lines-long heading [] = omega arith
+lines-long heading (s ∷ ss) = omega (arith, length-append (stepText heading s) (stepLines heading ss), step-long heading s, lines-long heading ss)
 
-list-few : (s : List ℕ) (form : ℕ) (ss : List Step) → readLog s ≡ steps form ss → length (listOf ss) ≤ 262128
+list-few : (s : List ℕ) (heading : ℕ) (ss : List Step) → readLog s ≡ steps heading ss → length (listOf ss) ≤ 262128
 unfolding logText
-list-few s form ss e =
-    let same : length (logText form ss) ≡ length s = ap length (one-text .readsWritten s form ss e .0) in
-    omega (arith, length-list ss, lines-long form ss, log-short s form ss e, same, length-append (headingOf 2 form) (10 ∷ stepLines form ss))
+list-few s heading ss e =
+    let same : length (logText heading ss) ≡ length s = ap length (one-text .readsWritten s heading ss e .0) in
+    omega (arith, length-list ss, lines-long heading ss, log-short s heading ss e, same, length-append (headingText 2 heading) (10 ∷ stepLines heading ss))
 
 -- ## Each way through `answer`
 
@@ -97,54 +97,54 @@ written (Count n) = Text n
 written (NotWritten r) = Refused r
 
 -- what was read is the list of the log's steps
-record Read (s after : List ℕ) (form n : ℕ) : Type 0 where
+record Read (s after : List ℕ) (heading n : ℕ) : Type 0 where
   ss : List Step
-  reads : readLog s ≡ steps form ss
-  log : listed form (take (24 * n) after) ≡ steps form ss
+  reads : readLog s ≡ steps heading ss
+  log : listed heading (take (24 * n) after) ≡ steps heading ss
 
 list-read :
-    (s list after : List ℕ) (form n : ℕ) →
-    Steps form n ≡ readAnswer (readLog s) list →
+    (s list after : List ℕ) (heading n : ℕ) →
+    Steps heading n ≡ readAnswer (readLog s) list →
     after ≡ readList (readLog s) list →
-    Read s after form n
-list-read s list after form n e f = go (readLog s) refl e f
+    Read s after heading n
+list-read s list after heading n e f = go (readLog s) refl e f
   where
-    go : (l : Logged) → readLog s ≡ l → Steps form n ≡ readAnswer l list → after ≡ readList l list → Read s after form n
+    go : (l : Logged) → readLog s ≡ l → Steps heading n ≡ readAnswer l list → after ≡ readList l list → Read s after heading n
     go (fault r) h e2 f2 = let no : _≡_ {A = ℕ} 1 0 = ap isRead e2 in absurd (omega arith)
     go (steps g ss) h e2 f2 = by (fits (listOf ss) list) refl e2
       where
-        by : (t : Bool) → fits (listOf ss) list ≡ t → Steps form n ≡ cond t (Steps g (length ss)) (NotRead (ShortBuffer 0)) → Read s after form n
+        by : (t : Bool) → fits (listOf ss) list ≡ t → Steps heading n ≡ cond t (Steps g (length ss)) (NotRead (ShortBuffer 0)) → Read s after heading n
         by false k e3 = let no : _≡_ {A = ℕ} 1 0 = ap isRead e3 in absurd (omega arith)
         by true k e3 =
             let long = leb-true (length (listOf ss)) (length list) k in
             let law = one-text .readsWritten s g ss h in
-            let formIs : form ≡ g = ap readHeading e3 in
+            let headingIs : heading ≡ g = ap readHeading e3 in
             let countIs : n ≡ length ss = ap readCount e3 in
             let stored : after ≡ listOf ss ++ drop (length (listOf ss)) list = f2 ∙ page-all (listOf ss) list long in
             let front : take (24 * n) after ≡ listOf ss =
             ap (take (24 * n)) stored ∙ take-at (listOf ss) (drop (length (listOf ss)) list) (24 * n) (omega (arith, length-list ss, countIs)) in
             record {
               ss = ss;
-              reads = h ∙ ap (λ (x : ℕ). steps x ss) (sym formIs);
-              log = ap (listed form) front ∙ ap (λ (x : ℕ). listed x (listOf ss)) formIs ∙ one-text .listReads g ss (law .1) (law .2) ∙ ap (λ (x : ℕ). steps x ss) (sym formIs);
+              reads = h ∙ ap (λ (x : ℕ). steps x ss) (sym headingIs);
+              log = ap (listed heading) front ∙ ap (λ (x : ℕ). listed x (listOf ss)) headingIs ∙ one-text .listReads g ss (law .1) (law .2) ∙ ap (λ (x : ℕ). steps x ss) (sym headingIs);
             }
 
 -- the writer's answer to it, on any page
 pub log-again :
-    (s list after page p : List ℕ) (form n : ℕ) (a : LogAnswer) (w : Written) →
-    Steps form n ≡ readAnswer (readLog s) list →
+    (s list after page p : List ℕ) (heading n : ℕ) (a : LogAnswer) (w : Written) →
+    Steps heading n ≡ readAnswer (readLog s) list →
     after ≡ readList (readLog s) list →
-    a ≡ writeAnswer (listed form (take (24 * n) after)) page →
-    p ≡ writtenPage (listed form (take (24 * n) after)) page →
+    a ≡ writeAnswer (listed heading (take (24 * n) after)) page →
+    p ≡ writtenPage (listed heading (take (24 * n) after)) page →
     written a ≡ w →
     Answered (logOutcome s) page w p
 unfolding logOutcome
-log-again s list after page p form n a w e f is at told =
-    let r = list-read s list after form n e f in
-    let text : logText form (r .ss) ≡ s = one-text .readsWritten s form (r .ss) (r .reads) .0 in
-    let small : leb (length s) 65536 ≡ true = le-leb (length s) 65536 (log-short s form (r .ss) (r .reads)) in
-    let answer : writeAnswer (steps form (r .ss)) page ≡ cond (fits s page) (Count (length s)) (NotWritten (ShortBuffer 0)) = rw (text, small) refl in
-    let then : writtenPage (steps form (r .ss)) page ≡ pageOf s page = rw (text, small) refl in
+log-again s list after page p heading n a w e f is at told =
+    let r = list-read s list after heading n e f in
+    let text : logText heading (r .ss) ≡ s = one-text .readsWritten s heading (r .ss) (r .reads) .0 in
+    let small : leb (length s) 65536 ≡ true = le-leb (length s) 65536 (log-short s heading (r .ss) (r .reads)) in
+    let answer : writeAnswer (steps heading (r .ss)) page ≡ cond (fits s page) (Count (length s)) (NotWritten (ShortBuffer 0)) = rw (text, small) refl in
+    let then : writtenPage (steps heading (r .ss)) page ≡ pageOf s page = rw (text, small) refl in
     let given : a ≡ cond (fits s page) (Count (length s)) (NotWritten (ShortBuffer 0)) = is ∙ ap (λ (l : Logged). writeAnswer l page) (r .log) ∙ answer in
     let left : p ≡ pageOf s page = at ∙ ap (λ (l : Logged). writtenPage l page) (r .log) ∙ then in
     subst (λ (l : Logged). Answered (readOutcome s l) page w p) (sym (r .reads)) (subst (λ (z : Written). Put s page z p) told (go (fits s page) refl given left))

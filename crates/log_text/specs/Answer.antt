@@ -6,7 +6,7 @@ use Rattle.season_log.specs.Log.{Logged, steps, fault, readLog}
 
 -- "a text the reader takes is what the writer makes of them"
 abbrev pub readOutcome : List ℕ → Logged → Outcome
-readOutcome s (steps form ss) = prints s
+readOutcome s (steps heading ss) = prints s
 readOutcome s (fault r) = refused r
 
 unfoldable pub logOutcome : List ℕ → Outcome

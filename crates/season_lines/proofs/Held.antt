@@ -23,7 +23,7 @@ use Rattle.line_fields.specs.Inner.{heldField}
 use Rattle.line_fields.proofs.Laws.{and-parts}
 use Rattle.line_fields.proofs.Held.{held-number, held-dash, held-letter, held-rule, held-rule-in, held-most, held-least, held-is, held-same, at-held, none-held}
 use Rattle.season_lines.specs.declared.Line.{Line}
-use Rattle.season_lines.specs.declared.Line.the-variants.{Sizes, Item as ItemLine, Step, Act as Placed, Refused}
+use Rattle.season_lines.specs.declared.Line.the-variants.{Sizes, Item as ItemLine, Step, Act as ActLine, Refused}
 use Rattle.season_lines.specs.Lines.{judged, sizesLine, ruleField, itemLine, kindUnder, valueField, stepShape, stepLine, actLine, valuesIn, lineIn}
 use Rattle.season_lines.proofs.Laws.{item-bounds, sizesShape, itemShape, actsShape, sizesRange, itemsRange, actsRange, or-3, or-18-or-3}
 use Rattle.season_lines.proofs.Pieces.{not-3, sizes-bounds, acts-bounds}
@@ -177,19 +177,19 @@ module _ (letter : ℕ) (item minutes blocks load write : Field) where
 
 -- a letter is held as it is, and behind another field there is no step
 held-step :
-    (form : ℕ) (kind item minutes blocks load write : Field) (n : ℕ) →
-    stepLine form (heldField kind) (heldField item) (heldField minutes) (heldField blocks) (heldField load) (heldField write) n
-    ≡ stepLine form kind item minutes blocks load write n
+    (heading : ℕ) (kind item minutes blocks load write : Field) (n : ℕ) →
+    stepLine heading (heldField kind) (heldField item) (heldField minutes) (heldField blocks) (heldField load) (heldField write) n
+    ≡ stepLine heading kind item minutes blocks load write n
 unfolding stepLine
-held-step form (Letter b) item minutes blocks load write n =
-    let letter = kindUnder form b in
+held-step heading (Letter b) item minutes blocks load write n =
+    let letter = kindUnder heading b in
     same-judged _ _ _ _ _ _ n (held-shape letter item minutes blocks load write)
     (held-range letter item minutes blocks load write) (λ e. ap Step (held-step-of letter item minutes blocks load write e))
-held-step form (Number v) item minutes blocks load write n = refl
-held-step form Dash item minutes blocks load write n = refl
-held-step form Word item minutes blocks load write n = refl
-held-step form Empty item minutes blocks load write n = refl
-held-step form (Rule r) item minutes blocks load write n = refl
+held-step heading (Number v) item minutes blocks load write n = refl
+held-step heading Dash item minutes blocks load write n = refl
+held-step heading Word item minutes blocks load write n = refl
+held-step heading Empty item minutes blocks load write n = refl
+held-step heading (Rule r) item minutes blocks load write n = refl
 
 held-act :
     (place kind item : Field) (n : ℕ) →
@@ -223,8 +223,8 @@ held-act place kind item n = same-judged _ _ _ _ _ _ n shape (ap or-3 range) (λ
 
     says :
         actsRange (valueIn place) (valueIn kind) (valueIn item) ≡ true →
-        Placed (valueIn (heldField place)) (actOf (valueIn (heldField kind)) (valueIn (heldField item)))
-        ≡ Placed (valueIn place) (actOf (valueIn kind) (valueIn item))
+        ActLine (valueIn (heldField place)) (actOf (valueIn (heldField kind)) (valueIn (heldField item)))
+        ≡ ActLine (valueIn place) (actOf (valueIn kind) (valueIn item))
     says e =
         let b = acts-bounds (valueIn place) (valueIn kind) (valueIn item) e in
         rw (
@@ -235,23 +235,23 @@ held-act place kind item n = same-judged _ _ _ _ _ _ n shape (ap or-3 range) (λ
 
 -- ## A line
 
-rule-held : (form : ℕ) (f : Field) → ruleField form (heldField f) ≡ heldField (ruleField form f)
-rule-held form f = go (eqb form 1)
+rule-held : (heading : ℕ) (f : Field) → ruleField heading (heldField f) ≡ heldField (ruleField heading f)
+rule-held heading f = go (eqb heading 1)
   where
     go : (t : Bool) → cond t (heldField f) (Rule WriteFirst) ≡ heldField (cond t f (Rule WriteFirst))
     go true = refl
     go false = refl
 
-value-held : (form : ℕ) (f : Field) → valueField form (heldField f) ≡ heldField (valueField form f)
-value-held form f = go (eqb form 1)
+value-held : (heading : ℕ) (f : Field) → valueField heading (heldField f) ≡ heldField (valueField heading f)
+value-held heading f = go (eqb heading 1)
   where
     go : (t : Bool) → cond t (heldField f) Dash ≡ heldField (cond t f Dash)
     go true = refl
     go false = refl
 
-values-held : (table form : ℕ) (fs : List Field) (n : ℕ) → valuesIn table form (map heldField fs) n ≡ valuesIn table form fs n
+values-held : (table heading : ℕ) (fs : List Field) (n : ℕ) → valuesIn table heading (map heldField fs) n ≡ valuesIn table heading fs n
 unfolding valuesIn
-values-held table form fs n =
+values-held table heading fs n =
     rw (
       at-held fs 0,
       at-held fs 1,
@@ -259,17 +259,17 @@ values-held table form fs n =
       at-held fs 3,
       at-held fs 4,
       at-held fs 5,
-      rule-held form (fieldAt fs 2),
-      value-held form (fieldAt fs 3),
-      value-held form (fieldAt fs 4),
-      value-held form (fieldAt fs 5),
-      held-sizes (fieldAt fs 0) (fieldAt fs 1) (ruleField form (fieldAt fs 2)) n,
+      rule-held heading (fieldAt fs 2),
+      value-held heading (fieldAt fs 3),
+      value-held heading (fieldAt fs 4),
+      value-held heading (fieldAt fs 5),
+      held-sizes (fieldAt fs 0) (fieldAt fs 1) (ruleField heading (fieldAt fs 2)) n,
       held-item (fieldAt fs 0) (fieldAt fs 1) (fieldAt fs 2) (fieldAt fs 3) n,
-      held-step form (fieldAt fs 0) (fieldAt fs 1) (fieldAt fs 2) (valueField form (fieldAt fs 3)) (valueField form (fieldAt fs 4)) (valueField form (fieldAt fs 5)) n,
+      held-step heading (fieldAt fs 0) (fieldAt fs 1) (fieldAt fs 2) (valueField heading (fieldAt fs 3)) (valueField heading (fieldAt fs 4)) (valueField heading (fieldAt fs 5)) n,
       held-act (fieldAt fs 0) (fieldAt fs 1) (fieldAt fs 2) n,
     )
 
 -- the line that fields make is the line that they make as they are held
-pub held-line : (table form : ℕ) (fs : List Field) (n : ℕ) → lineIn table form (map heldField fs) n ≡ lineIn table form fs n
+pub held-line : (table heading : ℕ) (fs : List Field) (n : ℕ) → lineIn table heading (map heldField fs) n ≡ lineIn table heading fs n
 unfolding lineIn
-held-line table form fs n = rw (length-map fs heldField, none-held fs, values-held table form fs n)
+held-line table heading fs n = rw (length-map fs heldField, none-held fs, values-held table heading fs n)

@@ -24,10 +24,10 @@ use Rattle.landlord.specs.Catalog.{listed, capacityInRange, itemInRange}
 use Rattle.line_fields.specs.declared.Field.{Field}
 use Rattle.line_fields.specs.declared.Field.the-variants.{Number, Dash, Rule}
 use Rattle.line_fields.specs.Fields.{split, fieldAt, isNumber, isLetter, isRule, valueIn, ruleIn, noneEmpty, isEither}
-use Rattle.season_lines.specs.declared.Names.the-variants.{Form, Unknown}
+use Rattle.season_lines.specs.declared.Names.the-variants.{Known, Unknown}
 use Rattle.season_lines.specs.declared.Line.{Line}
-use Rattle.season_lines.specs.declared.Line.the-variants.{Sizes, Item as ItemLine, Step, Act as Placed, Refused}
-use Rattle.season_lines.specs.Lines.{headings, namesIn, formAmong, formOf, judged, sizesLine, ruleField, itemLine, kindUnder, numbersUnder, valueField, stepShape, stepLine, isActKind, actLine, valuesIn, lineIn}
+use Rattle.season_lines.specs.declared.Line.the-variants.{Sizes, Item as ItemLine, Step, Act as ActLine, Refused}
+use Rattle.season_lines.specs.Lines.{headings, namesIn, headingAmong, headingOf, judged, sizesLine, ruleField, itemLine, kindUnder, numbersUnder, valueField, stepShape, stepLine, isActKind, actLine, valuesIn, lineIn}
 use Rattle.landlord.proofs.Ranges.{item-facts}
 
 -- ## Tests
@@ -83,14 +83,14 @@ pub act-second : (kind : ℕ) → (kind ≡ 68 → ⊥) → eqb kind 70 ≡ isAc
 act-second kind n = rw (ne-eqb kind 68 n)
 
 -- a kind under a heading
-pub kind-gone : (form kind : ℕ) → (form ≡ 1 → ⊥) → (kind ≡ 65) ⊎ (eqb kind 81 ≡ true) → 0 ≡ kindUnder form kind
-kind-gone form kind n e = rw (ne-eqb form 1 n) (⊎-elim (λ f. rw f) (λ f. let q = eqb-true kind 81 f in rw q) e)
+pub kind-gone : (heading kind : ℕ) → (heading ≡ 1 → ⊥) → (kind ≡ 65) ⊎ (eqb kind 81 ≡ true) → 0 ≡ kindUnder heading kind
+kind-gone heading kind n e = rw (ne-eqb heading 1 n) (⊎-elim (λ f. rw f) (λ f. let q = eqb-true kind 81 f in rw q) e)
 
-pub kind-old : (form kind : ℕ) → (form ≡ 1 → ⊥) → (kind ≡ 65 → ⊥) → eqb kind 81 ≡ false → kind ≡ kindUnder form kind
-kind-old form kind n a q = rw (ne-eqb form 1 n, ne-eqb kind 65 a, q)
+pub kind-old : (heading kind : ℕ) → (heading ≡ 1 → ⊥) → (kind ≡ 65 → ⊥) → eqb kind 81 ≡ false → kind ≡ kindUnder heading kind
+kind-old heading kind n a q = rw (ne-eqb heading 1 n, ne-eqb kind 65 a, q)
 
-pub kind-new : (form kind : ℕ) → form ≡ 1 → kind ≡ kindUnder form kind
-kind-new form kind e = rw e
+pub kind-new : (heading kind : ℕ) → heading ≡ 1 → kind ≡ kindUnder heading kind
+kind-new heading kind e = rw e
 
 -- ## Lines
 
@@ -185,31 +185,31 @@ valuesOf kind item minutes blocks load write =
     numbersFrom (valueIn kind) (valueIn item) (valueIn minutes) (valueIn blocks) (valueIn load) (valueIn write)
 
 module _
-    (form : ℕ)
+    (heading : ℕ)
     (kind item minutes blocks load write : Field)
     (n : ℕ)
     (x : Numbers)
-    (ex : x ≡ numbersUnder form (valuesOf kind item minutes blocks load write))
+    (ex : x ≡ numbersUnder heading (valuesOf kind item minutes blocks load write))
   where
     -- the line by those numbers
     abbrev lineBy : Numbers → Line
     lineBy y = judged (stepsShape kind (y .kind) item minutes blocks load write) (rangeRefusal y) (Step (stepOf y)) n
 
-    line-is : lineBy x ≡ stepLine form kind item minutes blocks load write n
+    line-is : lineBy x ≡ stepLine heading kind item minutes blocks load write n
     unfolding stepLine
     line-is = ap lineBy ex
 
     pub step-malformed :
         (isLetter kind ≡ false) ⊎ (stepShape (x .kind) item minutes blocks load write ≡ false) →
-        Refused (Malformed n) ≡ stepLine form kind item minutes blocks load write n
+        Refused (Malformed n) ≡ stepLine heading kind item minutes blocks load write n
     step-malformed e = rw (← line-is, one-of-2 (isLetter kind) (stepShape (x .kind) item minutes blocks load write) e)
 
     module _ (s : stepsShape kind (x .kind) item minutes blocks load write ≡ true) (number : ℕ) (en : number ≡ rangeRefusal x) where
       pub step-far :
-          number ≢ 0 → (r : Refusal) → told r ≡ telling number n 0 → Refused r ≡ stepLine form kind item minutes blocks load write n
+          number ≢ 0 → (r : Refusal) → told r ≡ telling number n 0 → Refused r ≡ stepLine heading kind item minutes blocks load write n
       step-far f r e = rw (← line-is, s, ← en, ne-eqb number 0 f) (ap Refused (refusal-is r (telling number n 0) e))
 
-      pub step-good : number ≡ 0 → Step (stepOf x) ≡ stepLine form kind item minutes blocks load write n
+      pub step-good : number ≡ 0 → Step (stepOf x) ≡ stepLine heading kind item minutes blocks load write n
       step-good f = rw (← line-is, s, ← en, f)
 
 module _ (place kind item : Field) (n letter : ℕ) (ek : letter ≡ valueIn kind) where
@@ -226,20 +226,20 @@ module _ (place kind item : Field) (n letter : ℕ) (ek : letter ≡ valueIn kin
     unfolding actLine refusalFrom
     act-far r = rw (← ek, ← ep, ← ei, s, one-of-3 (leb p 999999) (isActKind letter) (leb i 255) r)
 
-    pub act-good : actsRange p letter i ≡ true → Placed p (actOf letter i) ≡ actLine place kind item n
+    pub act-good : actsRange p letter i ≡ true → ActLine p (actOf letter i) ≡ actLine place kind item n
     unfolding actLine
     act-good r = rw (← ek, ← ep, ← ei, s, r)
 
 -- ## Headings
 
 -- the names of a table that has one heading
-only-names : (table form : ℕ) (names : List ℕ) → headings table ≡ names ∷ [] → namesIn table form ≡ length (split 32 names)
+only-names : (table heading : ℕ) (names : List ℕ) → headings table ≡ names ∷ [] → namesIn table heading ≡ length (split 32 names)
 unfolding namesIn
-only-names table form names e = rw (e, only form)
+only-names table heading names e = rw (e, only heading)
   where
-    only : (form : ℕ) → getD (names ∷ []) form names ≡ names
+    only : (heading : ℕ) → getD (names ∷ []) heading names ≡ names
     only zero = refl
-    only (suc form) = refl
+    only (suc heading) = refl
 
 -- of one that has two, under its second heading and under any other
 second-names : (table : ℕ) (first second : List ℕ) → headings table ≡ first ∷ second ∷ [] → namesIn table 1 ≡ length (split 32 second)
@@ -247,99 +247,99 @@ unfolding namesIn
 second-names table first second e = rw e
 
 first-names :
-    (table form : ℕ) (first second : List ℕ) → headings table ≡ first ∷ second ∷ [] → (form ≡ 1 → ⊥) → namesIn table form ≡ length (split 32 first)
+    (table heading : ℕ) (first second : List ℕ) → headings table ≡ first ∷ second ∷ [] → (heading ≡ 1 → ⊥) → namesIn table heading ≡ length (split 32 first)
 unfolding namesIn
-first-names table form first second e n = rw e (go form n)
+first-names table heading first second e n = rw e (go heading n)
   where
-    go : (form : ℕ) → (form ≡ 1 → ⊥) → length (split 32 (getD (first ∷ second ∷ []) form first)) ≡ length (split 32 first)
+    go : (heading : ℕ) → (heading ≡ 1 → ⊥) → length (split 32 (getD (first ∷ second ∷ []) heading first)) ≡ length (split 32 first)
     go zero n = refl
     go (suc zero) n = absurd (n refl)
-    go (suc (suc form)) n = refl
+    go (suc (suc heading)) n = refl
 
 -- how many they are in each table; the sizes have a third name under their second heading, and the steps six
-module _ (table form : ℕ) where
-  pub names-0 : table ≡ 0 → (form ≡ 1 → ⊥) → namesIn table form ≡ 2
+module _ (table heading : ℕ) where
+  pub names-0 : table ≡ 0 → (heading ≡ 1 → ⊥) → namesIn table heading ≡ 2
   unfolding headings split
-  names-0 e n = first-names table form (textOf "locker rival") (textOf "locker rival rule") (rw e) n
+  names-0 e n = first-names table heading (textOf "locker rival") (textOf "locker rival rule") (rw e) n
 
-  pub names-rule : table ≡ 0 → form ≡ 1 → namesIn table form ≡ 3
+  pub names-rule : table ≡ 0 → heading ≡ 1 → namesIn table heading ≡ 3
   unfolding headings split
   names-rule e f = rw f (second-names table (textOf "locker rival") (textOf "locker rival rule") (rw e))
 
-  pub names-1 : table ≡ 1 → namesIn table form ≡ 4
+  pub names-1 : table ≡ 1 → namesIn table heading ≡ 4
   unfolding headings split
-  names-1 e = only-names table form (textOf "sail blocks load write") (rw e)
+  names-1 e = only-names table heading (textOf "sail blocks load write") (rw e)
 
-  pub names-2 : table ≡ 2 → (form ≡ 1 → ⊥) → namesIn table form ≡ 3
+  pub names-2 : table ≡ 2 → (heading ≡ 1 → ⊥) → namesIn table heading ≡ 3
   unfolding headings split
-  names-2 e n = first-names table form (textOf "step sail minutes") (textOf "step sail minutes blocks load write") (rw e) n
+  names-2 e n = first-names table heading (textOf "step sail minutes") (textOf "step sail minutes blocks load write") (rw e) n
 
-  pub names-values : table ≡ 2 → form ≡ 1 → namesIn table form ≡ 6
+  pub names-values : table ≡ 2 → heading ≡ 1 → namesIn table heading ≡ 6
   unfolding headings split
   names-values e f = rw f (second-names table (textOf "step sail minutes") (textOf "step sail minutes blocks load write") (rw e))
 
-  pub names-3 : (table ≡ 0 → ⊥) → (table ≡ 1 → ⊥) → (table ≡ 2 → ⊥) → namesIn table form ≡ 3
+  pub names-3 : (table ≡ 0 → ⊥) → (table ≡ 1 → ⊥) → (table ≡ 2 → ⊥) → namesIn table heading ≡ 3
   unfolding headings split
   names-3 a b c =
-      only-names table form (textOf "at act sail") (rw (ne-eqb table 0 a, ne-eqb table 1 b, ne-eqb table 2 c))
+      only-names table heading (textOf "at act sail") (rw (ne-eqb table 0 a, ne-eqb table 1 b, ne-eqb table 2 c))
 
 -- the sizes have two or more
-names-some : (table form : ℕ) → table ≡ 0 → 2 ≤ namesIn table form
-names-some table form e = go (eqb form 1) refl
+names-some : (table heading : ℕ) → table ≡ 0 → 2 ≤ namesIn table heading
+names-some table heading e = go (eqb heading 1) refl
   where
-    go : (t : Bool) → eqb form 1 ≡ t → 2 ≤ namesIn table form
-    go true w = omega (arith, names-rule table form e (eqb-true form 1 w))
-    go false w = omega (arith, names-0 table form e (eqb-false form 1 w))
+    go : (t : Bool) → eqb heading 1 ≡ t → 2 ≤ namesIn table heading
+    go true w = omega (arith, names-rule table heading e (eqb-true heading 1 w))
+    go false w = omega (arith, names-0 table heading e (eqb-false heading 1 w))
 
 -- and the steps three or more
-pub names-three : (table form : ℕ) → table ≡ 2 → 3 ≤ namesIn table form
-names-three table form e = go (eqb form 1) refl
+pub names-three : (table heading : ℕ) → table ≡ 2 → 3 ≤ namesIn table heading
+names-three table heading e = go (eqb heading 1) refl
   where
-    go : (t : Bool) → eqb form 1 ≡ t → 3 ≤ namesIn table form
-    go true w = omega (arith, names-values table form e (eqb-true form 1 w))
-    go false w = omega (arith, names-2 table form e (eqb-false form 1 w))
+    go : (t : Bool) → eqb heading 1 ≡ t → 3 ≤ namesIn table heading
+    go true w = omega (arith, names-values table heading e (eqb-true heading 1 w))
+    go false w = omega (arith, names-2 table heading e (eqb-false heading 1 w))
 
 -- a line compared with two headings
 module _ (line first second : List ℕ) where
-  pub form-first : sameText line first ≡ true → Form 0 ≡ formAmong 0 (first ∷ second ∷ []) line
-  unfolding formAmong
-  form-first e = rw e
+  pub heading-first : sameText line first ≡ true → Known 0 ≡ headingAmong 0 (first ∷ second ∷ []) line
+  unfolding headingAmong
+  heading-first e = rw e
 
-  pub form-second : sameText line first ≡ false → sameText line second ≡ true → Form 1 ≡ formAmong 0 (first ∷ second ∷ []) line
-  unfolding formAmong
-  form-second e h = rw (e, h)
+  pub heading-second : sameText line first ≡ false → sameText line second ≡ true → Known 1 ≡ headingAmong 0 (first ∷ second ∷ []) line
+  unfolding headingAmong
+  heading-second e h = rw (e, h)
 
-  pub form-none : sameText line first ≡ false → sameText line second ≡ false → Unknown ≡ formAmong 0 (first ∷ second ∷ []) line
-  unfolding formAmong
-  form-none e h = rw (e, h)
+  pub heading-none : sameText line first ≡ false → sameText line second ≡ false → Unknown ≡ headingAmong 0 (first ∷ second ∷ []) line
+  unfolding headingAmong
+  heading-none e h = rw (e, h)
 
 -- with the two of the sizes, and of the steps
-pub form-0 :
-    (table : ℕ) (line : List ℕ) → table ≡ 0 → formAmong 0 (textOf "locker rival" ∷ textOf "locker rival rule" ∷ []) line ≡ formOf table line
-unfolding headings formOf
-form-0 table line e = rw e
+pub heading-0 :
+    (table : ℕ) (line : List ℕ) → table ≡ 0 → headingAmong 0 (textOf "locker rival" ∷ textOf "locker rival rule" ∷ []) line ≡ headingOf table line
+unfolding headings headingOf
+heading-0 table line e = rw e
 
-pub form-2 :
+pub heading-2 :
     (table : ℕ) (line : List ℕ) →
     table ≡ 2 →
-    formAmong 0 (textOf "step sail minutes" ∷ textOf "step sail minutes blocks load write" ∷ []) line ≡ formOf table line
-unfolding headings formOf
-form-2 table line e = rw e
+    headingAmong 0 (textOf "step sail minutes" ∷ textOf "step sail minutes blocks load write" ∷ []) line ≡ headingOf table line
+unfolding headings headingOf
+heading-2 table line e = rw e
 
 -- and with the one heading of each other table
 module _ (table : ℕ) (line : List ℕ) (right : Bool) where
-  pub form-1 : table ≡ 1 → right ≡ sameText line (textOf "sail blocks load write") → cond right (Form 0) Unknown ≡ formOf table line
-  unfolding headings formAmong formOf
-  form-1 e h = rw (e, h)
+  pub heading-1 : table ≡ 1 → right ≡ sameText line (textOf "sail blocks load write") → cond right (Known 0) Unknown ≡ headingOf table line
+  unfolding headings headingAmong headingOf
+  heading-1 e h = rw (e, h)
 
-  pub form-3 :
+  pub heading-3 :
       (table ≡ 0 → ⊥) →
       (table ≡ 1 → ⊥) →
       (table ≡ 2 → ⊥) →
       right ≡ sameText line (textOf "at act sail") →
-      cond right (Form 0) Unknown ≡ formOf table line
-  unfolding headings formAmong formOf
-  form-3 a b c h = rw (ne-eqb table 0 a, ne-eqb table 1 b, ne-eqb table 2 c, h)
+      cond right (Known 0) Unknown ≡ headingOf table line
+  unfolding headings headingAmong headingOf
+  heading-3 a b c h = rw (ne-eqb table 0 a, ne-eqb table 1 b, ne-eqb table 2 c, h)
 
 -- ## The line that the first `count` fields of an array make
 
@@ -353,64 +353,64 @@ slot-is (f ∷ fs) zero j h k = absurd (omega arith)
 slot-is (f ∷ fs) (suc count) zero h k = refl
 slot-is (f ∷ fs) (suc count) (suc j) h k = slot-is fs count j (omega arith) (omega arith)
 
-module _ (table form : ℕ) (fields : List Field) (count n : ℕ) (few : count ≤ length fields) where
+module _ (table heading : ℕ) (fields : List Field) (count n : ℕ) (few : count ≤ length fields) where
   -- more of them than names, or fewer
-  pub line-count : (count ≡ namesIn table form → ⊥) → Refused (Malformed n) ≡ lineIn table form (take count fields) n
+  pub line-count : (count ≡ namesIn table heading → ⊥) → Refused (Malformed n) ≡ lineIn table heading (take count fields) n
   unfolding lineIn
-  line-count h = rw (length-take-le count fields few, ne-eqb count (namesIn table form) h)
+  line-count h = rw (length-take-le count fields few, ne-eqb count (namesIn table heading) h)
 
   -- as many as names, and none of them empty: the line of each table
-  module _ (some : noneEmpty (take count fields) ≡ true) (full : count ≡ namesIn table form) where
-    as-due : (eqb (length (take count fields)) (namesIn table form) && noneEmpty (take count fields)) ≡ true
-    as-due = rw (length-take-le count fields few, eq-eqb count (namesIn table form) full, some)
+  module _ (some : noneEmpty (take count fields) ≡ true) (full : count ≡ namesIn table heading) where
+    as-due : (eqb (length (take count fields)) (namesIn table heading) && noneEmpty (take count fields)) ≡ true
+    as-due = rw (length-take-le count fields few, eq-eqb count (namesIn table heading) full, some)
 
-    at : (j : ℕ) → j < namesIn table form → fieldAt (take count fields) j ≡ slot fields j
+    at : (j : ℕ) → j < namesIn table heading → fieldAt (take count fields) j ≡ slot fields j
     at j h = slot-is fields count j (omega arith) few
 
     -- the rule's word stands third, if the heading has a third name
-    rule-at : table ≡ 0 → ruleField form (fieldAt (take count fields) 2) ≡ ruleField form (slot fields 2)
-    rule-at e = go (eqb form 1) refl
+    rule-at : table ≡ 0 → ruleField heading (fieldAt (take count fields) 2) ≡ ruleField heading (slot fields 2)
+    rule-at e = go (eqb heading 1) refl
       where
-        go : (t : Bool) → eqb form 1 ≡ t → cond t (fieldAt (take count fields) 2) (Rule WriteFirst) ≡ cond t (slot fields 2) (Rule WriteFirst)
-        go true w = at 2 (omega (arith, names-rule table form e (eqb-true form 1 w)))
+        go : (t : Bool) → eqb heading 1 ≡ t → cond t (fieldAt (take count fields) 2) (Rule WriteFirst) ≡ cond t (slot fields 2) (Rule WriteFirst)
+        go true w = at 2 (omega (arith, names-rule table heading e (eqb-true heading 1 w)))
         go false w = refl
 
     pub line-0 :
         table ≡ 0 →
         (word : Field) →
-        word ≡ ruleField form (slot fields 2) →
-        sizesLine (slot fields 0) (slot fields 1) word n ≡ lineIn table form (take count fields) n
+        word ≡ ruleField heading (slot fields 2) →
+        sizesLine (slot fields 0) (slot fields 1) word n ≡ lineIn table heading (take count fields) n
     unfolding lineIn valuesIn
     line-0 e word h =
-        let k = names-some table form e in
+        let k = names-some table heading e in
         rw (as-due, eq-eqb table 0 e, at 0 (omega arith), at 1 (omega arith), rule-at e, h)
 
     pub line-1 :
         table ≡ 1 →
-        itemLine (slot fields 0) (slot fields 1) (slot fields 2) (slot fields 3) n ≡ lineIn table form (take count fields) n
+        itemLine (slot fields 0) (slot fields 1) (slot fields 2) (slot fields 3) n ≡ lineIn table heading (take count fields) n
     unfolding lineIn valuesIn
     line-1 e =
-        let k = names-1 table form e in
+        let k = names-1 table heading e in
         rw (as-due, e, at 0 (omega arith), at 1 (omega arith), at 2 (omega arith), at 3 (omega arith))
 
     -- the three last stand behind the minutes, if the heading has them
-    values-at : table ≡ 2 → (j : ℕ) → j < 6 → valueField form (fieldAt (take count fields) j) ≡ valueField form (slot fields j)
-    values-at e j h = go (eqb form 1) refl
+    values-at : table ≡ 2 → (j : ℕ) → j < 6 → valueField heading (fieldAt (take count fields) j) ≡ valueField heading (slot fields j)
+    values-at e j h = go (eqb heading 1) refl
       where
-        go : (t : Bool) → eqb form 1 ≡ t → cond t (fieldAt (take count fields) j) Dash ≡ cond t (slot fields j) Dash
-        go true w = at j (omega (arith, names-values table form e (eqb-true form 1 w)))
+        go : (t : Bool) → eqb heading 1 ≡ t → cond t (fieldAt (take count fields) j) Dash ≡ cond t (slot fields j) Dash
+        go true w = at j (omega (arith, names-values table heading e (eqb-true heading 1 w)))
         go false w = refl
 
     pub line-2 :
         table ≡ 2 →
         (b l w : Field) →
-        b ≡ valueField form (slot fields 3) →
-        l ≡ valueField form (slot fields 4) →
-        w ≡ valueField form (slot fields 5) →
-        stepLine form (slot fields 0) (slot fields 1) (slot fields 2) b l w n ≡ lineIn table form (take count fields) n
+        b ≡ valueField heading (slot fields 3) →
+        l ≡ valueField heading (slot fields 4) →
+        w ≡ valueField heading (slot fields 5) →
+        stepLine heading (slot fields 0) (slot fields 1) (slot fields 2) b l w n ≡ lineIn table heading (take count fields) n
     unfolding lineIn valuesIn
     line-2 e b l w eb el ew =
-        let k = names-three table form e in
+        let k = names-three table heading e in
         rw (
           as-due,
           eq-eqb table 2 e,
@@ -431,10 +431,10 @@ module _ (table form : ℕ) (fields : List Field) (count n : ℕ) (few : count �
         (table ≡ 0 → ⊥) →
         (table ≡ 1 → ⊥) →
         (table ≡ 2 → ⊥) →
-        actLine (slot fields 0) (slot fields 1) (slot fields 2) n ≡ lineIn table form (take count fields) n
+        actLine (slot fields 0) (slot fields 1) (slot fields 2) n ≡ lineIn table heading (take count fields) n
     unfolding lineIn valuesIn
     line-3 a b c =
-        let k = names-3 table form a b c in
+        let k = names-3 table heading a b c in
         rw (
           as-due,
           ne-eqb table 0 a,
@@ -446,13 +446,13 @@ module _ (table form : ℕ) (fields : List Field) (count n : ℕ) (few : count �
         )
 
 -- no heading is the empty line
-pub blank-unnamed : (table : ℕ) → formOf table [] ≡ Unknown
-unfolding formOf formAmong headings sameText
+pub blank-unnamed : (table : ℕ) → headingOf table [] ≡ Unknown
+unfolding headingOf headingAmong headings sameText
 blank-unnamed table = go (eqb table 0) (eqb table 1) (eqb table 2)
   where
     go :
         (p q r : Bool) →
-        formAmong 0
+        headingAmong 0
         (cond p (textOf "locker rival" ∷ textOf "locker rival rule" ∷ [])
         (cond q (textOf "sail blocks load write" ∷ [])
         (cond r (textOf "step sail minutes" ∷ textOf "step sail minutes blocks load write" ∷ [])

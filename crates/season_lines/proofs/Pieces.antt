@@ -21,22 +21,22 @@ use Rattle.line_fields.specs.Fields.{fieldAt, isRule, valueIn, ruleIn, isEmpty,
 use Rattle.line_fields.proofs.Laws.{and-parts}
 use Rattle.line_fields.proofs.Pieces.{one-empty}
 use Rattle.season_lines.specs.declared.Line.{Line}
-use Rattle.season_lines.specs.declared.Line.the-variants.{Sizes, Item as ItemLine, Step, Act as Placed, Refused}
+use Rattle.season_lines.specs.declared.Line.the-variants.{Sizes, Item as ItemLine, Step, Act as ActLine, Refused}
 use Rattle.season_lines.specs.Lines.{namesIn, judged, sizesLine, ruleField, itemLine, numbersUnder, valueField, stepLine, isActKind, actLine, valuesIn, lineIn}
 use Rattle.season_lines.proofs.Laws.{sizesShape, itemShape, stepsShape, actsShape, sizesRange, itemsRange, actsRange, or-3, or-18-or-3, valuesOf, names-three, names-3}
 
 -- ## Lines that are torn whatever their heading
 
-module _ (table form : ℕ) (fs : List Field) (n : ℕ) where
+module _ (table heading : ℕ) (fs : List Field) (n : ℕ) where
   -- more fields than names
-  pub many-malformed : namesIn table form < length fs → lineIn table form fs n ≡ Refused (Malformed n)
+  pub many-malformed : namesIn table heading < length fs → lineIn table heading fs n ≡ Refused (Malformed n)
   unfolding lineIn
-  many-malformed h = rw (ne-eqb (length fs) (namesIn table form) (λ e. omega arith))
+  many-malformed h = rw (ne-eqb (length fs) (namesIn table heading) (λ e. omega arith))
 
   -- an empty field
-  pub empty-malformed : (j : ℕ) → j < length fs → isEmpty (fieldAt fs j) ≡ true → lineIn table form fs n ≡ Refused (Malformed n)
+  pub empty-malformed : (j : ℕ) → j < length fs → isEmpty (fieldAt fs j) ≡ true → lineIn table heading fs n ≡ Refused (Malformed n)
   unfolding lineIn
-  empty-malformed j h e = rw (one-empty fs j h e, and-false (eqb (length fs) (namesIn table form)))
+  empty-malformed j h e = rw (one-empty fs j h e, and-false (eqb (length fs) (namesIn table heading)))
 
 -- ## What a line says
 
@@ -45,7 +45,7 @@ abbrev pub Says : ℕ → ℕ → ℕ → Line → Type 0
 Says table fields n (Sizes k h r) = (table ≡ 0) × (1 ≤ k) × (k ≤ 4096) × (1 ≤ h)
 Says table fields n (ItemLine i b l w) = (table ≡ 1) × (i ≤ 255) × (itemInRange (listed b l w) ≡ true)
 Says table fields n (Step s) = (table ≡ 2) × (3 ≤ fields) × (inRange (numbersOf s) ≡ true)
-Says table fields n (Placed place act) = (3 ≤ table) × (3 ≤ fields)
+Says table fields n (ActLine place act) = (3 ≤ table) × (3 ≤ fields)
 Says table fields n (Refused r) = refusalLine r ≡ n
 
 judged-says :
@@ -95,34 +95,34 @@ module _ (table fields n : ℕ) where
       (e, leb-true (valueIn i) 255 (both .0), both .1))
 
   step-says :
-      (form : ℕ) (kind item minutes blocks load write : Field) →
+      (heading : ℕ) (kind item minutes blocks load write : Field) →
       table ≡ 2 →
       3 ≤ fields →
-      Says table fields n (stepLine form kind item minutes blocks load write n)
+      Says table fields n (stepLine heading kind item minutes blocks load write n)
   unfolding stepLine
-  step-says form kind item minutes blocks load write e f =
+  step-says heading kind item minutes blocks load write e f =
       judged-says table fields (stepsShape kind (x .kind) item minutes blocks load write) (rangeRefusal x) (Step (stepOf x)) n
       (λ z. (e, f, free-range (numbersOf (stepOf x)) (range-means x z)))
     where
       x : Numbers
-      x = numbersUnder form (valuesOf kind item minutes blocks load write)
+      x = numbersUnder heading (valuesOf kind item minutes blocks load write)
 
   act-says : (place kind item : Field) → 3 ≤ table → 3 ≤ fields → Says table fields n (actLine place kind item n)
   unfolding actLine
   act-says place kind item e f =
       judged-says table fields (actsShape place kind (valueIn kind) item) (or-3 (actsRange (valueIn place) (valueIn kind) (valueIn item)))
-      (Placed (valueIn place) (actOf (valueIn kind) (valueIn item))) n
+      (ActLine (valueIn place) (actOf (valueIn kind) (valueIn item))) n
       (λ z. (e, f))
 
-pub line-says : (table form : ℕ) (fs : List Field) (n : ℕ) → Says table (length fs) n (lineIn table form fs n)
+pub line-says : (table heading : ℕ) (fs : List Field) (n : ℕ) → Says table (length fs) n (lineIn table heading fs n)
 unfolding lineIn valuesIn
-line-says table form fs n = go asDue (eqb table 0) (eqb table 1) (eqb table 2) refl refl refl refl
+line-says table heading fs n = go asDue (eqb table 0) (eqb table 1) (eqb table 2) refl refl refl refl
   where
     asDue : Bool
-    asDue = eqb (length fs) (namesIn table form) && noneEmpty fs
+    asDue = eqb (length fs) (namesIn table heading) && noneEmpty fs
 
-    counted : asDue ≡ true → length fs ≡ namesIn table form
-    counted e = eqb-true (length fs) (namesIn table form) (and-parts (eqb (length fs) (namesIn table form)) (noneEmpty fs) e .0)
+    counted : asDue ≡ true → length fs ≡ namesIn table heading
+    counted e = eqb-true (length fs) (namesIn table heading) (and-parts (eqb (length fs) (namesIn table heading)) (noneEmpty fs) e .0)
 
     go :
         (w p q r : Bool) →
@@ -132,10 +132,10 @@ line-says table form fs n = go asDue (eqb table 0) (eqb table 1) (eqb table 2) r
         eqb table 2 ≡ r →
         Says table (length fs) n
         (cond w
-        (cond p (sizesLine (fieldAt fs 0) (fieldAt fs 1) (ruleField form (fieldAt fs 2)) n)
+        (cond p (sizesLine (fieldAt fs 0) (fieldAt fs 1) (ruleField heading (fieldAt fs 2)) n)
         (cond q (itemLine (fieldAt fs 0) (fieldAt fs 1) (fieldAt fs 2) (fieldAt fs 3) n)
         (cond r
-        (stepLine form (fieldAt fs 0) (fieldAt fs 1) (fieldAt fs 2) (valueField form (fieldAt fs 3)) (valueField form (fieldAt fs 4)) (valueField form (fieldAt fs 5)) n)
+        (stepLine heading (fieldAt fs 0) (fieldAt fs 1) (fieldAt fs 2) (valueField heading (fieldAt fs 3)) (valueField heading (fieldAt fs 4)) (valueField heading (fieldAt fs 5)) n)
         (actLine (fieldAt fs 0) (fieldAt fs 1) (fieldAt fs 2) n))))
         (Refused (Malformed n)))
     go false p q r ew ep eq er = refl
@@ -143,9 +143,9 @@ line-says table form fs n = go asDue (eqb table 0) (eqb table 1) (eqb table 2) r
     go true false true r ew ep eq er = item-says table (length fs) n _ _ _ _ (eqb-true table 1 eq)
     go true false false true ew ep eq er =
         let t = eqb-true table 2 er in
-        step-says table (length fs) n form _ _ _ _ _ _ t (omega (arith, counted ew, names-three table form t))
+        step-says table (length fs) n heading _ _ _ _ _ _ t (omega (arith, counted ew, names-three table heading t))
     go true false false false ew ep eq er =
         let x = eqb-false table 0 ep in
         let y = eqb-false table 1 eq in
         let z = eqb-false table 2 er in
-        act-says table (length fs) n _ _ _ (omega arith) (omega (arith, counted ew, names-3 table form x y z))
+        act-says table (length fs) n _ _ _ (omega arith) (omega (arith, counted ew, names-3 table heading x y z))

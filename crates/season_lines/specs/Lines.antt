@@ -6,7 +6,7 @@ use Prim.Native.Nat.{ℕ, suc}
 use lib.{ListN.{length, getD}, Dec.{leb, eqb}}
 use Rattle.decimal.specs.Decimal.{textOf, sameText}
 use Rattle.line_fields.specs.{declared.Field.{Field, the-variants.{Dash, Rule}}, Fields.{split, fieldAt, isNumber, isLetter, isDash, isRule, valueIn, ruleIn, isEither, noneEmpty}}
-use Rattle.season_lines.specs.declared.{Names.{Names, the-variants.{Form, Unknown}}, Line.{Line, the-variants.{Sizes, Item as ItemLine, Step, Act as Placed, Refused}}}
+use Rattle.season_lines.specs.declared.{Names.{Names, the-variants.{Known, Unknown}}, Line.{Line, the-variants.{Sizes, Item as ItemLine, Step, Act as ActLine, Refused}}}
 use Rattle.types.specs.declared.{Numbers.Numbers, Deduction.the-variants.WriteFirst, Refusal.the-variants.Malformed}
 use Rattle.types.specs.Types.{actOf, numbersFrom, readKind, writeKind, flushKind, arriveKind, retireKind, evictKind, fetchKind, stepOf, telling, refusalFrom}
 use Rattle.landlord.specs.{Catalog.{listed, itemInRange, capacityInRange}, Steps.rangeRefusal}
@@ -21,22 +21,22 @@ headings table =
     (cond (eqb table 2) (textOf "step sail minutes" ∷ textOf "step sail minutes blocks load write" ∷ [])
     (textOf "at act sail" ∷ [])))
 
--- heading `form` of a table, its headings counted from 0; the first one if there is no such heading
-abbrev pub headingOf : ℕ → ℕ → List ℕ
-headingOf table form = getD (headings table) form (getD (headings table) 0 [])
+-- the text of a heading of a table, its headings counted from 0; of the first one if there is no such heading
+abbrev pub headingText : ℕ → ℕ → List ℕ
+headingText table heading = getD (headings table) heading (getD (headings table) 0 [])
 
 -- how many names it has
 unfoldable pub namesIn : ℕ → ℕ → ℕ
-namesIn table form = length (split 32 (headingOf table form))
+namesIn table heading = length (split 32 (headingText table heading))
 
 -- which of some headings a line is, counted from f
-unfoldable pub formAmong : ℕ → List (List ℕ) → List ℕ → Names
-formAmong f [] l = Unknown
-formAmong f (names ∷ rest) l = cond (sameText l names) (Form f) (formAmong (suc f) rest l)
+unfoldable pub headingAmong : ℕ → List (List ℕ) → List ℕ → Names
+headingAmong f [] l = Unknown
+headingAmong f (names ∷ rest) l = cond (sameText l names) (Known f) (headingAmong (suc f) rest l)
 
 -- which heading of a table a line is
-unfoldable pub formOf : ℕ → List ℕ → Names
-formOf table l = formAmong 0 (headings table) l
+unfoldable pub headingOf : ℕ → List ℕ → Names
+headingOf table l = headingAmong 0 (headings table) l
 
 -- ## A value line under each heading, judged by its fields alone: its shape (1), then its ranges (3), then a rule's word (18)
 
@@ -54,7 +54,7 @@ sizesLine k h rule n =
 
 -- the field of the rule's word: only heading 1, `locker rival rule`, has one, and "the old heading means write-first"
 abbrev pub ruleField : ℕ → Field → Field
-ruleField form f = cond (eqb form 1) f (Rule WriteFirst)
+ruleField heading f = cond (eqb heading 1) f (Rule WriteFirst)
 
 -- `sail blocks load write`: the sail's number 0 to 255, and an item in range
 unfoldable pub itemLine : Field → Field → Field → Field → ℕ → Line
@@ -65,19 +65,19 @@ itemLine i b l w n =
 
 -- A kind as the heading takes it: heading 1 has "step A" and "step Q"; "A and Q under the old one are off the tape", and 0 is no kind.
 abbrev pub kindUnder : ℕ → ℕ → ℕ
-kindUnder form kind = cond (eqb form 1) kind (cond (eqb kind arriveKind || eqb kind retireKind) 0 kind)
+kindUnder heading kind = cond (eqb heading 1) kind (cond (eqb kind arriveKind || eqb kind retireKind) 0 kind)
 
 -- a step's numbers as the heading takes them
 abbrev pub numbersUnder : ℕ → Numbers → Numbers
-numbersUnder form n = numbersFrom (kindUnder form (n .kind)) (n .item) (n .minutes) (n .blocks) (n .load) (n .write)
+numbersUnder heading n = numbersFrom (kindUnder heading (n .kind)) (n .item) (n .minutes) (n .blocks) (n .load) (n .write)
 
 -- what the table says to them then by their ranges
 abbrev pub rangeUnder : ℕ → Numbers → ℕ
-rangeUnder form n = rangeRefusal (numbersUnder form n)
+rangeUnder heading n = rangeRefusal (numbersUnder heading n)
 
 -- one of the three fields behind the minutes: only heading 1 has them, and under the old one there is nothing in them
 abbrev pub valueField : ℕ → Field → Field
-valueField form f = cond (eqb form 1) f Dash
+valueField heading f = cond (eqb heading 1) f Dash
 
 -- R, W, L, A or Q
 abbrev pub isStepKind : ℕ → Bool
@@ -97,10 +97,10 @@ stepShape kind item minutes blocks load write =
 
 -- `step sail minutes blocks load write`; the ranges are those of a call
 unfoldable pub stepLine : ℕ → Field → Field → Field → Field → Field → Field → ℕ → Line
-stepLine form kind item minutes blocks load write n =
+stepLine heading kind item minutes blocks load write n =
     let values = numbersFrom (valueIn kind) (valueIn item) (valueIn minutes) (valueIn blocks) (valueIn load) (valueIn write) in
-    let numbers = numbersUnder form values in
-    judged (isLetter kind && stepShape (numbers .kind) item minutes blocks load write) (rangeUnder form values) (Step (stepOf numbers)) n
+    let numbers = numbersUnder heading values in
+    judged (isLetter kind && stepShape (numbers .kind) item minutes blocks load write) (rangeUnder heading values) (Step (stepOf numbers)) n
 
 -- D or F
 abbrev pub isActKind : ℕ → Bool
@@ -111,20 +111,20 @@ unfoldable pub actLine : Field → Field → Field → ℕ → Line
 actLine place kind item n =
     judged (isNumber place && isLetter kind && cond (isActKind (valueIn kind)) (isNumber item) (isEither item))
     (cond (leb (valueIn place) 999999 && isActKind (valueIn kind) && leb (valueIn item) 255) 0 3)
-    (Placed (valueIn place) (actOf (valueIn kind) (valueIn item))) n
+    (ActLine (valueIn place) (actOf (valueIn kind) (valueIn item))) n
 
 -- a value line with as many fields as are due, by its table's own rules
 unfoldable pub valuesIn : ℕ → ℕ → List Field → ℕ → Line
-valuesIn table form fs n =
+valuesIn table heading fs n =
     let a = fieldAt fs 0 in
     let b = fieldAt fs 1 in
     let c = fieldAt fs 2 in
-    cond (eqb table 0) (sizesLine a b (ruleField form c) n)
+    cond (eqb table 0) (sizesLine a b (ruleField heading c) n)
     (cond (eqb table 1) (itemLine a b c (fieldAt fs 3) n)
-    (cond (eqb table 2) (stepLine form a b c (valueField form (fieldAt fs 3)) (valueField form (fieldAt fs 4)) (valueField form (fieldAt fs 5)) n)
+    (cond (eqb table 2) (stepLine heading a b c (valueField heading (fieldAt fs 3)) (valueField heading (fieldAt fs 4)) (valueField heading (fieldAt fs 5)) n)
     (actLine a b c n)))
 
 -- "lines of values in that order, split by single spaces": as many fields as the heading has names, none of them empty; then its own rules
 unfoldable pub lineIn : ℕ → ℕ → List Field → ℕ → Line
-lineIn table form fs n =
-    cond (eqb (length fs) (namesIn table form) && noneEmpty fs) (valuesIn table form fs n) (Refused (Malformed n))
+lineIn table heading fs n =
+    cond (eqb (length fs) (namesIn table heading) && noneEmpty fs) (valuesIn table heading fs n) (Refused (Malformed n))

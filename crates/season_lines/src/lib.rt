@@ -8,8 +8,8 @@ ghost use lib.ListN.{take};
 ghost use Rattle.types.specs.Types.{actOf};
 ghost use Rattle.landlord.specs.Catalog.{capacityInRange};
 ghost use Rattle.line_fields.specs.Fields.{isNumber, isEither};
-ghost use Rattle.season_lines.specs.declared.Names.the-variants.{Form, Unknown};
-ghost use Rattle.season_lines.specs.Lines.{ruleField, valueField, namesIn, formAmong, formOf, kindUnder, numbersUnder, isStepKind, isDue, stepShape, isActKind, sizesLine, itemLine, stepLine, actLine, lineIn};
+ghost use Rattle.season_lines.specs.declared.Names.the-variants.{Known, Unknown};
+ghost use Rattle.season_lines.specs.Lines.{ruleField, valueField, namesIn, headingAmong, headingOf, kindUnder, numbersUnder, isStepKind, isDue, stepShape, isActKind, sizesLine, itemLine, stepLine, actLine, lineIn};
 ghost use Rattle.season_lines.specs.Inner.{Judgeable};
 use line_fields::Field;
 use types::Act;
@@ -20,7 +20,7 @@ use types::Step;
 
 // Which heading of its table a line is, the table's headings counted from 0.
 pub enum Names {
-    Form(u32),
+    Known(u32),
     Unknown,
 }
 
@@ -109,10 +109,10 @@ fn item_line(number: Field, blocks: Field, load: Field, write: Field, line: u32)
 }
 
 // A step's kind as a heading takes it: under the old heading A and Q are no kinds.
-fn kind_under(form: u32, kind: u32) -> u32
-    ensures { λ r. ⌜ r ≡ kindUnder form kind ⌝ }
+fn kind_under(heading: u32, kind: u32) -> u32
+    ensures { λ r. ⌜ r ≡ kindUnder heading kind ⌝ }
 {
-    if form != 1 {
+    if heading != 1 {
         if kind == types::ARRIVE || kind == types::RETIRE {
             return 0;
         }
@@ -121,11 +121,11 @@ fn kind_under(form: u32, kind: u32) -> u32
 }
 
 // A step's numbers as a heading takes them.
-pub fn numbers_under(form: u32, n: Numbers) -> Numbers
-    ensures { λ r. ⌜ r ≡ numbersUnder form n ⌝ }
+pub fn numbers_under(heading: u32, n: Numbers) -> Numbers
+    ensures { λ r. ⌜ r ≡ numbersUnder heading n ⌝ }
 {
     Numbers {
-        kind: kind_under(form, n.kind),
+        kind: kind_under(heading, n.kind),
         item: n.item,
         minutes: n.minutes,
         blocks: n.blocks,
@@ -178,7 +178,7 @@ fn step_shaped(
 
 // A line of `step sail minutes blocks load write`, or of the old heading, which has nothing behind the minutes.
 fn step_line(
-    form: u32,
+    heading: u32,
     kind: Field,
     item: Field,
     minutes: Field,
@@ -187,7 +187,7 @@ fn step_line(
     write: Field,
     line: u32,
 ) -> Line
-    ensures { λ r. ⌜ r ≡ stepLine form kind item minutes blocks load write line ⌝ }
+    ensures { λ r. ⌜ r ≡ stepLine heading kind item minutes blocks load write line ⌝ }
 {
     let values = Numbers {
         kind: line_fields::value_in(kind),
@@ -197,7 +197,7 @@ fn step_line(
         load: line_fields::value_in(load),
         write: line_fields::value_in(write),
     };
-    let n = numbers_under(form, values);
+    let n = numbers_under(heading, values);
     if !line_fields::is_letter(kind) || !step_shaped(n.kind, item, minutes, blocks, load, write) {
         return Line::Refused(Refusal::Malformed { line: line });
     }
@@ -256,55 +256,55 @@ fn act_line(place: Field, kind: Field, item: Field, line: u32) -> Line
 }
 
 // The heading of a table that has but one, or none.
-fn the_form(right: bool) -> Names
-    ensures { λ r. ⌜ r ≡ cond right (Form 0) Unknown ⌝ }
+fn the_heading(right: bool) -> Names
+    ensures { λ r. ⌜ r ≡ cond right (Known 0) Unknown ⌝ }
 {
     if right {
-        return Names::Form(0);
+        return Names::Known(0);
     }
     Names::Unknown
 }
 
 // Which of a table's two headings a line is.
-fn two_forms(line: &[u8], first: &[u8], second: &[u8]) -> Names
-    ensures { λ r. ⌜ r ≡ formAmong 0 (now (first .entry) ∷ now (second .entry) ∷ []) (now (line .entry)) ⌝ }
+fn two_headings(line: &[u8], first: &[u8], second: &[u8]) -> Names
+    ensures { λ r. ⌜ r ≡ headingAmong 0 (now (first .entry) ∷ now (second .entry) ∷ []) (now (line .entry)) ⌝ }
 {
     if decimal::same(line, first) {
-        return Names::Form(0);
+        return Names::Known(0);
     }
     if decimal::same(line, second) {
-        return Names::Form(1);
+        return Names::Known(1);
     }
     Names::Unknown
 }
 
 // Which heading of a table a line is, the tables counted from 0.
-pub fn form_of(table: u32, line: &[u8]) -> Names
-    ensures { λ r. ⌜ r ≡ formOf table (now (line .entry)) ⌝ }
+pub fn heading_of(table: u32, line: &[u8]) -> Names
+    ensures { λ r. ⌜ r ≡ headingOf table (now (line .entry)) ⌝ }
 {
     if table == 0 {
-        return two_forms(line, b"locker rival", b"locker rival rule");
+        return two_headings(line, b"locker rival", b"locker rival rule");
     }
     if table == 1 {
-        return the_form(decimal::same(line, b"sail blocks load write"));
+        return the_heading(decimal::same(line, b"sail blocks load write"));
     }
     if table == 2 {
-        return two_forms(
+        return two_headings(
             line,
             b"step sail minutes",
             b"step sail minutes blocks load write",
         );
     }
-    the_form(decimal::same(line, b"at act sail"))
+    the_heading(decimal::same(line, b"at act sail"))
 }
 
 // How many names a heading of a table has.
-pub fn names_in(table: u32, form: u32) -> usize
-    ensures { λ r. ⌜ r ≡ namesIn table form ⌝ }
+pub fn names_in(table: u32, heading: u32) -> usize
+    ensures { λ r. ⌜ r ≡ namesIn table heading ⌝ }
     ensures { λ r. ⌜ r ≤ 6 ⌝ }
 {
     if table == 0 {
-        if form == 1 {
+        if heading == 1 {
             return 3;
         }
         return 2;
@@ -313,7 +313,7 @@ pub fn names_in(table: u32, form: u32) -> usize
         return 4;
     }
     if table == 2 {
-        if form == 1 {
+        if heading == 1 {
             return 6;
         }
     }
@@ -321,47 +321,47 @@ pub fn names_in(table: u32, form: u32) -> usize
 }
 
 // The field of the rule's word: only `locker rival rule` has one, and without it write-first is meant.
-fn rule_field(form: u32, f: Field) -> Field
-    ensures { λ r. ⌜ r ≡ ruleField form f ⌝ }
+fn rule_field(heading: u32, f: Field) -> Field
+    ensures { λ r. ⌜ r ≡ ruleField heading f ⌝ }
 {
-    if form == 1 {
+    if heading == 1 {
         return f;
     }
     Field::Rule(Deduction::WriteFirst)
 }
 
 // One of the three fields behind a step's minutes: the old heading has none of them, and without it `-` is meant.
-fn value_field(form: u32, f: Field) -> Field
-    ensures { λ r. ⌜ r ≡ valueField form f ⌝ }
+fn value_field(heading: u32, f: Field) -> Field
+    ensures { λ r. ⌜ r ≡ valueField heading f ⌝ }
 {
-    if form == 1 {
+    if heading == 1 {
         return f;
     }
     Field::Dash
 }
 
 // A value line under a heading of a table: as many fields as names, then its shape, then its ranges.
-pub fn line_in(table: u32, form: u32, fields: [Field; 6], count: usize, line: u32) -> Line
+pub fn line_in(table: u32, heading: u32, fields: [Field; 6], count: usize, line: u32) -> Line
     requires { ⌜ Judgeable fields count ⌝ }
-    ensures { λ r. ⌜ r ≡ lineIn table form (take count fields) line ⌝ }
+    ensures { λ r. ⌜ r ≡ lineIn table heading (take count fields) line ⌝ }
 {
-    if count != names_in(table, form) {
+    if count != names_in(table, heading) {
         return Line::Refused(Refusal::Malformed { line: line });
     }
     let a = fields[0];
     let b = fields[1];
     let c = fields[2];
     if table == 0 {
-        return sizes_line(a, b, rule_field(form, c), line);
+        return sizes_line(a, b, rule_field(heading, c), line);
     }
     if table == 1 {
         return item_line(a, b, c, fields[3], line);
     }
     if table == 2 {
-        let blocks = value_field(form, fields[3]);
-        let load = value_field(form, fields[4]);
-        let write = value_field(form, fields[5]);
-        return step_line(form, a, b, c, blocks, load, write, line);
+        let blocks = value_field(heading, fields[3]);
+        let load = value_field(heading, fields[4]);
+        let write = value_field(heading, fields[5]);
+        return step_line(heading, a, b, c, blocks, load, write, line);
     }
     act_line(a, b, c, line)
 }

@@ -195,11 +195,11 @@ dash-field = refl
 
 -- whether a step may be in a log under a heading
 abbrev pub ranged : ℕ → Step → Bool
-ranged form s = eqb (rangeUnder form (numbersOf s)) 0
+ranged heading s = eqb (rangeUnder heading (numbersOf s)) 0
 
 -- then its numbers are in range as the heading takes them
-pub ranged-in : (form : ℕ) (s : Step) → ranged form s ≡ true → inRange (numbersUnder form (numbersOf s)) ≡ true
-ranged-in form s r = free-range (numbersUnder form (numbersOf s)) (eqb-true _ 0 r)
+pub ranged-in : (heading : ℕ) (s : Step) → ranged heading s ≡ true → inRange (numbersUnder heading (numbersOf s)) ≡ true
+ranged-in heading s r = free-range (numbersUnder heading (numbersOf s)) (eqb-true _ 0 r)
 
 -- a value that a step has, or `-`
 abbrev shown : Bool → ℕ → Field
@@ -218,22 +218,22 @@ fieldsUnder t n =
     ∷ lastFields t (shown arrives (n .blocks)) (shown arrives (n .load)) (shown arrives (n .write))
 
 abbrev stepFields : ℕ → Step → List Field
-stepFields form s = fieldsUnder (eqb form 1) (numbersOf s)
+stepFields heading s = fieldsUnder (eqb heading 1) (numbersOf s)
 
 -- a step's line without its line feed
 abbrev pub lineOf : ℕ → Step → List ℕ
-lineOf form s = joined 32 (map fieldText (stepFields form s))
+lineOf heading s = joined 32 (map fieldText (stepFields heading s))
 
-pub step-line : (form : ℕ) (s : Step) → ranged form s ≡ true → stepText form s ≡ lineOf form s ++ (10 ∷ [])
+pub step-line : (heading : ℕ) (s : Step) → ranged heading s ≡ true → stepText heading s ≡ lineOf heading s ++ (10 ∷ [])
 unfolding stepText joined
-step-line form s r = go (eqb form 1) refl s (ranged-in form s r)
+step-line heading s r = go (eqb heading 1) refl s (ranged-in heading s r)
   where
     go :
         (t : Bool) →
-        eqb form 1 ≡ t →
+        eqb heading 1 ≡ t →
         (s : Step) →
-        inRange (numbersUnder form (numbersOf s)) ≡ true →
-        stepText form s ≡ joined 32 (map fieldText (fieldsUnder t (numbersOf s))) ++ (10 ∷ [])
+        inRange (numbersUnder heading (numbersOf s)) ≡ true →
+        stepText heading s ≡ joined 32 (map fieldText (fieldsUnder t (numbersOf s))) ++ (10 ∷ [])
     go true e (Read i) r = rw e (simp append-assoc)
     go true e (Write i m) r = rw e (simp append-assoc)
     go true e Flush r = rw e
@@ -291,9 +291,9 @@ texts-lack b false n h k =
       shown-lacks b (eqb (n .kind) 87) (n .minutes) h,
     )
 
-pub line-lacks : (form : ℕ) (s : Step) → lacks 10 (lineOf form s) ≡ true
-line-lacks form s =
-    lacks-joined 10 32 (map fieldText (stepFields form s)) (λ e. omega arith) (texts-lack 10 (eqb form 1) (numbersOf s) (omega arith) (kind-large s))
+pub line-lacks : (heading : ℕ) (s : Step) → lacks 10 (lineOf heading s) ≡ true
+line-lacks heading s =
+    lacks-joined 10 32 (map fieldText (stepFields heading s)) (λ e. omega arith) (texts-lack 10 (eqb heading 1) (numbersOf s) (omega arith) (kind-large s))
 
 -- the fields of its line are those of the step
 kind-field : (s : Step) → fieldOf (numbersOf s .kind ∷ []) ≡ Letter (numbersOf s .kind)
@@ -314,11 +314,11 @@ unfolding allFields
 texts-fields true n k = rw k (simp shown-field)
 texts-fields false n k = rw k (simp shown-field)
 
-line-fields : (form : ℕ) (s : Step) → fieldsOf (lineOf form s) ≡ stepFields form s
-line-fields form s =
+line-fields : (heading : ℕ) (s : Step) → fieldsOf (lineOf heading s) ≡ stepFields heading s
+line-fields heading s =
     ap allFields
-    (split-joined 32 (map fieldText (stepFields form s)) (omega arith) (texts-lack 32 (eqb form 1) (numbersOf s) (omega arith) (kind-large s)))
-    ∙ texts-fields (eqb form 1) (numbersOf s) (kind-field s)
+    (split-joined 32 (map fieldText (stepFields heading s)) (omega arith) (texts-lack 32 (eqb heading 1) (numbersOf s) (omega arith) (kind-large s)))
+    ∙ texts-fields (eqb heading 1) (numbersOf s) (kind-field s)
 
 shown-plain : (has : Bool) (v : ℕ) → plain (shown has v) ≡ true
 shown-plain true v = refl
@@ -331,21 +331,21 @@ fields-plain false n = simp shown-plain
 
 -- ## A line of a step's fields
 
-fields-step : (form : ℕ) (s : Step) (n : ℕ) → ranged form s ≡ true → lineIn 2 form (stepFields form s) n ≡ StepLine s
+fields-step : (heading : ℕ) (s : Step) (n : ℕ) → ranged heading s ≡ true → lineIn 2 heading (stepFields heading s) n ≡ StepLine s
 unfolding lineIn valuesIn noneEmpty stepLine stepShape stepOf
-fields-step form s n r = go (eqb form 1) refl s r
+fields-step heading s n r = go (eqb heading 1) refl s r
   where
-    go : (t : Bool) → eqb form 1 ≡ t → (s : Step) → ranged form s ≡ true → lineIn 2 form (fieldsUnder t (numbersOf s)) n ≡ StepLine s
-    go true e (Read i) r = rw (names-values 2 form refl (eqb-true form 1 e), e, rw e at r)
-    go true e (Write i m) r = rw (names-values 2 form refl (eqb-true form 1 e), e, rw e at r)
-    go true e Flush r = rw (names-values 2 form refl (eqb-true form 1 e), e, rw e at r)
-    go true e (Arrive i b l w) r = rw (names-values 2 form refl (eqb-true form 1 e), e, rw e at r)
-    go true e (Retire i) r = rw (names-values 2 form refl (eqb-true form 1 e), e, rw e at r)
-    go false e (Read i) r = rw (names-2 2 form refl (eqb-false form 1 e), e, rw e at r)
-    go false e (Write i m) r = rw (names-2 2 form refl (eqb-false form 1 e), e, rw e at r)
-    go false e Flush r = rw (names-2 2 form refl (eqb-false form 1 e), e, rw e at r)
-    go false e (Arrive i b l w) r = absurd (false≢true (rw e at (ranged-in form (Arrive i b l w) r)))
-    go false e (Retire i) r = absurd (false≢true (rw e at (ranged-in form (Retire i) r)))
+    go : (t : Bool) → eqb heading 1 ≡ t → (s : Step) → ranged heading s ≡ true → lineIn 2 heading (fieldsUnder t (numbersOf s)) n ≡ StepLine s
+    go true e (Read i) r = rw (names-values 2 heading refl (eqb-true heading 1 e), e, rw e at r)
+    go true e (Write i m) r = rw (names-values 2 heading refl (eqb-true heading 1 e), e, rw e at r)
+    go true e Flush r = rw (names-values 2 heading refl (eqb-true heading 1 e), e, rw e at r)
+    go true e (Arrive i b l w) r = rw (names-values 2 heading refl (eqb-true heading 1 e), e, rw e at r)
+    go true e (Retire i) r = rw (names-values 2 heading refl (eqb-true heading 1 e), e, rw e at r)
+    go false e (Read i) r = rw (names-2 2 heading refl (eqb-false heading 1 e), e, rw e at r)
+    go false e (Write i m) r = rw (names-2 2 heading refl (eqb-false heading 1 e), e, rw e at r)
+    go false e Flush r = rw (names-2 2 heading refl (eqb-false heading 1 e), e, rw e at r)
+    go false e (Arrive i b l w) r = absurd (false≢true (rw e at (ranged-in heading (Arrive i b l w) r)))
+    go false e (Retire i) r = absurd (false≢true (rw e at (ranged-in heading (Retire i) r)))
 
 -- and a line that is a step has that step's fields
 letter-is : (f : Field) → isLetter f ≡ true → f ≡ Letter (valueIn f)
@@ -420,8 +420,8 @@ same-kind n e =
 -- ## Numbers under a heading
 
 -- a kind in range is kept
-pub kind-kept : (form : ℕ) (n : Numbers) → inRange (numbersUnder form n) ≡ true → kindUnder form (n .kind) ≡ n .kind
-kind-kept form n r = go (eqb form 1) (eqb (n .kind) 65 || eqb (n .kind) 81) r
+pub kind-kept : (heading : ℕ) (n : Numbers) → inRange (numbersUnder heading n) ≡ true → kindUnder heading (n .kind) ≡ n .kind
+kind-kept heading n r = go (eqb heading 1) (eqb (n .kind) 65 || eqb (n .kind) 81) r
   where
     go :
         (a b : Bool) →
@@ -432,18 +432,18 @@ kind-kept form n r = go (eqb form 1) (eqb (n .kind) 65 || eqb (n .kind) 81) r
     go false false r = refl
 
 -- and so are all the numbers
-pub under-same : (form : ℕ) (n : Numbers) → kindUnder form (n .kind) ≡ n .kind → numbersUnder form n ≡ n
-under-same form n e = λ i. numbersFrom (e i) (n .item) (n .minutes) (n .blocks) (n .load) (n .write)
+pub under-same : (heading : ℕ) (n : Numbers) → kindUnder heading (n .kind) ≡ n .kind → numbersUnder heading n ≡ n
+under-same heading n e = λ i. numbersFrom (e i) (n .item) (n .minutes) (n .blocks) (n .load) (n .write)
 
 -- a step that numbers in range under a heading mean may be in its log
-pub step-ranged : (form : ℕ) (n : Numbers) → rangeUnder form n ≡ 0 → ranged form (stepOf (numbersUnder form n)) ≡ true
-step-ranged form n r =
-    let x = numbersUnder form n in
+pub step-ranged : (heading : ℕ) (n : Numbers) → rangeUnder heading n ≡ 0 → ranged heading (stepOf (numbersUnder heading n)) ≡ true
+step-ranged heading n r =
+    let x = numbersUnder heading n in
     let s = stepOf x in
-    let here = kind-kept form n (free-range x r) in
+    let here = kind-kept heading n (free-range x r) in
     let kind : numbersOf s .kind ≡ n .kind = same-kind x (free-range x r) ∙ here in
-    let kept : kindUnder form (numbersOf s .kind) ≡ numbersOf s .kind = ap (kindUnder form) kind ∙ here ∙ sym kind in
-    eq-eqb _ 0 (ap rangeRefusal (under-same form (numbersOf s) kept) ∙ range-means x r)
+    let kept : kindUnder heading (numbersOf s .kind) ≡ numbersOf s .kind = ap (kindUnder heading) kind ∙ here ∙ sym kind in
+    eq-eqb _ 0 (ap rangeRefusal (under-same heading (numbersOf s) kept) ∙ range-means x r)
 
 -- a refusal is no step
 pub no-step : (r : Refusal) (s : Step) → Refused r ≡ StepLine s → ⊥
@@ -459,9 +459,9 @@ five-parts p q r s t e =
     (a .0, a .1, b .1, c .1, d .1)
 
 -- a line that is a step: its fields, and that the step may be in the log
-module _ (form : ℕ) (k f g b l w : Field) (n : ℕ) (s : Step) where
+module _ (heading : ℕ) (k f g b l w : Field) (n : ℕ) (s : Step) where
   abbrev letter : ℕ
-  letter = kindUnder form (valueIn k)
+  letter = kindUnder heading (valueIn k)
 
   abbrev values : Numbers
   values = numbersFrom (valueIn k) (valueIn f) (valueIn g) (valueIn b) (valueIn l) (valueIn w)
@@ -470,8 +470,8 @@ module _ (form : ℕ) (k f g b l w : Field) (n : ℕ) (s : Step) where
       (t : Bool) →
       isLetter k ≡ true →
       stepShape letter f g b l w ≡ true →
-      inRange (numbersUnder form values) ≡ true →
-      k ∷ f ∷ g ∷ lastFields t b l w ≡ fieldsUnder t (numbersUnder form values)
+      inRange (numbersUnder heading values) ≡ true →
+      k ∷ f ∷ g ∷ lastFields t b l w ≡ fieldsUnder t (numbersUnder heading values)
   unfolding stepShape
   shaped-fields t a h r =
       let named = not (eqb letter 76) in
@@ -479,39 +479,39 @@ module _ (form : ℕ) (k f g b l w : Field) (n : ℕ) (s : Step) where
       let new = eqb letter 65 in
       let due =
       five-parts (isDue true named f) (isDue true timed g) (isDue true new b) (isDue true new l) (isDue true new w)
-      (rw (range-known (numbersUnder form values) r) at h) in
-      let kind : k ≡ Letter letter = letter-is k a ∙ ap Letter (sym (kind-kept form values r)) in
+      (rw (range-known (numbersUnder heading values) r) at h) in
+      let kind : k ≡ Letter letter = letter-is k a ∙ ap Letter (sym (kind-kept heading values r)) in
       (λ i. kind i ∷ due-shown named f (due .0) i ∷ due-shown timed g (due .1) i
       ∷ lastFields t (due-shown new b (due .2) i) (due-shown new l (due .3) i) (due-shown new w (due .4) i))
 
-  line-step : (t : Bool) → stepLine form k f g b l w n ≡ StepLine s → (k ∷ f ∷ g ∷ lastFields t b l w ≡ fieldsUnder t (numbersOf s)) × (ranged form s ≡ true)
+  line-step : (t : Bool) → stepLine heading k f g b l w n ≡ StepLine s → (k ∷ f ∷ g ∷ lastFields t b l w ≡ fieldsUnder t (numbersOf s)) × (ranged heading s ≡ true)
   unfolding stepLine
   line-step t e =
-      go (isLetter k) (stepShape letter f g b l w) (eqb (rangeUnder form values) 0) refl refl refl e
+      go (isLetter k) (stepShape letter f g b l w) (eqb (rangeUnder heading values) 0) refl refl refl e
     where
       go :
           (p q r : Bool) →
           isLetter k ≡ p →
           stepShape letter f g b l w ≡ q →
-          eqb (rangeUnder form values) 0 ≡ r →
-          cond (p && q) (cond r (StepLine (stepOf (numbersUnder form values))) (Refused (refusalFrom (telling (rangeUnder form values) n 0)))) (Refused (Malformed n))
+          eqb (rangeUnder heading values) 0 ≡ r →
+          cond (p && q) (cond r (StepLine (stepOf (numbersUnder heading values))) (Refused (refusalFrom (telling (rangeUnder heading values) n 0)))) (Refused (Malformed n))
           ≡ StepLine s →
-          (k ∷ f ∷ g ∷ lastFields t b l w ≡ fieldsUnder t (numbersOf s)) × (ranged form s ≡ true)
+          (k ∷ f ∷ g ∷ lastFields t b l w ≡ fieldsUnder t (numbersOf s)) × (ranged heading s ≡ true)
       go true true true ep eq er e =
-          let same : stepOf (numbersUnder form values) ≡ s = cc in
-          let free = eqb-true (rangeUnder form values) 0 er in
-          let near = free-range (numbersUnder form values) free in (
-            shaped-fields t ep eq near ∙ same-fields t (numbersUnder form values) near ∙ ap (λ (x : Step). fieldsUnder t (numbersOf x)) same,
-            ap (ranged form) (sym same) ∙ step-ranged form values free,
+          let same : stepOf (numbersUnder heading values) ≡ s = cc in
+          let free = eqb-true (rangeUnder heading values) 0 er in
+          let near = free-range (numbersUnder heading values) free in (
+            shaped-fields t ep eq near ∙ same-fields t (numbersUnder heading values) near ∙ ap (λ (x : Step). fieldsUnder t (numbersOf x)) same,
+            ap (ranged heading) (sym same) ∙ step-ranged heading values free,
           )
       go true true false ep eq er e = absurd (no-step _ s e)
       go true false r ep eq er e = absurd (no-step _ s e)
       go false q r ep eq er e = absurd (no-step _ s e)
 
 step-fields :
-    (form : ℕ) (fs : List Field) (n : ℕ) (s : Step) → lineIn 2 form fs n ≡ StepLine s → (fs ≡ stepFields form s) × (ranged form s ≡ true)
+    (heading : ℕ) (fs : List Field) (n : ℕ) (s : Step) → lineIn 2 heading fs n ≡ StepLine s → (fs ≡ stepFields heading s) × (ranged heading s ≡ true)
 unfolding lineIn valuesIn
-step-fields form fs n s e = go (eqb (length fs) (namesIn 2 form) && noneEmpty fs) refl e
+step-fields heading fs n s e = go (eqb (length fs) (namesIn 2 heading) && noneEmpty fs) refl e
   where
     three : (fs : List Field) → length fs ≡ 3 → fs ≡ fieldAt fs 0 ∷ fieldAt fs 1 ∷ fieldAt fs 2 ∷ []
     three [] h = absurd (omega arith)
@@ -534,45 +534,45 @@ step-fields form fs n s e = go (eqb (length fs) (namesIn 2 form) && noneEmpty fs
         six-more (b ∷ c ∷ d ∷ f ∷ g ∷ x ∷ gs) h = absurd (omega arith)
 
     values : ℕ → Field
-    values j = valueField form (fieldAt fs j)
+    values j = valueField heading (fieldAt fs j)
 
     -- the fields that there are, by the heading
-    all : (t : Bool) → eqb form 1 ≡ t → length fs ≡ namesIn 2 form → fs ≡ fieldAt fs 0 ∷ fieldAt fs 1 ∷ fieldAt fs 2 ∷ lastFields t (values 3) (values 4) (values 5)
-    all true e h = rw e (six fs (omega (arith, names-values 2 form refl (eqb-true form 1 e))))
-    all false e h = three fs (omega (arith, names-2 2 form refl (eqb-false form 1 e)))
+    all : (t : Bool) → eqb heading 1 ≡ t → length fs ≡ namesIn 2 heading → fs ≡ fieldAt fs 0 ∷ fieldAt fs 1 ∷ fieldAt fs 2 ∷ lastFields t (values 3) (values 4) (values 5)
+    all true e h = rw e (six fs (omega (arith, names-values 2 heading refl (eqb-true heading 1 e))))
+    all false e h = three fs (omega (arith, names-2 2 heading refl (eqb-false heading 1 e)))
 
     go :
         (t : Bool) →
-        (eqb (length fs) (namesIn 2 form) && noneEmpty fs) ≡ t →
-        cond t (stepLine form (fieldAt fs 0) (fieldAt fs 1) (fieldAt fs 2) (values 3) (values 4) (values 5) n) (Refused (Malformed n)) ≡ StepLine s →
-        (fs ≡ stepFields form s) × (ranged form s ≡ true)
+        (eqb (length fs) (namesIn 2 heading) && noneEmpty fs) ≡ t →
+        cond t (stepLine heading (fieldAt fs 0) (fieldAt fs 1) (fieldAt fs 2) (values 3) (values 4) (values 5) n) (Refused (Malformed n)) ≡ StepLine s →
+        (fs ≡ stepFields heading s) × (ranged heading s ≡ true)
     go true h e =
-        let count = eqb-true (length fs) (namesIn 2 form) (and-parts (eqb (length fs) (namesIn 2 form)) (noneEmpty fs) h .0) in
-        let line = line-step form (fieldAt fs 0) (fieldAt fs 1) (fieldAt fs 2) (values 3) (values 4) (values 5) n s (eqb form 1) e in
-        (all (eqb form 1) refl count ∙ line .0, line .1)
+        let count = eqb-true (length fs) (namesIn 2 heading) (and-parts (eqb (length fs) (namesIn 2 heading)) (noneEmpty fs) h .0) in
+        let line = line-step heading (fieldAt fs 0) (fieldAt fs 1) (fieldAt fs 2) (values 3) (values 4) (values 5) n s (eqb heading 1) e in
+        (all (eqb heading 1) refl count ∙ line .0, line .1)
     go false h e = absurd (no-step (Malformed n) s e)
 
 -- ## A step's text
 
 pub step-written :
-    (form : ℕ) (l : List ℕ) (n : ℕ) (s : Step) →
-    lineIn 2 form (fieldsOf l) n ≡ StepLine s →
-    (stepText form s ≡ l ++ (10 ∷ [])) × (ranged form s ≡ true)
-step-written form l n s e =
-    let line-is = step-fields form (fieldsOf l) n s e in
-    let fields : fieldsOf l ≡ stepFields form s = line-is .0 in
-    let pieces : map fieldText (fieldsOf l) ≡ split 32 l = pieces-text (split 32 l) (rw fields (fields-plain (eqb form 1) (numbersOf s))) in
-    let line : lineOf form s ≡ l =
+    (heading : ℕ) (l : List ℕ) (n : ℕ) (s : Step) →
+    lineIn 2 heading (fieldsOf l) n ≡ StepLine s →
+    (stepText heading s ≡ l ++ (10 ∷ [])) × (ranged heading s ≡ true)
+step-written heading l n s e =
+    let line-is = step-fields heading (fieldsOf l) n s e in
+    let fields : fieldsOf l ≡ stepFields heading s = line-is .0 in
+    let pieces : map fieldText (fieldsOf l) ≡ split 32 l = pieces-text (split 32 l) (rw fields (fields-plain (eqb heading 1) (numbersOf s))) in
+    let line : lineOf heading s ≡ l =
     ap (λ (fs : List Field). joined 32 (map fieldText fs)) (sym fields) ∙ ap (joined 32) pieces ∙ join-split 32 l in
-    (step-line form s (line-is .1) ∙ ap (λ (t : List ℕ). t ++ (10 ∷ [])) line, line-is .1)
+    (step-line heading s (line-is .1) ∙ ap (λ (t : List ℕ). t ++ (10 ∷ [])) line, line-is .1)
 
 pub step-reads :
-    (form : ℕ) (l : List ℕ) (n : ℕ) (s : Step) →
-    ranged form s ≡ true →
-    stepText form s ≡ l ++ (10 ∷ []) →
-    lineIn 2 form (fieldsOf l) n ≡ StepLine s
-step-reads form l n s r e =
-    let line : l ≡ lineOf form s = append-cancel-right l (lineOf form s) (10 ∷ []) (sym e ∙ step-line form s r) in
-    ap (λ (t : List ℕ). lineIn 2 form (fieldsOf t) n) line
-    ∙ ap (λ (fs : List Field). lineIn 2 form fs n) (line-fields form s)
-    ∙ fields-step form s n r
+    (heading : ℕ) (l : List ℕ) (n : ℕ) (s : Step) →
+    ranged heading s ≡ true →
+    stepText heading s ≡ l ++ (10 ∷ []) →
+    lineIn 2 heading (fieldsOf l) n ≡ StepLine s
+step-reads heading l n s r e =
+    let line : l ≡ lineOf heading s = append-cancel-right l (lineOf heading s) (10 ∷ []) (sym e ∙ step-line heading s r) in
+    ap (λ (t : List ℕ). lineIn 2 heading (fieldsOf t) n) line
+    ∙ ap (λ (fs : List Field). lineIn 2 heading fs n) (line-fields heading s)
+    ∙ fields-step heading s n r

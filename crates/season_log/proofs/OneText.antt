@@ -27,9 +27,9 @@ use Rattle.landlord.proofs.Ranges.{item-facts}
 use Rattle.season_lines.specs.declared.Line.{Line}
 use Rattle.season_lines.specs.declared.Line.the-variants.{Sizes, Item as ItemLine, Step as StepLine, Act as ActLine, Refused}
 use Rattle.season_lines.specs.declared.Names.{Names}
-use Rattle.season_lines.specs.declared.Names.the-variants.{Form, Unknown}
+use Rattle.season_lines.specs.declared.Names.the-variants.{Known, Unknown}
 use Rattle.line_fields.specs.Fields.{split, fieldsOf}
-use Rattle.season_lines.specs.Lines.{headings, headingOf, formAmong, formOf, numbersUnder, rangeUnder, lineIn}
+use Rattle.season_lines.specs.Lines.{headings, headingText, headingAmong, headingOf, numbersUnder, rangeUnder, lineIn}
 use Rattle.line_fields.proofs.Laws.{and-parts}
 use Rattle.season_lines.proofs.Laws.{both-yes}
 use Rattle.line_fields.proofs.Pieces.{split-some}
@@ -40,129 +40,129 @@ use Rattle.season_log.proofs.Lines.{lacks, joined, split-first, join-sp
 -- ## Steps one behind the other
 
 pub onward-none : (rest : Logged) → onward [] rest ≡ rest
-onward-none (steps form ss) = refl
+onward-none (steps heading ss) = refl
 onward-none (fault r) = refl
 
 pub onward-more : (ss : List Step) (s : Step) (rest : Logged) → onward (ss ++ (s ∷ [])) rest ≡ onward ss (ahead s rest)
-onward-more ss s (steps form rest) = ap (steps form) (append-snoc ss s rest)
+onward-more ss s (steps heading rest) = ap (steps heading) (append-snoc ss s rest)
 onward-more ss s (fault r) = refl
 
 -- ## What is written is read
 
 -- the first line of some, and what follows it
 pub lines-first :
-    (form n : ℕ) (l t : List ℕ) →
-    readLines form n (l ∷ split 10 t) ≡ follows (lineIn 2 form (fieldsOf l) n) (readLines form (suc n) (split 10 t))
+    (heading n : ℕ) (l t : List ℕ) →
+    readLines heading n (l ∷ split 10 t) ≡ follows (lineIn 2 heading (fieldsOf l) n) (readLines heading (suc n) (split 10 t))
 unfolding readLines
-lines-first form n l t = rw (split-some 10 t .1)
+lines-first heading n l t = rw (split-some 10 t .1)
 
-pub table-first : (l t : List ℕ) → readTable (l ∷ split 10 t) ≡ headed (formOf 2 l) (split 10 t)
+pub table-first : (l t : List ℕ) → readTable (l ∷ split 10 t) ≡ headed (headingOf 2 l) (split 10 t)
 unfolding readTable
 table-first l t = rw (split-some 10 t .1)
 
-split-step : (form : ℕ) (s : Step) (t : List ℕ) → ranged form s ≡ true → split 10 (stepText form s ++ t) ≡ lineOf form s ∷ split 10 t
-split-step form s t r =
-    ap (λ (l : List ℕ). split 10 (l ++ t)) (step-line form s r)
-    ∙ ap (split 10) (append-assoc (lineOf form s) (10 ∷ []) t)
-    ∙ split-first 10 (lineOf form s) t (line-lacks form s)
+split-step : (heading : ℕ) (s : Step) (t : List ℕ) → ranged heading s ≡ true → split 10 (stepText heading s ++ t) ≡ lineOf heading s ∷ split 10 t
+split-step heading s t r =
+    ap (λ (l : List ℕ). split 10 (l ++ t)) (step-line heading s r)
+    ∙ ap (split 10) (append-assoc (lineOf heading s) (10 ∷ []) t)
+    ∙ split-first 10 (lineOf heading s) t (line-lacks heading s)
 
 -- lines of steps in range, from any line on
-lines-read : (form n : ℕ) (ss : List Step) → stepsInRange form ss ≡ true → readLines form n (split 10 (stepLines form ss)) ≡ steps form ss
+lines-read : (heading n : ℕ) (ss : List Step) → stepsInRange heading ss ≡ true → readLines heading n (split 10 (stepLines heading ss)) ≡ steps heading ss
 unfolding stepsInRange stepLines readLines split
-lines-read form n [] h = refl
-lines-read form n (s ∷ ss) h =
-    let both = and-parts (ranged form s) (stepsInRange form ss) h in
-    ap (readLines form n) (split-step form s (stepLines form ss) (both .0))
-    ∙ lines-first form n (lineOf form s) (stepLines form ss)
-    ∙ (λ i. follows (step-reads form (lineOf form s) n s (both .0) (step-line form s (both .0)) i) (lines-read form (suc n) ss (both .1) i))
+lines-read heading n [] h = refl
+lines-read heading n (s ∷ ss) h =
+    let both = and-parts (ranged heading s) (stepsInRange heading ss) h in
+    ap (readLines heading n) (split-step heading s (stepLines heading ss) (both .0))
+    ∙ lines-first heading n (lineOf heading s) (stepLines heading ss)
+    ∙ (λ i. follows (step-reads heading (lineOf heading s) n s (both .0) (step-line heading s (both .0)) i) (lines-read heading (suc n) ss (both .1) i))
 
 -- a number that is a heading's is 0 or 1
-heading-is : (P : ℕ → Type 0) → P 0 → P 1 → (form : ℕ) → isHeading form ≡ true → P form
+heading-is : (P : ℕ → Type 0) → P 0 → P 1 → (heading : ℕ) → isHeading heading ≡ true → P heading
 heading-is P a b zero h = a
 heading-is P a b (suc zero) h = b
-heading-is P a b (suc (suc form)) h = let l = leb-true (suc (suc form)) 1 h in absurd (omega arith)
+heading-is P a b (suc (suc heading)) h = let l = leb-true (suc (suc heading)) 1 h in absurd (omega arith)
 
 -- a heading has no line feed, and is told by its line
-names-lack : (form : ℕ) → isHeading form ≡ true → lacks 10 (headingOf 2 form) ≡ true
+names-lack : (heading : ℕ) → isHeading heading ≡ true → lacks 10 (headingText 2 heading) ≡ true
 unfolding headings lacks
-names-lack = heading-is (λ f. lacks 10 (headingOf 2 f) ≡ true) refl refl
+names-lack = heading-is (λ f. lacks 10 (headingText 2 f) ≡ true) refl refl
 
-names-form : (form : ℕ) → isHeading form ≡ true → formOf 2 (headingOf 2 form) ≡ Form form
-unfolding formOf formAmong headings sameText
-names-form = heading-is (λ f. formOf 2 (headingOf 2 f) ≡ Form f) refl refl
+names-heading : (heading : ℕ) → isHeading heading ≡ true → headingOf 2 (headingText 2 heading) ≡ Known heading
+unfolding headingOf headingAmong headings sameText
+names-heading = heading-is (λ f. headingOf 2 (headingText 2 f) ≡ Known f) refl refl
 
-log-split : (form : ℕ) (ss : List Step) → isHeading form ≡ true → split 10 (logText form ss) ≡ headingOf 2 form ∷ split 10 (stepLines form ss)
+log-split : (heading : ℕ) (ss : List Step) → isHeading heading ≡ true → split 10 (logText heading ss) ≡ headingText 2 heading ∷ split 10 (stepLines heading ss)
 unfolding logText
-log-split form ss h = split-first 10 (headingOf 2 form) (stepLines form ss) (names-lack form h)
+log-split heading ss h = split-first 10 (headingText 2 heading) (stepLines heading ss) (names-lack heading h)
 
 written-reads :
-    (form : ℕ) (ss : List Step) →
-    isHeading form ≡ true →
-    stepsInRange form ss ≡ true →
-    length (logText form ss) ≤ 65536 →
-    readLog (logText form ss) ≡ steps form ss
+    (heading : ℕ) (ss : List Step) →
+    isHeading heading ≡ true →
+    stepsInRange heading ss ≡ true →
+    length (logText heading ss) ≤ 65536 →
+    readLog (logText heading ss) ≡ steps heading ss
 unfolding readLog
-written-reads form ss h r few =
-    rw (le-leb (length (logText form ss)) 65536 few)
-    (ap readTable (log-split form ss h)
-    ∙ table-first (headingOf 2 form) (stepLines form ss)
-    ∙ ap (λ (x : Names). headed x (split 10 (stepLines form ss))) (names-form form h)
-    ∙ lines-read form 2 ss r)
+written-reads heading ss h r few =
+    rw (le-leb (length (logText heading ss)) 65536 few)
+    (ap readTable (log-split heading ss h)
+    ∙ table-first (headingText 2 heading) (stepLines heading ss)
+    ∙ ap (λ (x : Names). headed x (split 10 (stepLines heading ss))) (names-heading heading h)
+    ∙ lines-read heading 2 ss r)
 
 -- ## What is read is written
 
-no-steps : (r : Refusal) (form : ℕ) (ss : List Step) → fault r ≡ steps form ss → ⊥
-no-steps r form ss e = let z : _≡_ {A = ℕ} 0 1 = cc in omega arith
+no-steps : (r : Refusal) (heading : ℕ) (ss : List Step) → fault r ≡ steps heading ss → ⊥
+no-steps r heading ss e = let z : _≡_ {A = ℕ} 0 1 = cc in omega arith
 
 -- lines, each two with a line feed between them, that are the lines of steps in range under a heading, and were read under it
 abbrev Written : ℕ → List (List ℕ) → ℕ → List Step → Type 0
-Written form ls read ss = (stepLines form ss ≡ joined 10 ls) × (stepsInRange form ss ≡ true) × (form ≡ read)
+Written heading ls read ss = (stepLines heading ss ≡ joined 10 ls) × (stepsInRange heading ss ≡ true) × (heading ≡ read)
 
-none-written : (form : ℕ) (l : List ℕ) (f : ℕ) (ss : List Step) → length l ≡ 0 → steps form [] ≡ steps f ss → Written form (l ∷ []) f ss
+none-written : (heading : ℕ) (l : List ℕ) (f : ℕ) (ss : List Step) → length l ≡ 0 → steps heading [] ≡ steps f ss → Written heading (l ∷ []) f ss
 unfolding joined stepLines stepsInRange
-none-written form [] f ss h e =
+none-written heading [] f ss h e =
     let same : [] ≡ ss = cc in
-    let named : form ≡ f = cc in
+    let named : heading ≡ f = cc in
     rw (← same) (refl, refl, named)
-none-written form (x ∷ l) f ss h e = absurd (omega arith)
+none-written heading (x ∷ l) f ss h e = absurd (omega arith)
 
 one-written :
-    (form : ℕ) (l m : List ℕ) (rest : List (List ℕ)) (s : Step) (g : ℕ) (later : List Step) (f : ℕ) (ss : List Step) →
-    (stepText form s ≡ l ++ (10 ∷ [])) × (ranged form s ≡ true) →
-    Written form (m ∷ rest) g later →
+    (heading : ℕ) (l m : List ℕ) (rest : List (List ℕ)) (s : Step) (g : ℕ) (later : List Step) (f : ℕ) (ss : List Step) →
+    (stepText heading s ≡ l ++ (10 ∷ [])) × (ranged heading s ≡ true) →
+    Written heading (m ∷ rest) g later →
     steps g (s ∷ later) ≡ steps f ss →
-    Written form (l ∷ m ∷ rest) f ss
+    Written heading (l ∷ m ∷ rest) f ss
 unfolding joined stepLines stepsInRange
-one-written form l m rest s g later f ss a w e =
+one-written heading l m rest s g later f ss a w e =
     let same : s ∷ later ≡ ss = cc in
     let named : g ≡ f = cc in
-    let text : stepText form s ++ stepLines form later ≡ l ++ (10 ∷ joined 10 (m ∷ rest)) =
+    let text : stepText heading s ++ stepLines heading later ≡ l ++ (10 ∷ joined 10 (m ∷ rest)) =
     (λ i. a .0 i ++ w .0 i) ∙ append-assoc l (10 ∷ []) (joined 10 (m ∷ rest)) in
-    rw (← same) (text, both-yes (ranged form s) (stepsInRange form later) (a .1) (w .1), w .2 ∙ named)
+    rw (← same) (text, both-yes (ranged heading s) (stepsInRange heading later) (a .1) (w .1), w .2 ∙ named)
 
-lines-written : (form n : ℕ) (ls : List (List ℕ)) (f : ℕ) (ss : List Step) → readLines form n ls ≡ steps f ss → Written form ls f ss
+lines-written : (heading n : ℕ) (ls : List (List ℕ)) (f : ℕ) (ss : List Step) → readLines heading n ls ≡ steps f ss → Written heading ls f ss
 unfolding readLines
-lines-written form n [] f ss e =
+lines-written heading n [] f ss e =
     unfold joined stepLines stepsInRange in
     (let same : [] ≡ ss = cc in
-    let named : form ≡ f = cc in
+    let named : heading ≡ f = cc in
     rw (← same) (refl, refl, named))
-lines-written form n (l ∷ []) f ss e = go (eqb (length l) 0) refl e
+lines-written heading n (l ∷ []) f ss e = go (eqb (length l) 0) refl e
   where
-    go : (t : Bool) → eqb (length l) 0 ≡ t → cond t (steps form []) (fault (Malformed n)) ≡ steps f ss → Written form (l ∷ []) f ss
-    go true b e = none-written form l f ss (eqb-true (length l) 0 b) e
+    go : (t : Bool) → eqb (length l) 0 ≡ t → cond t (steps heading []) (fault (Malformed n)) ≡ steps f ss → Written heading (l ∷ []) f ss
+    go true b e = none-written heading l f ss (eqb-true (length l) 0 b) e
     go false b e = absurd (no-steps (Malformed n) f ss e)
-lines-written form n (l ∷ m ∷ rest) f ss e =
-    go (lineIn 2 form (fieldsOf l) n) (readLines form (suc n) (m ∷ rest)) (λ s. step-written form l n s)
-    (λ g later. lines-written form (suc n) (m ∷ rest) g later) e
+lines-written heading n (l ∷ m ∷ rest) f ss e =
+    go (lineIn 2 heading (fieldsOf l) n) (readLines heading (suc n) (m ∷ rest)) (λ s. step-written heading l n s)
+    (λ g later. lines-written heading (suc n) (m ∷ rest) g later) e
   where
     go :
         (line : Line) (below : Logged) →
-        ((s : Step) → line ≡ StepLine s → (stepText form s ≡ l ++ (10 ∷ [])) × (ranged form s ≡ true)) →
-        ((g : ℕ) (later : List Step) → below ≡ steps g later → Written form (m ∷ rest) g later) →
+        ((s : Step) → line ≡ StepLine s → (stepText heading s ≡ l ++ (10 ∷ [])) × (ranged heading s ≡ true)) →
+        ((g : ℕ) (later : List Step) → below ≡ steps g later → Written heading (m ∷ rest) g later) →
         follows line below ≡ steps f ss →
-        Written form (l ∷ m ∷ rest) f ss
-    go (StepLine s) (steps g later) a b e = one-written form l m rest s g later f ss (a s refl) (b g later refl) e
+        Written heading (l ∷ m ∷ rest) f ss
+    go (StepLine s) (steps g later) a b e = one-written heading l m rest s g later f ss (a s refl) (b g later refl) e
     go (StepLine s) (fault r) a b e = absurd (no-steps r f ss e)
     go (Refused r) below a b e = absurd (no-steps r f ss e)
     go (Sizes k h r) below a b e = absurd (no-steps (Malformed 0) f ss e)
@@ -170,111 +170,111 @@ lines-written form n (l ∷ m ∷ rest) f ss e =
     go (ActLine place act) below a b e = absurd (no-steps (Malformed 0) f ss e)
 
 -- a line that is a heading is that one, word for word
-form-names : (l : List ℕ) (f : ℕ) → formOf 2 l ≡ Form f → (l ≡ headingOf 2 f) × (isHeading f ≡ true)
-unfolding formOf formAmong headings
-form-names l f e = go (sameText l (headingOf 2 0)) (sameText l (headingOf 2 1)) refl refl e
+heading-names : (l : List ℕ) (f : ℕ) → headingOf 2 l ≡ Known f → (l ≡ headingText 2 f) × (isHeading f ≡ true)
+unfolding headingOf headingAmong headings
+heading-names l f e = go (sameText l (headingText 2 0)) (sameText l (headingText 2 1)) refl refl e
   where
-    is : (g : ℕ) → l ≡ headingOf 2 g → isHeading g ≡ true → Form g ≡ Form f → (l ≡ headingOf 2 f) × (isHeading f ≡ true)
-    is g h k e = let same : g ≡ f = cc in (h ∙ ap (headingOf 2) same, ap isHeading (sym same) ∙ k)
+    is : (g : ℕ) → l ≡ headingText 2 g → isHeading g ≡ true → Known g ≡ Known f → (l ≡ headingText 2 f) × (isHeading f ≡ true)
+    is g h k e = let same : g ≡ f = cc in (h ∙ ap (headingText 2) same, ap isHeading (sym same) ∙ k)
 
     go :
         (t u : Bool) →
-        sameText l (headingOf 2 0) ≡ t →
-        sameText l (headingOf 2 1) ≡ u →
-        cond t (Form 0) (cond u (Form 1) Unknown) ≡ Form f →
-        (l ≡ headingOf 2 f) × (isHeading f ≡ true)
-    go true u h k e = is 0 (same-true l (headingOf 2 0) h) refl e
-    go false true h k e = is 1 (same-true l (headingOf 2 1) k) refl e
+        sameText l (headingText 2 0) ≡ t →
+        sameText l (headingText 2 1) ≡ u →
+        cond t (Known 0) (cond u (Known 1) Unknown) ≡ Known f →
+        (l ≡ headingText 2 f) × (isHeading f ≡ true)
+    go true u h k e = is 0 (same-true l (headingText 2 0) h) refl e
+    go false true h k e = is 1 (same-true l (headingText 2 1) k) refl e
     go false false h k e = let z : _≡_ {A = ℕ} 0 1 = cc in absurd (omega arith)
 
 -- what a text that is read is
 abbrev Read-is : List ℕ → ℕ → List Step → Type 0
-Read-is s form ss = (logText form ss ≡ s) × (isHeading form ≡ true) × (stepsInRange form ss ≡ true)
+Read-is s heading ss = (logText heading ss ≡ s) × (isHeading heading ≡ true) × (stepsInRange heading ss ≡ true)
 
-table-written : (ls : List (List ℕ)) (form : ℕ) (ss : List Step) → readTable ls ≡ steps form ss → Read-is (joined 10 ls) form ss
+table-written : (ls : List (List ℕ)) (heading : ℕ) (ss : List Step) → readTable ls ≡ steps heading ss → Read-is (joined 10 ls) heading ss
 unfolding readTable
-table-written [] form ss e = absurd (no-steps (Heading 1) form ss e)
-table-written (l ∷ []) form ss e = absurd (no-steps _ form ss e)
-table-written (l ∷ m ∷ rest) form ss e = go (formOf 2 l) refl e
+table-written [] heading ss e = absurd (no-steps (Heading 1) heading ss e)
+table-written (l ∷ []) heading ss e = absurd (no-steps _ heading ss e)
+table-written (l ∷ m ∷ rest) heading ss e = go (headingOf 2 l) refl e
   where
-    below : (f : ℕ) → (l ≡ headingOf 2 f) × (isHeading f ≡ true) → Written f (m ∷ rest) form ss → Read-is (joined 10 (l ∷ m ∷ rest)) form ss
+    below : (f : ℕ) → (l ≡ headingText 2 f) × (isHeading f ≡ true) → Written f (m ∷ rest) heading ss → Read-is (joined 10 (l ∷ m ∷ rest)) heading ss
     below f a w =
         unfold logText joined in
         (rw (← (w .2)) ((λ i. sym (a .0) i ++ (10 ∷ w .0 i)), a .1, w .1))
 
-    go : (x : Names) → formOf 2 l ≡ x → headed x (m ∷ rest) ≡ steps form ss → Read-is (joined 10 (l ∷ m ∷ rest)) form ss
-    go (Form f) h e = below f (form-names l f h) (lines-written f 2 (m ∷ rest) form ss e)
-    go Unknown h e = absurd (no-steps (Heading 1) form ss e)
+    go : (x : Names) → headingOf 2 l ≡ x → headed x (m ∷ rest) ≡ steps heading ss → Read-is (joined 10 (l ∷ m ∷ rest)) heading ss
+    go (Known f) h e = below f (heading-names l f h) (lines-written f 2 (m ∷ rest) heading ss e)
+    go Unknown h e = absurd (no-steps (Heading 1) heading ss e)
 
-reads-written : (s : List ℕ) (form : ℕ) (ss : List Step) → readLog s ≡ steps form ss → Read-is s form ss
+reads-written : (s : List ℕ) (heading : ℕ) (ss : List Step) → readLog s ≡ steps heading ss → Read-is s heading ss
 unfolding readLog
-reads-written s form ss e = go (leb (length s) 65536) e
+reads-written s heading ss e = go (leb (length s) 65536) e
   where
-    go : (t : Bool) → cond t (readTable (split 10 s)) (fault (InputTooLong 0)) ≡ steps form ss → Read-is s form ss
+    go : (t : Bool) → cond t (readTable (split 10 s)) (fault (InputTooLong 0)) ≡ steps heading ss → Read-is s heading ss
     go true e =
-        let w = table-written (split 10 s) form ss e in
+        let w = table-written (split 10 s) heading ss e in
         (w .0 ∙ join-split 10 s, w .1, w .2)
-    go false e = absurd (no-steps (InputTooLong 0) form ss e)
+    go false e = absurd (no-steps (InputTooLong 0) heading ss e)
 
 -- ## Steps as they are lent
 
 listed-ranged :
-    (form m n : ℕ) (list : List ℕ) (f : ℕ) (ss : List Step) → listedFrom form m n list ≡ steps f ss → (f ≡ form) × (stepsInRange form ss ≡ true)
+    (heading m n : ℕ) (list : List ℕ) (f : ℕ) (ss : List Step) → listedFrom heading m n list ≡ steps f ss → (f ≡ heading) × (stepsInRange heading ss ≡ true)
 unfolding listedFrom stepsInRange
-listed-ranged form zero n list f ss e = go (eqb (length list) 0) e
+listed-ranged heading zero n list f ss e = go (eqb (length list) 0) e
   where
-    go : (t : Bool) → cond t (steps form []) (fault (OutOfRange (toldLine n))) ≡ steps f ss → (f ≡ form) × (stepsInRange form ss ≡ true)
+    go : (t : Bool) → cond t (steps heading []) (fault (OutOfRange (toldLine n))) ≡ steps f ss → (f ≡ heading) × (stepsInRange heading ss ≡ true)
     go true e =
         let same : [] ≡ ss = cc in
-        let named : form ≡ f = cc in
+        let named : heading ≡ f = cc in
         (sym named, rw (← same) refl)
     go false e = absurd (no-steps (OutOfRange (toldLine n)) f ss e)
-listed-ranged form (suc m) n list f ss e =
-    go (eqb (rangeUnder form numbers) 0) (listedFrom form m (suc n) (drop 24 list)) refl
-    (λ g later. listed-ranged form m (suc n) (drop 24 list) g later) e
+listed-ranged heading (suc m) n list f ss e =
+    go (eqb (rangeUnder heading numbers) 0) (listedFrom heading m (suc n) (drop 24 list)) refl
+    (λ g later. listed-ranged heading m (suc n) (drop 24 list) g later) e
   where
     numbers : Numbers
     numbers = listNumbers 0 list
 
     step : Step
-    step = stepOf (numbersUnder form numbers)
+    step = stepOf (numbersUnder heading numbers)
 
     no : Refusal
-    no = refusalFrom (telling (rangeUnder form numbers) (toldLine n) 0)
+    no = refusalFrom (telling (rangeUnder heading numbers) (toldLine n) 0)
 
     go :
         (t : Bool) (below : Logged) →
-        eqb (rangeUnder form numbers) 0 ≡ t →
-        ((g : ℕ) (later : List Step) → below ≡ steps g later → (g ≡ form) × (stepsInRange form later ≡ true)) →
+        eqb (rangeUnder heading numbers) 0 ≡ t →
+        ((g : ℕ) (later : List Step) → below ≡ steps g later → (g ≡ heading) × (stepsInRange heading later ≡ true)) →
         cond t (ahead step below) (fault no) ≡ steps f ss →
-        (f ≡ form) × (stepsInRange form ss ≡ true)
+        (f ≡ heading) × (stepsInRange heading ss ≡ true)
     go true (steps g later) r a e =
         let same : step ∷ later ≡ ss = cc in
         let named : g ≡ f = cc in
         let rest = a g later refl in
-        (sym named ∙ rest .0, rw (← same) (both-yes _ _ (step-ranged form numbers (eqb-true _ 0 r)) (rest .1)))
+        (sym named ∙ rest .0, rw (← same) (both-yes _ _ (step-ranged heading numbers (eqb-true _ 0 r)) (rest .1)))
     go true (fault q) r a e = absurd (no-steps q f ss e)
     go false below r a e = absurd (no-steps no f ss e)
 
 listed-in-range :
-    (told : ℕ) (list : List ℕ) (form : ℕ) (ss : List Step) →
-    listed told list ≡ steps form ss →
-    (form ≡ told) × (isHeading form ≡ true) × (stepsInRange form ss ≡ true)
-listed-in-range told list form ss e = go (isHeading told) refl e
+    (told : ℕ) (list : List ℕ) (heading : ℕ) (ss : List Step) →
+    listed told list ≡ steps heading ss →
+    (heading ≡ told) × (isHeading heading ≡ true) × (stepsInRange heading ss ≡ true)
+listed-in-range told list heading ss e = go (isHeading told) refl e
   where
     go :
         (t : Bool) →
         isHeading told ≡ t →
-        cond t (listedUnder told list) (fault (OutOfRange 1)) ≡ steps form ss →
-        (form ≡ told) × (isHeading form ≡ true) × (stepsInRange form ss ≡ true)
+        cond t (listedUnder told list) (fault (OutOfRange 1)) ≡ steps heading ss →
+        (heading ≡ told) × (isHeading heading ≡ true) × (stepsInRange heading ss ≡ true)
     go true h e =
-        let w = listed-ranged told (length list / 24) 2 list form ss e in
+        let w = listed-ranged told (length list / 24) 2 list heading ss e in
         (w .0, ap isHeading (w .0) ∙ h, ap (λ (f : ℕ). stepsInRange f ss) (w .0) ∙ w .1)
-    go false h e = absurd (no-steps (OutOfRange 1) form ss e)
+    go false h e = absurd (no-steps (OutOfRange 1) heading ss e)
 
 -- a heading keeps the numbers of a step that its log may have
-under-kept : (form : ℕ) (s : Step) → ranged form s ≡ true → numbersUnder form (numbersOf s) ≡ numbersOf s
-under-kept form s r = under-same form (numbersOf s) (kind-kept form (numbersOf s) (ranged-in form s r))
+under-kept : (heading : ℕ) (s : Step) → ranged heading s ≡ true → numbersUnder heading (numbersOf s) ≡ numbersOf s
+under-kept heading s r = under-same heading (numbersOf s) (kind-kept heading (numbersOf s) (ranged-in heading s r))
 
 -- the numbers of a step in range are small
 pub record Small (n : Numbers) : Type 0 where
@@ -285,8 +285,8 @@ pub record Small (n : Numbers) : Type 0 where
   pub load : n .load ≤ 65535
   pub write : n .write ≤ 65535
 
-pub step-small : (form : ℕ) (s : Step) → ranged form s ≡ true → Small (numbersOf s)
-step-small form s r = go s (sym (ap inRange (under-kept form s r)) ∙ ranged-in form s r)
+pub step-small : (heading : ℕ) (s : Step) → ranged heading s ≡ true → Small (numbersOf s)
+step-small heading s r = go s (sym (ap inRange (under-kept heading s r)) ∙ ranged-in heading s r)
   where
     go : (s : Step) → inRange (numbersOf s) ≡ true → Small (numbersOf s)
     go (Read i) r =
@@ -361,28 +361,28 @@ unfolding listOf
 length-list [] = refl
 length-list (s ∷ ss) = omega (arith, onto-length (numbersOf s) (listOf ss), length-list ss)
 
-list-read : (form n : ℕ) (ss : List Step) → stepsInRange form ss ≡ true → listedFrom form (length ss) n (listOf ss) ≡ steps form ss
+list-read : (heading n : ℕ) (ss : List Step) → stepsInRange heading ss ≡ true → listedFrom heading (length ss) n (listOf ss) ≡ steps heading ss
 unfolding listedFrom listOf stepsInRange
-list-read form n [] h = refl
-list-read form n (s ∷ ss) h =
-    let both = and-parts (ranged form s) (stepsInRange form ss) h in
+list-read heading n [] h = refl
+list-read heading n (s ∷ ss) h =
+    let both = and-parts (ranged heading s) (stepsInRange heading ss) h in
     let r = both .0 in
     let rest = listOf ss in
     let x = numbersOf s in
-    let here : listNumbers 0 (numbersOnto x rest) ≡ x = numbers-at x rest (step-small form s r) in
-    let means : stepOf (numbersUnder form x) ≡ s = ap stepOf (under-kept form s r) ∙ same-step s in
-    (λ i. next (here i) (past-numbers x rest i)) ∙ (rw (r, means, list-read form (suc n) ss (both .1)))
+    let here : listNumbers 0 (numbersOnto x rest) ≡ x = numbers-at x rest (step-small heading s r) in
+    let means : stepOf (numbersUnder heading x) ≡ s = ap stepOf (under-kept heading s r) ∙ same-step s in
+    (λ i. next (here i) (past-numbers x rest i)) ∙ (rw (r, means, list-read heading (suc n) ss (both .1)))
   where
     -- a step of these numbers, and the rest of the list
     next : Numbers → List ℕ → Logged
     next m l =
-        cond (eqb (rangeUnder form m) 0) (ahead (stepOf (numbersUnder form m)) (listedFrom form (length ss) (suc n) l))
-        (fault (refusalFrom (telling (rangeUnder form m) (toldLine n) 0)))
+        cond (eqb (rangeUnder heading m) 0) (ahead (stepOf (numbersUnder heading m)) (listedFrom heading (length ss) (suc n) l))
+        (fault (refusalFrom (telling (rangeUnder heading m) (toldLine n) 0)))
 
-list-reads : (form : ℕ) (ss : List Step) → isHeading form ≡ true → stepsInRange form ss ≡ true → listed form (listOf ss) ≡ steps form ss
-list-reads form ss h r =
+list-reads : (heading : ℕ) (ss : List Step) → isHeading heading ≡ true → stepsInRange heading ss ≡ true → listed heading (listOf ss) ≡ steps heading ss
+list-reads heading ss h r =
     let count : length (listOf ss) / 24 ≡ length ss = omega (arith, length-list ss) in
-    rw (h, count) (list-read form 2 ss r)
+    rw (h, count) (list-read heading 2 ss r)
 
 pub one-text : OneText
 one-text = record { writtenReads = written-reads; readsWritten = reads-written; listedInRange = listed-in-range; listReads = list-reads }

@@ -29,7 +29,7 @@ use Rattle.landlord.specs.Catalog.{listed as itemListed}
 use Rattle.landlord.specs.Steps.{inRange, rangeRefusal}
 use Rattle.landlord.proofs.Ranges.{item-facts, range-write, range-arrive, range-wide}
 use Rattle.landlord.proofs.Steps.{free-range}
-use Rattle.season_lines.specs.Lines.{headings, headingOf, kindUnder, numbersUnder, rangeUnder}
+use Rattle.season_lines.specs.Lines.{headings, headingText, kindUnder, numbersUnder, rangeUnder}
 use Rattle.season_log.specs.declared.LogAnswer.{LogAnswer}
 use Rattle.season_log.specs.declared.LogAnswer.the-variants.{Count, Refused as Not}
 use Rattle.season_log.specs.Log.{Logged, steps, fault, ahead, noValues, stepText, stepLines, logText, listNumber, listNumbers, toldLine, listedFrom, listedUnder, listed, writeAnswer, writtenPage}
@@ -55,10 +55,10 @@ arrives n e r =
 
 -- what else is in range is a read or a retirement, and their lines differ by their letter
 pub named-step :
-    (form : ℕ) (n : Numbers) → n .kind ≢ 76 → n .kind ≢ 87 → n .kind ≢ 65 → inRange n ≡ true → namedText form (n .kind) (n .item) ≡ stepText form (stepOf n)
+    (heading : ℕ) (n : Numbers) → n .kind ≢ 76 → n .kind ≢ 87 → n .kind ≢ 65 → inRange n ≡ true → namedText heading (n .kind) (n .item) ≡ stepText heading (stepOf n)
 unfolding stepText
-named-step form n l w a r =
-    by-kind (λ m. namedText form (m .kind) (m .item) ≡ stepText form (stepOf m)) n r
+named-step heading n l w a r =
+    by-kind (λ m. namedText heading (m .kind) (m .item) ≡ stepText heading (stepOf m)) n r
     (λ e. rw (step-read n e, e)) (λ e. absurd (w e)) (λ e. absurd (a e)) (λ e. rw (step-retire n e, e)) (λ e. absurd (l e))
 
 pub named-letter : (n : Numbers) → inRange n ≡ true → n .kind ≤ 87
@@ -67,48 +67,48 @@ named-letter n r = by-kind (λ m. m .kind ≤ 87) n r (λ e. omega arith) (λ e.
 -- ## Numbers under a heading
 
 -- every kind but A and Q is kept
-pub old-kind : (form k : ℕ) → (eqb k 65 || eqb k 81) ≡ false → kindUnder form k ≡ k
-old-kind form k e = rw e (go (eqb form 1))
+pub old-kind : (heading k : ℕ) → (eqb k 65 || eqb k 81) ≡ false → kindUnder heading k ≡ k
+old-kind heading k e = rw e (go (eqb heading 1))
   where
     go : (t : Bool) → cond t k k ≡ k
     go true = refl
     go false = refl
 
 -- so a landing is kept
-pub flush-kept : (form : ℕ) (n : Numbers) → n .kind ≡ 76 → n ≡ numbersUnder form n
-flush-kept form n e = sym (under-same form n (old-kind form (n .kind) (rw e)))
+pub flush-kept : (heading : ℕ) (n : Numbers) → n .kind ≡ 76 → n ≡ numbersUnder heading n
+flush-kept heading n e = sym (under-same heading n (old-kind heading (n .kind) (rw e)))
 
 -- numbers in range under a heading are so as they are
-pub kept : (form : ℕ) (n : Numbers) → rangeUnder form n ≡ 0 → (numbersUnder form n ≡ n) × (inRange n ≡ true)
-kept form n r =
-    let near = free-range (numbersUnder form n) r in
-    let e = under-same form n (kind-kept form n near) in
+pub kept : (heading : ℕ) (n : Numbers) → rangeUnder heading n ≡ 0 → (numbersUnder heading n ≡ n) × (inRange n ≡ true)
+kept heading n r =
+    let near = free-range (numbersUnder heading n) r in
+    let e = under-same heading n (kind-kept heading n near) in
     (e, ap inRange (sym e) ∙ near)
 
 -- ## The line of a step
 
 -- how many bytes it has, by its kind
-module _ (form : ℕ) (n : Numbers) where
-  pub arrive-line : n .kind ≡ 65 → length (arrivalText n) ≡ length (stepText form (stepOf n))
+module _ (heading : ℕ) (n : Numbers) where
+  pub arrive-line : n .kind ≡ 65 → length (arrivalText n) ≡ length (stepText heading (stepOf n))
   unfolding stepText
-  arrive-line e = ap (λ (s : Step). length (stepText form s)) (sym (step-arrive n e))
+  arrive-line e = ap (λ (s : Step). length (stepText heading s)) (sym (step-arrive n e))
 
-  pub flush-line : n .kind ≡ 76 → 5 + length (noValues form) ≡ length (stepText form (stepOf n))
+  pub flush-line : n .kind ≡ 76 → 5 + length (noValues heading) ≡ length (stepText heading (stepOf n))
   unfolding stepText
   flush-line e =
       omega arith
-      ∙ ap (λ (s : Step). length (stepText form s)) (sym (step-flush n (λ z. omega arith) (λ z. omega arith) (λ z. omega arith) (λ z. omega arith)))
+      ∙ ap (λ (s : Step). length (stepText heading s)) (sym (step-flush n (λ z. omega arith) (λ z. omega arith) (λ z. omega arith) (λ z. omega arith)))
 
-  pub write-line : n .kind ≡ 87 → 3 + length (digitsOf (n .item)) + length (digitsOf (n .minutes)) + length (noValues form) ≡ length (stepText form (stepOf n))
+  pub write-line : n .kind ≡ 87 → 3 + length (digitsOf (n .item)) + length (digitsOf (n .minutes)) + length (noValues heading) ≡ length (stepText heading (stepOf n))
   unfolding stepText
   write-line e =
-      omega (arith, length-append (digitsOf (n .item)) (textOf " " ++ (digitsOf (n .minutes) ++ noValues form)), length-append (digitsOf (n .minutes)) (noValues form))
-      ∙ ap (λ (s : Step). length (stepText form s)) (sym (step-write n e))
+      omega (arith, length-append (digitsOf (n .item)) (textOf " " ++ (digitsOf (n .minutes) ++ noValues heading)), length-append (digitsOf (n .minutes)) (noValues heading))
+      ∙ ap (λ (s : Step). length (stepText heading s)) (sym (step-write n e))
 
   pub named-line :
-      n .kind ≢ 76 → n .kind ≢ 87 → n .kind ≢ 65 → inRange n ≡ true → 4 + length (digitsOf (n .item)) + length (noValues form) ≡ length (stepText form (stepOf n))
+      n .kind ≢ 76 → n .kind ≢ 87 → n .kind ≢ 65 → inRange n ≡ true → 4 + length (digitsOf (n .item)) + length (noValues heading) ≡ length (stepText heading (stepOf n))
   named-line l w a r =
-      omega (arith, length-append (digitsOf (n .item)) (textOf " -" ++ noValues form)) ∙ ap length (named-step form n l w a r)
+      omega (arith, length-append (digitsOf (n .item)) (textOf " -" ++ noValues heading)) ∙ ap length (named-step heading n l w a r)
 
 -- the digits of each number
 pub item-digits : (i : ℕ) → i ≤ 255 → length (digitsOf i) ≤ 3
@@ -157,29 +157,29 @@ arrival-few n a =
     )
 
 -- the end of a line, and the names, under each heading
-pub end-new : (form : ℕ) → form ≡ 1 → noValues form ≡ textOf " - - -\n"
-end-new form e = rw e
+pub end-new : (heading : ℕ) → heading ≡ 1 → noValues heading ≡ textOf " - - -\n"
+end-new heading e = rw e
 
-pub end-old : (form : ℕ) → form ≢ 1 → noValues form ≡ textOf "\n"
-end-old form n = rw (ne-eqb form 1 n)
+pub end-old : (heading : ℕ) → heading ≢ 1 → noValues heading ≡ textOf "\n"
+end-old heading n = rw (ne-eqb heading 1 n)
 
-pub flush-new : (form : ℕ) → form ≡ 1 → stepText form Flush ≡ textOf "L - - - - -\n"
+pub flush-new : (heading : ℕ) → heading ≡ 1 → stepText heading Flush ≡ textOf "L - - - - -\n"
 unfolding stepText
-flush-new form e = rw e
+flush-new heading e = rw e
 
-pub flush-old : (form : ℕ) → form ≢ 1 → stepText form Flush ≡ textOf "L - -\n"
+pub flush-old : (heading : ℕ) → heading ≢ 1 → stepText heading Flush ≡ textOf "L - -\n"
 unfolding stepText
-flush-old form n = rw (ne-eqb form 1 n)
+flush-old heading n = rw (ne-eqb heading 1 n)
 
-pub names-new : (form : ℕ) → form ≡ 1 → namesText form ≡ textOf "step sail minutes blocks load write\n"
+pub names-new : (heading : ℕ) → heading ≡ 1 → namesText heading ≡ textOf "step sail minutes blocks load write\n"
 unfolding headings
-names-new form e = rw e
+names-new heading e = rw e
 
-pub names-old : (form : ℕ) → form ≢ 1 → namesText form ≡ textOf "step sail minutes\n"
+pub names-old : (heading : ℕ) → heading ≢ 1 → namesText heading ≡ textOf "step sail minutes\n"
 unfolding headings
 names-old zero n = refl
 names-old (suc zero) n = absurd (n refl)
-names-old (suc (suc form)) n = refl
+names-old (suc (suc heading)) n = refl
 
 -- a text on a page: how many bytes it has, and the page with it at its start
 abbrev pub TextOn : List ℕ → List ℕ → ℕ → List ℕ → Type 0
@@ -187,12 +187,12 @@ TextOn text before n after = (n ≡ length text) × (after ≡ textOver text bef
 
 -- ## The steps that a list has from a place on
 
-module _ (form : ℕ) where
+module _ (heading : ℕ) where
   abbrev restAt : ℕ → List ℕ → Logged
-  restAt at list = listedFrom form ((length list - at) / 24) (at / 24 + 2) (drop at list)
+  restAt at list = listedFrom heading ((length list - at) / 24) (at / 24 + 2) (drop at list)
 
-  rest-start : (list : List ℕ) → restAt 0 list ≡ listedUnder form list
-  rest-start list = let e : length list - 0 ≡ length list = omega arith in ap (λ (n : ℕ). listedFrom form (n / 24) 2 list) e
+  rest-start : (list : List ℕ) → restAt 0 list ≡ listedUnder heading list
+  rest-start list = let e : length list - 0 ≡ length list = omega arith in ap (λ (n : ℕ). listedFrom heading (n / 24) 2 list) e
 
   -- the refusal of a number for the step of line n
   abbrev refusedAt : ℕ → ℕ → Refusal
@@ -200,9 +200,9 @@ module _ (form : ℕ) where
 
   -- a step of these numbers, and what follows it
   abbrev stepThen : Numbers → ℕ → Logged → Logged
-  stepThen m n x = cond (eqb (rangeUnder form m) 0) (ahead (stepOf (numbersUnder form m)) x) (fault (refusedAt (rangeUnder form m) n))
+  stepThen m n x = cond (eqb (rangeUnder heading m) 0) (ahead (stepOf (numbersUnder heading m)) x) (fault (refusedAt (rangeUnder heading m) n))
 
-  first-step : (w n : ℕ) (l : List ℕ) → listedFrom form (suc w) n l ≡ stepThen (listNumbers 0 l) n (listedFrom form w (suc n) (drop 24 l))
+  first-step : (w n : ℕ) (l : List ℕ) → listedFrom heading (suc w) n l ≡ stepThen (listNumbers 0 l) n (listedFrom heading w (suc n) (drop 24 l))
   unfolding listedFrom
   first-step w n l = refl
 
@@ -214,17 +214,17 @@ module _ (form : ℕ) where
         let number : (n : ℕ) → listNumber n (drop at list) ≡ listNumber (at + n) list = λ n. ap (λ (l : List ℕ). un (take 4 l)) (drop-drop n at list) in
         let numbers : listNumbers 0 (drop at list) ≡ listNumbers at list =
         λ j. numbersFrom (listNumber at list) (number 4 j) (number 8 j) (number 12 j) (number 16 j) (number 20 j) in
-        let rest : listedFrom form ((length list - (at + 24)) / 24) (suc (at / 24 + 2)) (drop 24 (drop at list)) ≡ restAt (at + 24) list =
-        λ j. listedFrom form ((length list - (at + 24)) / 24) (line j) (drop-drop 24 at list j) in
-        ap (λ (w : ℕ). listedFrom form w (at / 24 + 2) (drop at list)) count
+        let rest : listedFrom heading ((length list - (at + 24)) / 24) (suc (at / 24 + 2)) (drop 24 (drop at list)) ≡ restAt (at + 24) list =
+        λ j. listedFrom heading ((length list - (at + 24)) / 24) (line j) (drop-drop 24 at list j) in
+        ap (λ (w : ℕ). listedFrom heading w (at / 24 + 2) (drop at list)) count
         ∙ first-step ((length list - (at + 24)) / 24) (at / 24 + 2) (drop at list)
         ∙ (λ j. stepThen (numbers j) (at / 24 + 2) (rest j))
 
-    rest-next : rangeAt form at list ≡ 0 → restAt at list ≡ ahead (stepAt form at list) (restAt (at + 24) list)
-    rest-next r = step-here ∙ rw (eq-eqb (rangeAt form at list) 0 r)
+    rest-next : rangeAt heading at list ≡ 0 → restAt at list ≡ ahead (stepAt heading at list) (restAt (at + 24) list)
+    rest-next r = step-here ∙ rw (eq-eqb (rangeAt heading at list) 0 r)
 
-    rest-fault : rangeAt form at list ≢ 0 → restAt at list ≡ fault (refusedAt (rangeAt form at list) (at / 24 + 2))
-    rest-fault r = step-here ∙ rw (ne-eqb (rangeAt form at list) 0 r)
+    rest-fault : rangeAt heading at list ≢ 0 → restAt at list ≡ fault (refusedAt (rangeAt heading at list) (at / 24 + 2))
+    rest-fault r = step-here ∙ rw (ne-eqb (rangeAt heading at list) 0 r)
 
   -- the fault of a step that is not whole
   abbrev tornAt : ℕ → Logged
@@ -233,45 +233,45 @@ module _ (form : ℕ) where
   -- no whole step is left
   rest-few :
       (list : List ℕ) (at : ℕ) → length list < at + 24 →
-      restAt at list ≡ cond (eqb (length (drop at list)) 0) (steps form []) (tornAt at)
+      restAt at list ≡ cond (eqb (length (drop at list)) 0) (steps heading []) (tornAt at)
   unfolding listedFrom
   rest-few list at h =
       let none : (length list - at) / 24 ≡ 0 = omega arith in
-      ap (λ (w : ℕ). listedFrom form w (at / 24 + 2) (drop at list)) none
+      ap (λ (w : ℕ). listedFrom heading w (at / 24 + 2) (drop at list)) none
 
-  rest-end : (list : List ℕ) (at : ℕ) → length list ≤ at → restAt at list ≡ steps form []
+  rest-end : (list : List ℕ) (at : ℕ) → length list ≤ at → restAt at list ≡ steps heading []
   rest-end list at h =
-      rest-few list at (omega arith) ∙ ap (λ (t : Bool). cond t (steps form []) (tornAt at)) (eq-eqb (length (drop at list)) 0 (omega (arith, length-drop at list)))
+      rest-few list at (omega arith) ∙ ap (λ (t : Bool). cond t (steps heading []) (tornAt at)) (eq-eqb (length (drop at list)) 0 (omega (arith, length-drop at list)))
 
   rest-torn : (list : List ℕ) (at : ℕ) → at < length list → length list < at + 24 → restAt at list ≡ tornAt at
   rest-torn list at h k =
-      rest-few list at k ∙ ap (λ (t : Bool). cond t (steps form []) (tornAt at)) (ne-eqb (length (drop at list)) 0 (λ e. omega (arith, length-drop at list)))
+      rest-few list at k ∙ ap (λ (t : Bool). cond t (steps heading []) (tornAt at)) (ne-eqb (length (drop at list)) 0 (λ e. omega (arith, length-drop at list)))
 
   -- ## Whole lists
 
   -- steps, if they are, are of the heading
   abbrev Under : Logged → Type 0
-  Under (steps f ss) = f ≡ form
+  Under (steps f ss) = f ≡ heading
   Under (fault r) = Unit {0}
 
   under-then : (m : Numbers) (n : ℕ) (x : Logged) → Under x → Under (stepThen m n x)
-  under-then m n x u = go (eqb (rangeUnder form m) 0) x u
+  under-then m n x u = go (eqb (rangeUnder heading m) 0) x u
     where
-      go : (t : Bool) (x : Logged) → Under x → Under (cond t (ahead (stepOf (numbersUnder form m)) x) (fault (refusedAt (rangeUnder form m) n)))
+      go : (t : Bool) (x : Logged) → Under x → Under (cond t (ahead (stepOf (numbersUnder heading m)) x) (fault (refusedAt (rangeUnder heading m) n)))
       go true (steps f ss) u = u
       go true (fault r) u = u
       go false x u = tt
 
-  from-under : (m n : ℕ) (list : List ℕ) → Under (listedFrom form m n list)
+  from-under : (m n : ℕ) (list : List ℕ) → Under (listedFrom heading m n list)
   unfolding listedFrom
   from-under zero n list = go (eqb (length list) 0)
     where
-      go : (t : Bool) → Under (cond t (steps form []) (fault (OutOfRange (toldLine n))))
+      go : (t : Bool) → Under (cond t (steps heading []) (fault (OutOfRange (toldLine n))))
       go true = refl
       go false = tt
-  from-under (suc m) n list = under-then (listNumbers 0 list) n (listedFrom form m (suc n) (drop 24 list)) (from-under m (suc n) (drop 24 list))
+  from-under (suc m) n list = under-then (listNumbers 0 list) n (listedFrom heading m (suc n) (drop 24 list)) (from-under m (suc n) (drop 24 list))
 
-  pub list-under : (list : List ℕ) → Under (listedUnder form list)
+  pub list-under : (list : List ℕ) → Under (listedUnder heading list)
   list-under list = from-under (length list / 24) 2 list
 
   -- whether a list is one of whole steps in range, and which they are
@@ -289,25 +289,25 @@ module _ (form : ℕ) where
 
   -- ## How many bytes the text of a list has
 
-  pub log-is : (ss : List Step) → logText form ss ≡ namesText form ++ stepLines form ss
+  pub log-is : (ss : List Step) → logText heading ss ≡ namesText heading ++ stepLines heading ss
   unfolding logText
-  log-is ss = sym (append-assoc (headingOf 2 form) (textOf "\n") (stepLines form ss))
+  log-is ss = sym (append-assoc (headingText 2 heading) (textOf "\n") (stepLines heading ss))
 
-  pub log-count : (ss : List Step) → length (logText form ss) ≡ length (namesText form) + length (stepLines form ss)
-  log-count ss = ap length (log-is ss) ∙ length-append (namesText form) (stepLines form ss)
+  pub log-count : (ss : List Step) → length (logText heading ss) ≡ length (namesText heading) + length (stepLines heading ss)
+  log-count ss = ap length (log-is ss) ∙ length-append (namesText heading) (stepLines heading ss)
 
   -- the size of the whole, b bytes of it being passed
   abbrev sizeFrom : ℕ → Logged → LogAnswer
-  sizeFrom b (steps f ss) = Count (b + length (stepLines form ss))
+  sizeFrom b (steps f ss) = Count (b + length (stepLines heading ss))
   sizeFrom b (fault r) = Not r
 
-  size-start : (x : Logged) → Under x → textSize x ≡ sizeFrom (length (namesText form)) x
+  size-start : (x : Logged) → Under x → textSize x ≡ sizeFrom (length (namesText heading)) x
   size-start (steps f ss) u = rw u (ap Count (log-count ss))
   size-start (fault r) u = refl
 
-  size-next : (s : Step) (b : ℕ) (x : Logged) → sizeFrom b (ahead s x) ≡ sizeFrom (b + length (stepText form s)) x
+  size-next : (s : Step) (b : ℕ) (x : Logged) → sizeFrom b (ahead s x) ≡ sizeFrom (b + length (stepText heading s)) x
   unfolding stepLines
-  size-next s b (steps f ss) = ap Count (omega (arith, length-append (stepText form s) (stepLines form ss)))
+  size-next s b (steps f ss) = ap Count (omega (arith, length-append (stepText heading s) (stepLines heading ss)))
   size-next s b (fault r) = refl
 
   -- The loop's invariant: the size of what is left, the bytes of the passed steps being counted, is the size of the whole. A line has at most
@@ -316,32 +316,32 @@ module _ (form : ℕ) where
     pub within : at ≤ length list
     pub even : at % 24 ≡ 0
     pub small : 24 * bytes ≤ 23 * at + 864
-    pub leads : textSize (listedUnder form list) ≡ sizeFrom bytes (restAt at list)
+    pub leads : textSize (listedUnder heading list) ≡ sizeFrom bytes (restAt at list)
 
-  pub counting : (list : List ℕ) (names : ℕ) → names ≡ length (namesText form) → names ≤ 36 → Counting list 0 names
+  pub counting : (list : List ℕ) (names : ℕ) → names ≡ length (namesText heading) → names ≤ 36 → Counting list 0 names
   counting list names is few =
       record {
         within = omega arith;
         even = refl;
         small = omega arith;
-        leads = size-start (listedUnder form list) (list-under list) ∙ (λ j. sizeFrom (sym is j) (sym (rest-start list) j));
+        leads = size-start (listedUnder heading list) (list-under list) ∙ (λ j. sizeFrom (sym is j) (sym (rest-start list) j));
       }
 
   module _ {list : List ℕ} {at b : ℕ} (g : Counting list at b) where
     -- a whole step is left, of these numbers as the heading takes them
-    module _ (more : at + 24 ≤ length list) {x : Numbers} (is : x ≡ numbersUnder form (listNumbers at list)) where
-      range-is : rangeRefusal x ≡ rangeAt form at list
+    module _ (more : at + 24 ≤ length list) {x : Numbers} (is : x ≡ numbersUnder heading (listNumbers at list)) where
+      range-is : rangeRefusal x ≡ rangeAt heading at list
       range-is = ap rangeRefusal is
 
-      pub counting-next : {n : ℕ} → rangeRefusal x ≡ 0 → n ≡ length (stepText form (stepOf x)) → n ≤ 23 → Counting list (at + 24) (b + n)
+      pub counting-next : {n : ℕ} → rangeRefusal x ≡ 0 → n ≡ length (stepText heading (stepOf x)) → n ≤ 23 → Counting list (at + 24) (b + n)
       counting-next {n} free e l =
           record {
             within = more;
             even = omega (arith, g .even);
             small = omega (arith, g .small);
             leads =
-                g .leads ∙ ap (sizeFrom b) (rest-next list at more (sym range-is ∙ free)) ∙ size-next (stepAt form at list) b (restAt (at + 24) list)
-                ∙ ap (λ (m : ℕ). sizeFrom (b + m) (restAt (at + 24) list)) (sym (e ∙ ap (λ (y : Numbers). length (stepText form (stepOf y))) is));
+                g .leads ∙ ap (sizeFrom b) (rest-next list at more (sym range-is ∙ free)) ∙ size-next (stepAt heading at list) b (restAt (at + 24) list)
+                ∙ ap (λ (m : ℕ). sizeFrom (b + m) (restAt (at + 24) list)) (sym (e ∙ ap (λ (y : Numbers). length (stepText heading (stepOf y))) is));
           }
 
       pub counted-fault :
@@ -351,9 +351,9 @@ module _ (form : ℕ) where
           line ≡ toldLine (at / 24 + 2) →
           (r : Refusal) →
           told r ≡ telling number line 0 →
-          Not r ≡ textSize (listedUnder form list)
+          Not r ≡ textSize (listedUnder heading list)
       counted-fault {number} {line} e f l r t =
-          let same : number ≡ rangeAt form at list = e ∙ range-is in
+          let same : number ≡ rangeAt heading at list = e ∙ range-is in
           ap Not (refusal-is r (telling number line 0) t ∙ (λ j. refusalFrom (telling (same j) (l j) 0)))
           ∙ sym (g .leads ∙ ap (sizeFrom b) (rest-fault list at more (λ z. f (same ∙ z))))
 
@@ -364,20 +364,20 @@ module _ (form : ℕ) where
     -- and behind it none, but bytes of one
     pub counted-torn :
         {whole line : ℕ} → whole ≡ length list - length list % 24 → whole ≤ at → whole < length list → line ≡ toldLine (whole / 24 + 2) →
-        Not (OutOfRange line) ≡ textSize (listedUnder form list)
+        Not (OutOfRange line) ≡ textSize (listedUnder heading list)
     counted-torn {whole} e h k l =
         let here : whole ≡ at = omega (arith, g .even, g .within) in
         ap (λ (n : ℕ). Not (OutOfRange n)) (l ∙ ap (λ (w : ℕ). toldLine (w / 24 + 2)) here)
         ∙ sym (g .leads ∙ ap (sizeFrom b) (rest-torn list at (omega arith) (omega arith)))
 
     -- or nothing
-    pub counted-whole : length list ≤ at → Count b ≡ textSize (listedUnder form list)
+    pub counted-whole : length list ≤ at → Count b ≡ textSize (listedUnder heading list)
     unfolding stepLines
     counted-whole h = let e : b + 0 ≡ b = omega arith in sym (g .leads ∙ ap (sizeFrom b) (rest-end list at h) ∙ ap Count e)
 
   -- ## The lines of a list on a page
 
-  lines-ahead : (s : Step) (x : Logged) → isWhole x ≡ true → stepLines form (stepsOf (ahead s x)) ≡ stepText form s ++ stepLines form (stepsOf x)
+  lines-ahead : (s : Step) (x : Logged) → isWhole x ≡ true → stepLines heading (stepsOf (ahead s x)) ≡ stepText heading s ++ stepLines heading (stepsOf x)
   unfolding stepLines
   lines-ahead s (steps f ss) w = refl
   lines-ahead s (fault r) w = absurd (false≢true w)
@@ -392,85 +392,85 @@ module _ (form : ℕ) where
         go false e = absurd (false≢true (sym (ap isWhole (rest-torn list at h (leb-false (at + 24) (length list) e))) ∙ w))
 
     -- and in range
-    whole-range : at + 24 ≤ length list → rangeAt form at list ≡ 0
-    whole-range more = go (ℕ-discrete (rangeAt form at list) 0)
+    whole-range : at + 24 ≤ length list → rangeAt heading at list ≡ 0
+    whole-range more = go (ℕ-discrete (rangeAt heading at list) 0)
       where
-        go : Dec (rangeAt form at list ≡ 0) → rangeAt form at list ≡ 0
+        go : Dec (rangeAt heading at list ≡ 0) → rangeAt heading at list ≡ 0
         go (yes e) = e
         go (no e) = absurd (false≢true (sym (ap isWhole (rest-fault list at more e)) ∙ w))
 
     -- and what is behind it is whole too
     whole-next :
         at + 24 ≤ length list →
-        (restAt at list ≡ ahead (stepAt form at list) (restAt (at + 24) list)) × (isWhole (restAt (at + 24) list) ≡ true)
+        (restAt at list ≡ ahead (stepAt heading at list) (restAt (at + 24) list)) × (isWhole (restAt (at + 24) list) ≡ true)
     whole-next more =
         let e = rest-next list at more (whole-range more) in
-        (e, sym (whole-ahead (stepAt form at list) (restAt (at + 24) list)) ∙ sym (ap isWhole e) ∙ w)
+        (e, sym (whole-ahead (stepAt heading at list) (restAt (at + 24) list)) ∙ sym (ap isWhole e) ∙ w)
 
   -- The loop's invariant: the lines of what is left are left to write.
   pub record Putting (list before : List ℕ) (at to : ℕ) (page : List ℕ) : Type 0 where
     pub within : at ≤ length list
     pub whole : isWhole (restAt at list) ≡ true
-    pub going : TextGoing (stepLines form (stepsOf (listedUnder form list))) before to (stepLines form (stepsOf (restAt at list))) page
+    pub going : TextGoing (stepLines heading (stepsOf (listedUnder heading list))) before to (stepLines heading (stepsOf (restAt at list))) page
 
-  pub putting : (list page : List ℕ) → LinesFit form list page → Putting list page 0 0 page
+  pub putting : (list page : List ℕ) → LinesFit heading list page → Putting list page 0 0 page
   putting list page f =
       record {
         within = omega arith;
         whole = ap isWhole (rest-start list ∙ f .whole);
-        going = go-as (ap (λ (x : Logged). stepLines form (stepsOf x)) (sym (rest-start list))) (go-start (stepLines form (stepsOf (listedUnder form list))) page);
+        going = go-as (ap (λ (x : Logged). stepLines heading (stepsOf x)) (sym (rest-start list))) (go-start (stepLines heading (stepsOf (listedUnder heading list))) page);
       }
 
-  pub lines-room : (list page : List ℕ) → LinesFit form list page → length (stepLines form (stepsOf (listedUnder form list))) ≤ length page
-  lines-room list page f = subst (λ (x : Logged). length (stepLines form (stepsOf x)) ≤ length page) (sym (f .whole)) (f .room)
+  pub lines-room : (list page : List ℕ) → LinesFit heading list page → length (stepLines heading (stepsOf (listedUnder heading list))) ≤ length page
+  lines-room list page f = subst (λ (x : Logged). length (stepLines heading (stepsOf x)) ≤ length page) (sym (f .whole)) (f .room)
 
   module _ {list before page : List ℕ} {at to : ℕ} (g : Putting list before at to page)
-      (room : length (stepLines form (stepsOf (listedUnder form list))) ≤ length before) (more : at + 24 ≤ length list) where
+      (room : length (stepLines heading (stepsOf (listedUnder heading list))) ≤ length before) (more : at + 24 ≤ length list) where
     -- the line of the step at the place is next
     line-next :
-        TextGoing (stepLines form (stepsOf (listedUnder form list))) before to
-        (stepText form (stepAt form at list) ++ stepLines form (stepsOf (restAt (at + 24) list))) page
+        TextGoing (stepLines heading (stepsOf (listedUnder heading list))) before to
+        (stepText heading (stepAt heading at list) ++ stepLines heading (stepsOf (restAt (at + 24) list))) page
     line-next =
         let n = whole-next list at (g .whole) more in
-        go-as (ap (λ (x : Logged). stepLines form (stepsOf x)) (n .0) ∙ lines-ahead (stepAt form at list) (restAt (at + 24) list) (n .1)) (g .going)
+        go-as (ap (λ (x : Logged). stepLines heading (stepsOf x)) (n .0) ∙ lines-ahead (stepAt heading at list) (restAt (at + 24) list) (n .1)) (g .going)
 
     -- and has room
-    pub line-fits : LineFits form list at (midOf to (length page - to) page)
+    pub line-fits : LineFits heading list at (midOf to (length page - to) page)
     line-fits =
         record {
           whole = more;
           ranged = whole-range list at (g .whole) more;
-          room = go-room room to (stepText form (stepAt form at list)) (stepLines form (stepsOf (restAt (at + 24) list))) page line-next;
+          room = go-room room to (stepText heading (stepAt heading at list)) (stepLines heading (stepsOf (restAt (at + 24) list))) page line-next;
         }
 
     -- and is written
     pub putting-next :
         {w : ℕ} {ys : List ℕ} →
-        w ≡ length (stepText form (stepAt form at list)) →
-        ys ≡ textOver (stepText form (stepAt form at list)) (midOf to (length page - to) page) →
+        w ≡ length (stepText heading (stepAt heading at list)) →
+        ys ≡ textOver (stepText heading (stepAt heading at list)) (midOf to (length page - to) page) →
         Putting list before (at + 24) (to + w) (putMid to (length page - to) page ys)
     putting-next l e =
         record {
           within = more;
           whole = whole-next list at (g .whole) more .1;
-          going = go-next room (stepText form (stepAt form at list)) (stepLines form (stepsOf (restAt (at + 24) list))) line-next l e;
+          going = go-next room (stepText heading (stepAt heading at list)) (stepLines heading (stepsOf (restAt (at + 24) list))) line-next l e;
         }
 
   -- all lines are written
   lines-put :
-      (x : Logged) (before after : List ℕ) → Under x → isWhole x ≡ true → after ≡ textOver (stepLines form (stepsOf x)) before → LinesOn x before after
+      (x : Logged) (before after : List ℕ) → Under x → isWhole x ≡ true → after ≡ textOver (stepLines heading (stepsOf x)) before → LinesOn x before after
   lines-put (steps f ss) before after u w e = rw u e
   lines-put (fault r) before after u w e = absurd (false≢true w)
 
   pub lines-end :
       (list before : List ℕ) {at to : ℕ} {page : List ℕ} →
-      LinesFit form list before → Putting list before at to page → length list ≤ at → LinesOn (listedUnder form list) before page
+      LinesFit heading list before → Putting list before at to page → length list ≤ at → LinesOn (listedUnder heading list) before page
   unfolding stepLines
   lines-end list before {at} {to} {page} f g h =
-      let left : stepLines form (stepsOf (restAt at list)) ≡ [] = ap (λ (x : Logged). stepLines form (stepsOf x)) (rest-end list at h) in
-      lines-put (listedUnder form list) before page (list-under list) (ap isWhole (f .whole)) (go-end (go-as left (g .going)) .1)
+      let left : stepLines heading (stepsOf (restAt at list)) ≡ [] = ap (λ (x : Logged). stepLines heading (stepsOf x)) (rest-end list at h) in
+      lines-put (listedUnder heading list) before page (list-under list) (ap isWhole (f .whole)) (go-end (go-as left (g .going)) .1)
 
-  pub lines-on : (x : Logged) (before after : List ℕ) → Under x → LinesOn x before after → after ≡ textOver (stepLines form (stepsOf x)) before
+  pub lines-on : (x : Logged) (before after : List ℕ) → Under x → LinesOn x before after → after ≡ textOver (stepLines heading (stepsOf x)) before
   lines-on (steps f ss) before after u l = rw (← u) l
   lines-on (fault r) before after u l = absurd l
 
@@ -490,11 +490,11 @@ Sized x n = Count n ≡ textSize x
 no-size : {n : ℕ} {q : Refusal} → Sized (fault q) n → ⊥
 no-size e = let z : _≡_ {A = ℕ} 0 1 = cc in omega arith
 
-pub sized-whole : (form : ℕ) (x : Logged) (n : ℕ) → Under form x → Sized x n → (x ≡ steps form (stepsOf form x)) × (n ≡ length (logText form (stepsOf form x)))
-sized-whole form (steps f ss) n u z =
+pub sized-whole : (heading : ℕ) (x : Logged) (n : ℕ) → Under heading x → Sized x n → (x ≡ steps heading (stepsOf heading x)) × (n ≡ length (logText heading (stepsOf heading x)))
+sized-whole heading (steps f ss) n u z =
     let same : n ≡ length (logText f ss) = cc in
     (ap (λ (g : ℕ). steps g ss) u, same ∙ ap (λ (g : ℕ). length (logText g ss)) u)
-sized-whole form (fault q) n u z = absurd (no-size z)
+sized-whole heading (fault q) n u z = absurd (no-size z)
 
 pub told-short :
     (x : Logged) (n : ℕ) (page : List ℕ) → Sized x n → (65536 < n) ⊎ (length page < n) → Answers x page (Not (ShortBuffer 0)) page
@@ -515,15 +515,15 @@ told-short (steps f ss) n page z d = go (leb (length (logText f ss)) 65536) refl
         absurd (⊎-elim (λ y. omega arith) (λ y. omega arith) d)
 
 pub told-text :
-    (form : ℕ) (x : Logged) (n : ℕ) (page after : List ℕ) →
-    Under form x →
+    (heading : ℕ) (x : Logged) (n : ℕ) (page after : List ℕ) →
+    Under heading x →
     Sized x n →
     n ≤ 65536 →
     n ≤ length page →
-    after ≡ textOver (logText form (stepsOf form x)) page →
+    after ≡ textOver (logText heading (stepsOf heading x)) page →
     Answers x page (Count n) after
-told-text form (fault q) n page after u z small room e = absurd (no-size z)
-told-text form (steps f ss) n page after u z small room e =
+told-text heading (fault q) n page after u z small room e = absurd (no-size z)
+told-text heading (steps f ss) n page after u z small room e =
     let t = logText f ss in
     let n-is : n ≡ length t = cc in
     let put : after ≡ textOver t page = e ∙ ap (λ (g : ℕ). textOver (logText g ss) page) (sym u) in
@@ -531,8 +531,8 @@ told-text form (steps f ss) n page after u z small room e =
     (ap Count n-is, put ∙ sym (page-all t page (omega arith)))
 
 -- a number that is a heading's, and one that is none's
-pub under-heading : (form : ℕ) (list : List ℕ) → form ≤ 1 → listedUnder form list ≡ listed form list
-under-heading form list h = rw (le-leb form 1 h)
+pub under-heading : (heading : ℕ) (list : List ℕ) → heading ≤ 1 → listedUnder heading list ≡ listed heading list
+under-heading heading list h = rw (le-leb heading 1 h)
 
-pub told-heading : (form : ℕ) (list page : List ℕ) → 1 < form → Answers (listed form list) page (Not (OutOfRange 1)) page
-told-heading form list page h = rw (lt-leb form 1 h) (refl, refl)
+pub told-heading : (heading : ℕ) (list page : List ℕ) → 1 < heading → Answers (listed heading list) page (Not (OutOfRange 1)) page
+told-heading heading list page h = rw (lt-leb heading 1 h) (refl, refl)

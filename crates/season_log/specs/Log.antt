@@ -6,9 +6,9 @@ use Rattle.decimal.specs.Decimal.{textOf, digitsOf, fits, pageOf}
 use Rattle.fields.specs.LittleEndian.{un, le}
 use Rattle.types.specs.declared.{Step.{Step, the-variants.{Read, Write, Flush, Arrive, Retire}}, Numbers.Numbers, Refusal.{Refusal, the-variants.{Malformed, Heading, OutOfRange, ShortBuffer, InputTooLong}}}
 use Rattle.types.specs.Types.{numbersFrom, numbersOf, stepOf, Told, telling, nothingTold, told, refusalFrom}
-use Rattle.season_lines.specs.declared.{Names.{Names, the-variants.{Form, Unknown}}, Line.{Line, the-variants.{Sizes, Item as ItemLine, Step as StepLine, Act as ActLine, Refused}}}
+use Rattle.season_lines.specs.declared.{Names.{Names, the-variants.{Known, Unknown}}, Line.{Line, the-variants.{Sizes, Item as ItemLine, Step as StepLine, Act as ActLine, Refused}}}
 use Rattle.line_fields.specs.Fields.{split, fieldsOf}
-use Rattle.season_lines.specs.Lines.{headingOf, formOf, numbersUnder, rangeUnder, lineIn}
+use Rattle.season_lines.specs.Lines.{headingText, headingOf, numbersUnder, rangeUnder, lineIn}
 use Rattle.season_log.specs.declared.LogAnswer.{LogAnswer, the-variants.{Count, Refused as Not}}
 
 -- the heading and the steps of a list or of a text, or the refusal of its first fault
@@ -18,35 +18,35 @@ pub data Logged : Type 0 where
 
 -- a step in front of what follows it
 abbrev pub ahead : Step → Logged → Logged
-ahead s (steps form rest) = steps form (s ∷ rest)
+ahead s (steps heading rest) = steps heading (s ∷ rest)
 ahead s (fault r) = fault r
 
 -- ## The text of steps
 
 -- the numbers of the log's two headings: 0 is `step sail minutes`, 1 is `step sail minutes blocks load write`
 abbrev pub isHeading : ℕ → Bool
-isHeading form = leb form 1
+isHeading heading = leb heading 1
 
 -- the end of a line that has none of the three last values; under the old heading nothing stands behind the minutes
 abbrev pub noValues : ℕ → List ℕ
-noValues form = cond (eqb form 1) (textOf " - - -\n") (textOf "\n")
+noValues heading = cond (eqb heading 1) (textOf " - - -\n") (textOf "\n")
 
 -- a step's line under a heading: "Minutes is `-` for R; sail and minutes are `-` for L"; A and Q are in no log under the old heading
 unfoldable pub stepText : ℕ → Step → List ℕ
-stepText form (Read i) = textOf "R " ++ (digitsOf i ++ (textOf " -" ++ noValues form))
-stepText form (Write i m) = textOf "W " ++ (digitsOf i ++ (textOf " " ++ (digitsOf m ++ noValues form)))
-stepText form Flush = textOf "L - -" ++ noValues form
-stepText form (Arrive i b l w) =
+stepText heading (Read i) = textOf "R " ++ (digitsOf i ++ (textOf " -" ++ noValues heading))
+stepText heading (Write i m) = textOf "W " ++ (digitsOf i ++ (textOf " " ++ (digitsOf m ++ noValues heading)))
+stepText heading Flush = textOf "L - -" ++ noValues heading
+stepText heading (Arrive i b l w) =
     textOf "A " ++ (digitsOf i ++ (textOf " - " ++ (digitsOf b ++ (textOf " " ++ (digitsOf l ++ (textOf " " ++ (digitsOf w ++ textOf "\n")))))))
-stepText form (Retire i) = textOf "Q " ++ (digitsOf i ++ (textOf " -" ++ noValues form))
+stepText heading (Retire i) = textOf "Q " ++ (digitsOf i ++ (textOf " -" ++ noValues heading))
 
 unfoldable pub stepLines : ℕ → List Step → List ℕ
-stepLines form [] = []
-stepLines form (s ∷ rest) = stepText form s ++ stepLines form rest
+stepLines heading [] = []
+stepLines heading (s ∷ rest) = stepText heading s ++ stepLines heading rest
 
 -- the third table: its names, and a line a step
 unfoldable pub logText : ℕ → List Step → List ℕ
-logText form ss = headingOf 2 form ++ (10 ∷ stepLines form ss)
+logText heading ss = headingText 2 heading ++ (10 ∷ stepLines heading ss)
 
 -- ## Steps as they are lent: 24 bytes each, under both headings: kind, item, minutes, blocks, load and write, four bytes each, the low
 -- byte first
@@ -67,20 +67,20 @@ toldLine n = cond (leb n 4294967295) n 4294967295
 -- The steps of a list of m whole ones, the first of which has line n: "A step out of range is off the tape .. with the line the first
 -- such step would have had", and so is one that is not whole.
 unfoldable pub listedFrom : ℕ → ℕ → ℕ → List ℕ → Logged
-listedFrom form zero n list = cond (eqb (length list) 0) (steps form []) (fault (OutOfRange (toldLine n)))
-listedFrom form (suc m) n list =
+listedFrom heading zero n list = cond (eqb (length list) 0) (steps heading []) (fault (OutOfRange (toldLine n)))
+listedFrom heading (suc m) n list =
     let numbers = listNumbers 0 list in
-    let range = rangeUnder form numbers in
-    cond (eqb range 0) (ahead (stepOf (numbersUnder form numbers)) (listedFrom form m (suc n) (drop 24 list)))
+    let range = rangeUnder heading numbers in
+    cond (eqb range 0) (ahead (stepOf (numbersUnder heading numbers)) (listedFrom heading m (suc n) (drop 24 list)))
     (fault (refusalFrom (telling range (toldLine n) 0)))
 
 -- the names are line 1, the first step is line 2
 abbrev pub listedUnder : ℕ → List ℕ → Logged
-listedUnder form list = listedFrom form (length list / 24) 2 list
+listedUnder heading list = listedFrom heading (length list / 24) 2 list
 
 -- "The log writer is told the heading": a number that is no heading's is out of range on line 1
 abbrev pub listed : ℕ → List ℕ → Logged
-listed form list = cond (isHeading form) (listedUnder form list) (fault (OutOfRange 1))
+listed heading list = cond (isHeading heading) (listedUnder heading list) (fault (OutOfRange 1))
 
 -- a step's numbers as bytes, in front of others
 abbrev pub numbersOnto : Numbers → List ℕ → List ℕ
@@ -104,20 +104,20 @@ follows (ActLine place act) rest = fault (Malformed 0)
 
 -- The lines under a heading from line n on. The last piece is what stands behind the last line feed: bytes there are a line without one.
 unfoldable pub readLines : ℕ → ℕ → List (List ℕ) → Logged
-readLines form n [] = steps form []
-readLines form n (l ∷ []) = cond (eqb (length l) 0) (steps form []) (fault (Malformed n))
-readLines form n (l ∷ m ∷ rest) = follows (lineIn 2 form (fieldsOf l) n) (readLines form (suc n) (m ∷ rest))
+readLines heading n [] = steps heading []
+readLines heading n (l ∷ []) = cond (eqb (length l) 0) (steps heading []) (fault (Malformed n))
+readLines heading n (l ∷ m ∷ rest) = follows (lineIn 2 heading (fieldsOf l) n) (readLines heading (suc n) (m ∷ rest))
 
 -- the line of names, and the lines that follow it
 abbrev pub headed : Names → List (List ℕ) → Logged
-headed (Form form) rest = readLines form 2 rest
+headed (Known heading) rest = readLines heading 2 rest
 headed Unknown rest = fault (Heading 1)
 
 -- "the heading being line 1"
 unfoldable pub readTable : List (List ℕ) → Logged
 readTable [] = fault (Heading 1)
 readTable (l ∷ []) = fault (cond (eqb (length l) 0) (Heading 1) (Malformed 1))
-readTable (l ∷ m ∷ rest) = headed (formOf 2 l) (m ∷ rest)
+readTable (l ∷ m ∷ rest) = headed (headingOf 2 l) (m ∷ rest)
 
 -- "Alone, only 16, line feed, heading, shape and range are checked, in the old order"
 unfoldable pub readLog : List ℕ → Logged
@@ -127,15 +127,15 @@ readLog s = cond (leb (length s) 65536) (readTable (split 10 s)) (fault (InputTo
 
 -- "A buffer too short, or a text over 65,536 bytes, is the short page"
 abbrev pub writeAnswer : Logged → List ℕ → LogAnswer
-writeAnswer (steps form ss) page =
-    let text = logText form ss in
+writeAnswer (steps heading ss) page =
+    let text = logText heading ss in
     cond (leb (length text) 65536 && fits text page) (Count (length text)) (Not (ShortBuffer 0))
 writeAnswer (fault r) page = Not r
 
 -- and the page then
 abbrev pub writtenPage : Logged → List ℕ → List ℕ
-writtenPage (steps form ss) page =
-    let text = logText form ss in
+writtenPage (steps heading ss) page =
+    let text = logText heading ss in
     cond (leb (length text) 65536) (pageOf text page) page
 writtenPage (fault r) page = page
 
@@ -158,24 +158,24 @@ pub record LogWritten (log : Logged) (before : List ℕ) (r : LogAnswer) (after 
 
 -- steps that a log of a heading may have: "A and Q under the old one are off the tape"
 unfoldable pub stepsInRange : ℕ → List Step → Bool
-stepsInRange form [] = true
-stepsInRange form (s ∷ rest) = eqb (rangeUnder form (numbersOf s)) 0 && stepsInRange form rest
+stepsInRange heading [] = true
+stepsInRange heading (s ∷ rest) = eqb (rangeUnder heading (numbersOf s)) 0 && stepsInRange heading rest
 
 -- "the reader gives back those steps, and a text the reader takes is what the writer makes of them"; "the text is the only one for that
 -- heading and those steps"
 pub record OneText : Type 0 where
   pub writtenReads :
-      (form : ℕ) (ss : List Step) →
-      isHeading form ≡ true →
-      stepsInRange form ss ≡ true →
-      length (logText form ss) ≤ 65536 →
-      readLog (logText form ss) ≡ steps form ss
+      (heading : ℕ) (ss : List Step) →
+      isHeading heading ≡ true →
+      stepsInRange heading ss ≡ true →
+      length (logText heading ss) ≤ 65536 →
+      readLog (logText heading ss) ≡ steps heading ss
   pub readsWritten :
-      (s : List ℕ) (form : ℕ) (ss : List Step) →
-      readLog s ≡ steps form ss →
-      (logText form ss ≡ s) × (isHeading form ≡ true) × (stepsInRange form ss ≡ true)
+      (s : List ℕ) (heading : ℕ) (ss : List Step) →
+      readLog s ≡ steps heading ss →
+      (logText heading ss ≡ s) × (isHeading heading ≡ true) × (stepsInRange heading ss ≡ true)
   pub listedInRange :
-      (told : ℕ) (list : List ℕ) (form : ℕ) (ss : List Step) →
-      listed told list ≡ steps form ss →
-      (form ≡ told) × (isHeading form ≡ true) × (stepsInRange form ss ≡ true)
-  pub listReads : (form : ℕ) (ss : List Step) → isHeading form ≡ true → stepsInRange form ss ≡ true → listed form (listOf ss) ≡ steps form ss
+      (told : ℕ) (list : List ℕ) (heading : ℕ) (ss : List Step) →
+      listed told list ≡ steps heading ss →
+      (heading ≡ told) × (isHeading heading ≡ true) × (stepsInRange heading ss ≡ true)
+  pub listReads : (heading : ℕ) (ss : List Step) → isHeading heading ≡ true → stepsInRange heading ss ≡ true → listed heading (listOf ss) ≡ steps heading ss

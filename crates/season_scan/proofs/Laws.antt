@@ -22,11 +22,11 @@ use Rattle.landlord.specs.Steps.{ifKnown, itemRefusal}
 use Rattle.landlord.proofs.Catalogs.{next-length, next-follows, after-more}
 use Rattle.line_fields.specs.declared.Field.{Field}
 use Rattle.season_lines.specs.declared.Names.{Names}
-use Rattle.season_lines.specs.declared.Names.the-variants.{Form, Unknown}
+use Rattle.season_lines.specs.declared.Names.the-variants.{Known, Unknown}
 use Rattle.season_lines.specs.declared.Line.{Line}
 use Rattle.season_lines.specs.declared.Line.the-variants.{Sizes, Item as ItemLine, Step as StepLine, Act as ActLine, Refused}
 use Rattle.line_fields.specs.Fields.{split, fieldOf, fieldsOf}
-use Rattle.season_lines.specs.Lines.{formOf, lineIn}
+use Rattle.season_lines.specs.Lines.{headingOf, lineIn}
 use Rattle.line_fields.specs.Inner.{before}
 use Rattle.season_tables.specs.Tables.{Tables, Sofar, OrRefusal, gives, stops, goesOn, mayEnd, mustEnd, namedBy, nextTable, withSizes, withItem, withStep, withAct, inTurn, itemRefused, takes, readLine, atEnd, readFrom}
 use Rattle.season_tables.specs.Inner.{isBlank, isSized, wantsValues}
@@ -191,7 +191,7 @@ pub record Moves (upto : ℕ) (v w : Sofar) (wants : Bool) (fields : ℕ) : Type
 pub grown : (upto : ℕ) (v w : Sofar) (l : List ℕ) (n : ℕ) → readLine upto v l n ≡ gives w → Moves upto v w (wantsHere upto v l) (length (fieldsOf l))
 unfolding wantsValues readLine
 grown upto v w l n e =
-    go (v .stage .named) (cond (isBlank l) (mayEnd upto (v .stage .table) (v .read .k)) false) (mustEnd (v .stage .table) (v .read .k)) (formOf (v .stage .table) l)
+    go (v .stage .named) (cond (isBlank l) (mayEnd upto (v .stage .table) (v .read .k)) false) (mustEnd (v .stage .table) (v .read .k)) (headingOf (v .stage .table) l)
     (may-end (isBlank l) upto (v .stage .table) (v .read .k)) e
   where
     to : (x : Sofar) (wants : Bool) → x ≡ w → Moves upto v x wants (length (fieldsOf l)) → Moves upto v w wants (length (fieldsOf l))
@@ -221,7 +221,7 @@ grown upto v w l n e =
         (record { within = λ u b. below u refl; onward = omega arith; adds = grows-not (v .stage .table) (v .read) false (length (fieldsOf l)) })
     go true false true names below e = absurd (no-two (Malformed n) w e)
     go true false false names below e = values _ refl e
-    go false p m (Form f) below e =
+    go false p m (Known f) below e =
         to (record { stage = record { table = v .stage .table; named = true; heading = f }; read = v .read }) false (cc)
         (record { within = λ u b. b; onward = omega arith; adds = grows-not (v .stage .table) (v .read) false (length (fieldsOf l)) })
     go false p m Unknown below e = absurd (no-two (Heading n) w e)

@@ -15,7 +15,7 @@ use Rattle.season_lines.specs.declared.Line.{Line}
 use Rattle.season_lines.specs.declared.Line.the-variants.{Sizes, Item as ItemLine, Step as StepLine, Act as ActLine, Refused as RefusedLine}
 use Rattle.season_lines.specs.declared.Names.{Names}
 use Rattle.line_fields.specs.Fields.{fieldsOf}
-use Rattle.season_lines.specs.Lines.{formOf, lineIn}
+use Rattle.season_lines.specs.Lines.{headingOf, lineIn}
 use Rattle.season_lines.proofs.Pieces.{Says, line-says}
 use Rattle.season_lines.proofs.Held.{held-line}
 use Rattle.season_tables.specs.declared.Stage.{Stage}
@@ -62,7 +62,7 @@ must-may upto table k = go (eqb table 0)
 module _ (upto : ℕ) (v : Sofar) (l : List ℕ) (n : ℕ) where
   pub leads-names :
       v .stage .named ≡ false →
-      readLine upto v l n ≡ goesOn (namedBy (v .stage) (formOf (v .stage .table) l) n) (λ q. gives (record { stage = q; read = v .read }))
+      readLine upto v l n ≡ goesOn (namedBy (v .stage) (headingOf (v .stage .table) l) n) (λ q. gives (record { stage = q; read = v .read }))
   unfolding readLine
   leads-names e = unnamed (v .stage .named) _ _ e
 
@@ -141,13 +141,13 @@ module _ (upto : ℕ) (p : Stage) (q : Seen) (catalog calls acts l : List ℕ) (
   pub lead-names :
       (names : Names) →
       p .named ≡ false →
-      names ≡ formOf (p .table) l →
+      names ≡ headingOf (p .table) l →
       r ≡ moved p q (namedBy p names n) →
       ReadsLine upto p q catalog calls acts l n r catalog calls acts × KeepsLine p q catalog calls acts r catalog calls acts
   lead-names names e f so = (
     λ v h.
         subst (λ (x : OrRefusal Sofar). LeadsTo x r catalog calls acts) (sym (leads-names upto (record { stage = p; read = v }) l n e))
-        (moves (namedBy p (formOf (p .table) l) n) v (so ∙ ap (λ (x : Names). moved p q (namedBy p x n)) f) h),
+        (moves (namedBy p (headingOf (p .table) l) n) v (so ∙ ap (λ (x : Names). moved p q (namedBy p x n)) f) h),
     moves-keeps (namedBy p names n) so,
   )
 

@@ -15,12 +15,12 @@ use Rattle.landlord.specs.Catalog.{listed, catalogAfter}
 use Rattle.landlord.specs.Steps.{ifKnown, itemRefusal}
 use Rattle.landlord.proofs.Folds.{either}
 use Rattle.season_lines.specs.declared.Names.{Names}
-use Rattle.season_lines.specs.declared.Names.the-variants.{Form, Unknown}
+use Rattle.season_lines.specs.declared.Names.the-variants.{Known, Unknown}
 use Rattle.season_lines.specs.declared.Line.{Line}
 use Rattle.season_lines.specs.declared.Line.the-variants.{Sizes, Item as ItemLine, Step as StepLine, Act as ActLine, Refused}
 use Rattle.line_fields.specs.Fields.{split, fieldsOf}
 use Rattle.line_fields.proofs.Laws.{and-parts}
-use Rattle.season_lines.specs.Lines.{formOf}
+use Rattle.season_lines.specs.Lines.{headingOf}
 use Rattle.season_lines.proofs.Pieces.{Says, line-says}
 use Rattle.season_tables.specs.Tables.{Placed, Tables, Sofar, OrRefusal, gives, stops, goesOn, atStart, inTurn, itemRefused, unlessRefused, takes, mayEnd, mustEnd, namedBy, readLine, atEnd, readFrom, readingTo, readingOf}
 use Rattle.season_tables.specs.Inner.{isBlank, isSized}
@@ -103,7 +103,7 @@ module _ (n : ℕ) (v : Sofar) (few : linesRead v < n) where
       (λ b. omega (arith, above-next (isBlank l) upto (v .stage .table) (v .read .k) b, ap oneIf e))
       (λ b. either Q (mustEnd (v .stage .table) (v .read .k)) _ _ (λ m. refl)
       (λ m. values (takes (v .read) _ n) (takes-by (v .stage .table) (length (fieldsOf l)) _ (line-says (v .stage .table) (v .stage .heading) (fieldsOf l) n)))))
-      (λ e. names (formOf (v .stage .table) l))
+      (λ e. names (headingOf (v .stage .table) l))
     where
       Q : OrRefusal Sofar → Type 0
       Q = ByLine linesRead n
@@ -113,7 +113,7 @@ module _ (n : ℕ) (v : Sofar) (few : linesRead v < n) where
       values (stops r) h = h
 
       names : (x : Names) → Q (goesOn (namedBy (v .stage) x n) (λ p. gives (record { stage = p; read = v .read })))
-      names (Form f) = omega arith
+      names (Known f) = omega arith
       names Unknown = refl
 
 -- ## The whole text

@@ -25,11 +25,11 @@ use Rattle.landlord.proofs.Folds.{either, fold-append}
 use Rattle.landlord.proofs.Ranges.{item-facts, catalog-ok, capacity-ok}
 use Rattle.landlord.proofs.Steps.{range-free, let-through}
 use Rattle.season_lines.specs.declared.Names.{Names}
-use Rattle.season_lines.specs.declared.Names.the-variants.{Form, Unknown}
+use Rattle.season_lines.specs.declared.Names.the-variants.{Known, Unknown}
 use Rattle.season_lines.specs.declared.Line.{Line}
 use Rattle.season_lines.specs.declared.Line.the-variants.{Sizes, Item as ItemLine, Step as StepLine, Act as ActLine, Refused}
 use Rattle.line_fields.specs.Fields.{onto, split, fieldsOf}
-use Rattle.season_lines.specs.Lines.{formOf}
+use Rattle.season_lines.specs.Lines.{headingOf}
 use Rattle.line_fields.proofs.Laws.{and-parts}
 use Rattle.season_lines.proofs.Pieces.{Says, line-says}
 use Rattle.season_tables.specs.Tables.{Placed, Tables, Sofar, OrRefusal, gives, stops, goesOn, atStart, withSizes, withItem, withStep, withAct, inTurn, takes, mayEnd, mustEnd, nextTable, namedBy, readLine, atEnd, readFrom, readingTo, readingOf}
@@ -369,13 +369,13 @@ line-after u i n v l p =
     (λ b. either Q (mustEnd (v .stage .table) (v .read .k)) _ _ (λ m. tt)
     (λ m. goes-on _ (After u (suc i)) (takes (v .read) _ n) _
     (takes-after u i (length (fieldsOf l)) n v p _ (line-says (v .stage .table) (v .stage .heading) (fieldsOf l) n)) (λ w q. q))))
-    (λ e. names (formOf (v .stage .table) l))
+    (λ e. names (headingOf (v .stage .table) l))
   where
     Q : OrRefusal Sofar → Type 0
     Q = Leading (After u (suc i))
 
     names : (x : Names) → Q (goesOn (namedBy (v .stage) x n) (λ q. gives (record { stage = q; read = v .read })))
-    names (Form f) = named-after u i v f p
+    names (Known f) = named-after u i v f p
     names Unknown = tt
 
 -- ## The whole text

@@ -6,9 +6,9 @@ use lib.{ListN.{length, take}, Dec.{leb, ltb, eqb}}
 use Rattle.types.specs.declared.{Step.Step, Act.Act, Deduction.{Deduction, the-variants.WriteFirst}, Refusal.{Refusal, the-variants.{Malformed, Heading, OutOfSequence, PlanTooLarge, UnknownItem, ItemTooLarge, ActOutOfOrder, NotNextNumber, RetiredItem}}}
 use Rattle.types.specs.Types.{stepItem, actItem}
 use Rattle.landlord.specs.{Fold.fold, Catalog.{Catalog, listed, catalogAfter}, Steps.{ifKnown, itemRefusal}}
-use Rattle.season_lines.specs.declared.{Names.{Names, the-variants.{Form, Unknown}}, Line.{Line, the-variants.{Sizes, Item as ItemLine, Step as StepLine, Act as ActLine, Refused}}}
+use Rattle.season_lines.specs.declared.{Names.{Names, the-variants.{Known, Unknown}}, Line.{Line, the-variants.{Sizes, Item as ItemLine, Step as StepLine, Act as ActLine, Refused}}}
 use Rattle.line_fields.specs.Fields.{split, fieldsOf}
-use Rattle.season_lines.specs.Lines.{formOf, lineIn}
+use Rattle.season_lines.specs.Lines.{headingOf, lineIn}
 use Rattle.season_tables.specs.declared.Stage.{Stage}
 
 -- an act of the text: the 0-based step before which it stands, and what it does
@@ -109,7 +109,7 @@ nextTable p = record { table = suc (p .table); named = false; heading = 0 }
 
 -- the line of names, on line n: a heading of its table, or 2
 abbrev pub namedBy : Stage → Names → ℕ → OrRefusal Stage
-namedBy p (Form f) n = gives (record { table = p .table; named = true; heading = f })
+namedBy p (Known f) n = gives (record { table = p .table; named = true; heading = f })
 namedBy p Unknown n = stops (Heading n)
 
 -- a line l, ended by its line feed, on line n of a text whose last table is the one numbered `upto`
@@ -121,7 +121,7 @@ readLine upto v l n =
     (cond (cond (eqb (length l) 0) (mayEnd upto (p .table) (t .k)) false) (gives (record { stage = nextTable p; read = t }))
     (cond (mustEnd (p .table) (t .k)) (stops (Malformed n))
     (goesOn (takes t (lineIn (p .table) (p .heading) (fieldsOf l) n) n) (λ u. gives (record { stage = p; read = u })))))
-    (goesOn (namedBy p (formOf (p .table) l) n) (λ q. gives (record { stage = q; read = t })))
+    (goesOn (namedBy p (headingOf (p .table) l) n) (λ q. gives (record { stage = q; read = t })))
 
 -- The input's end, on line n: all is read behind the names of the last table, else "the input ends where a line is due".
 abbrev pub atEnd : ℕ → Sofar → ℕ → OrRefusal Tables

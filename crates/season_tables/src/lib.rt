@@ -148,7 +148,7 @@ fn take_names(stage: Stage, seen: Seen, names: Names, line: u32) -> LineRead
     ensures { λ r. ⌜ r ≡ moved stage seen (namedBy stage names line) ⌝ }
 {
     match names {
-        Names::Form(heading) => {
+        Names::Known(heading) => {
             let mut next = stage;
             next.named = true;
             next.heading = heading;
@@ -325,7 +325,12 @@ pub fn read_line(
     ensures { λ r. ⌜ KeepsLine stage seen (now (catalog .entry)) (now (calls .entry)) (now (acts .entry)) r (now (catalog .exit)) (now (calls .exit)) (now (acts .exit)) ⌝ }
 {
     if !stage.named {
-        return take_names(stage, seen, season_lines::form_of(stage.table, text), line);
+        return take_names(
+            stage,
+            seen,
+            season_lines::heading_of(stage.table, text),
+            line,
+        );
     }
     if wants_values(upto, stage, seen.k, text.len()) {
         let values = season_lines::line_in(stage.table, stage.heading, fields, count, line);

@@ -16,12 +16,12 @@ use Rattle.landlord.specs.Catalog.{catalogAfter}
 use Rattle.landlord.specs.Steps.{ifKnown, itemRefusal}
 use Rattle.landlord.proofs.Folds.{either}
 use Rattle.season_lines.specs.declared.Names.{Names}
-use Rattle.season_lines.specs.declared.Names.the-variants.{Form, Unknown}
+use Rattle.season_lines.specs.declared.Names.the-variants.{Known, Unknown}
 use Rattle.season_lines.specs.declared.Line.{Line}
 use Rattle.season_lines.specs.declared.Line.the-variants.{Sizes, Item as ItemLine, Step as StepLine, Act as ActLine, Refused}
 use Rattle.line_fields.specs.declared.Field.{Field}
 use Rattle.line_fields.specs.Fields.{onto, split, allFields, fieldsOf, fieldAt, isLetter, valueIn, noneEmpty}
-use Rattle.season_lines.specs.Lines.{namesIn, formOf, numbersUnder, rangeUnder, valueField, stepShape, stepLine, valuesIn, lineIn}
+use Rattle.season_lines.specs.Lines.{namesIn, headingOf, numbersUnder, rangeUnder, valueField, stepShape, stepLine, valuesIn, lineIn}
 use Rattle.line_fields.proofs.Laws.{and-parts}
 use Rattle.line_fields.proofs.Pieces.{no-bytes}
 use Rattle.season_lines.proofs.Laws.{blank-unnamed}
@@ -32,7 +32,7 @@ use Rattle.season_tables.proofs.Sound.{Leading, goes-on}
 use Rattle.season_log.specs.Log.{Logged, steps, fault, ahead, isHeading, logText, follows, readLines, headed, readTable, readLog, stepsInRange}
 use Rattle.season_log.proofs.Lines.{lacks, split-first}
 use Rattle.season_log.proofs.OneText.{onward, onward-none, onward-more, lines-first, table-first, one-text}
-use Rattle.season_text.specs.ThirdTable.{tableText, behindBlank, thirdTable, formNumber, firstForm, headingIn, TwoReaders}
+use Rattle.season_text.specs.ThirdTable.{tableText, behindBlank, thirdTable, headingNumber, firstHeading, headingIn, TwoReaders}
 
 -- ## The lines of a table and its text
 
@@ -114,32 +114,32 @@ tableAlone ls = readTable (split 10 (tableText ls))
 -- what it will say to the lines ls that are left, besides the steps that were read: in which table they begin, and whether behind its
 -- names; the log's heading, once it is read; and inside the third table its own next line is line n
 abbrev due : ℕ → Bool → ℕ → ℕ → List (List ℕ) → Logged
-due zero named form n ls = tableAlone (behindBlank (behindBlank ls))
-due (suc zero) named form n ls = tableAlone (behindBlank ls)
-due (suc (suc zero)) false form n ls = tableAlone ls
-due (suc (suc zero)) true form n ls = readLines form n (split 10 (tableText ls))
-due (suc (suc (suc t))) named form n ls = steps form []
+due zero named heading n ls = tableAlone (behindBlank (behindBlank ls))
+due (suc zero) named heading n ls = tableAlone (behindBlank ls)
+due (suc (suc zero)) false heading n ls = tableAlone ls
+due (suc (suc zero)) true heading n ls = readLines heading n (split 10 (tableText ls))
+due (suc (suc (suc t))) named heading n ls = steps heading []
 
 -- the log's heading behind the names of a table: heading f of the third, and no other is one of the log's
 abbrev headingBehind : ℕ → ℕ → ℕ → ℕ
-headingBehind zero form f = form
-headingBehind (suc zero) form f = form
-headingBehind (suc (suc zero)) form f = f
-headingBehind (suc (suc (suc t))) form f = form
+headingBehind zero heading f = heading
+headingBehind (suc zero) heading f = heading
+headingBehind (suc (suc zero)) heading f = f
+headingBehind (suc (suc (suc t))) heading f = heading
 
 -- no heading is empty
-names-some : (table : ℕ) (l : List ℕ) (f : ℕ) → formOf table l ≡ Form f → length l ≡ 0 → ⊥
+names-some : (table : ℕ) (l : List ℕ) (f : ℕ) → headingOf table l ≡ Known f → length l ≡ 0 → ⊥
 names-some table [] f e z =
-    let none : _≡_ {A = Names} Unknown (Form f) = sym (blank-unnamed table) ∙ e in
+    let none : _≡_ {A = Names} Unknown (Known f) = sym (blank-unnamed table) ∙ e in
     let k : _≡_ {A = ℕ} 0 1 = cc in
     omega arith
 names-some table (x ∷ l) f e z = omega arith
 
 -- and no value line is
-blank-refused : (table form : ℕ) (l : List ℕ) (n : ℕ) → length l ≡ 0 → lineIn table form (fieldsOf l) n ≡ Refused (Malformed n)
+blank-refused : (table heading : ℕ) (l : List ℕ) (n : ℕ) → length l ≡ 0 → lineIn table heading (fieldsOf l) n ≡ Refused (Malformed n)
 unfolding split allFields
-blank-refused table form [] n z = empty-malformed table form (fieldsOf []) n 0 (omega arith) (rw no-bytes)
-blank-refused table form (x ∷ l) n z = absurd (omega arith)
+blank-refused table heading [] n z = empty-malformed table heading (fieldsOf []) n 0 (omega arith) (rw no-bytes)
+blank-refused table heading (x ∷ l) n z = absurd (omega arith)
 
 abbrev isStep : Line → Type 0
 isStep (StepLine s) = Unit {0}
@@ -161,42 +161,42 @@ on-any-line true true false refused x m n s e = absurd (not-step (refused m) s e
 on-any-line true false free refused x m n s e = absurd (not-step (Malformed m) s e)
 on-any-line false shape free refused x m n s e = absurd (not-step (Malformed m) s e)
 
-step-anywhere : (form : ℕ) (fs : List Field) (m n : ℕ) (s : Step) → lineIn 2 form fs m ≡ StepLine s → lineIn 2 form fs n ≡ StepLine s
+step-anywhere : (heading : ℕ) (fs : List Field) (m n : ℕ) (s : Step) → lineIn 2 heading fs m ≡ StepLine s → lineIn 2 heading fs n ≡ StepLine s
 unfolding lineIn valuesIn stepLine
-step-anywhere form fs m n s e =
+step-anywhere heading fs m n s e =
     let kind = fieldAt fs 0 in
     let item = fieldAt fs 1 in
     let minutes = fieldAt fs 2 in
-    let blocks = valueField form (fieldAt fs 3) in
-    let load = valueField form (fieldAt fs 4) in
-    let write = valueField form (fieldAt fs 5) in
+    let blocks = valueField heading (fieldAt fs 3) in
+    let load = valueField heading (fieldAt fs 4) in
+    let write = valueField heading (fieldAt fs 5) in
     let values = numbersFrom (valueIn kind) (valueIn item) (valueIn minutes) (valueIn blocks) (valueIn load) (valueIn write) in
-    let numbers = numbersUnder form values in
-    on-any-line (eqb (length fs) (namesIn 2 form) && noneEmpty fs) (isLetter kind && stepShape (numbers .kind) item minutes blocks load write)
-    (eqb (rangeUnder form values) 0) (λ k. refusalFrom (telling (rangeUnder form values) k 0)) (StepLine (stepOf numbers)) m n s e
+    let numbers = numbersUnder heading values in
+    on-any-line (eqb (length fs) (namesIn 2 heading) && noneEmpty fs) (isLetter kind && stepShape (numbers .kind) item minutes blocks load write)
+    (eqb (rangeUnder heading values) 0) (λ k. refusalFrom (telling (rangeUnder heading values) k 0)) (StepLine (stepOf numbers)) m n s e
 
 -- what each line that leads on leaves to be said
 module _ (n : ℕ) (l : List ℕ) (rest : List (List ℕ)) where
   due-names :
-      (table form f : ℕ) → formOf table l ≡ Form f → lacks 10 l ≡ true → due table true (headingBehind table form f) 2 rest ≡ due table false form n (l ∷ rest)
-  due-names zero form f e h = ap (λ (ls : List (List ℕ)). tableAlone (behindBlank ls)) (sym (behind-more l rest (names-some 0 l f e)))
-  due-names (suc zero) form f e h = ap tableAlone (sym (behind-more l rest (names-some 1 l f e)))
-  due-names (suc (suc zero)) form f e h =
+      (table heading f : ℕ) → headingOf table l ≡ Known f → lacks 10 l ≡ true → due table true (headingBehind table heading f) 2 rest ≡ due table false heading n (l ∷ rest)
+  due-names zero heading f e h = ap (λ (ls : List (List ℕ)). tableAlone (behindBlank ls)) (sym (behind-more l rest (names-some 0 l f e)))
+  due-names (suc zero) heading f e h = ap tableAlone (sym (behind-more l rest (names-some 1 l f e)))
+  due-names (suc (suc zero)) heading f e h =
       sym
       (ap readTable (text-first l rest h (names-some 2 l f e))
       ∙ table-first l (tableText rest)
       ∙ ap (λ (x : Names). headed x (split 10 (tableText rest))) e)
-  due-names (suc (suc (suc t))) form f e h = refl
+  due-names (suc (suc (suc t))) heading f e h = refl
 
-  module _ (form : ℕ) where
-    due-blank : (table : ℕ) → length l ≡ 0 → due (suc table) false form n rest ≡ due table true form n (l ∷ rest)
+  module _ (heading : ℕ) where
+    due-blank : (table : ℕ) → length l ≡ 0 → due (suc table) false heading n rest ≡ due table true heading n (l ∷ rest)
     unfolding split readLines
     due-blank zero e = ap (λ (ls : List (List ℕ)). tableAlone (behindBlank ls)) (sym (behind-first l rest e))
     due-blank (suc zero) e = ap tableAlone (sym (behind-first l rest e))
-    due-blank (suc (suc zero)) e = ap (λ (t : List ℕ). readLines form n (split 10 t)) (sym (text-ended l rest e))
+    due-blank (suc (suc zero)) e = ap (λ (t : List ℕ). readLines heading n (split 10 t)) (sym (text-ended l rest e))
     due-blank (suc (suc (suc t))) e = refl
 
-    due-value : (table : ℕ) → (table ≡ 2 → ⊥) → (length l ≡ 0 → ⊥) → due table true form n rest ≡ due table true form n (l ∷ rest)
+    due-value : (table : ℕ) → (table ≡ 2 → ⊥) → (length l ≡ 0 → ⊥) → due table true heading n rest ≡ due table true heading n (l ∷ rest)
     due-value zero t some = ap (λ (ls : List (List ℕ)). tableAlone (behindBlank ls)) (sym (behind-more l rest some))
     due-value (suc zero) t some = ap tableAlone (sym (behind-more l rest some))
     due-value (suc (suc zero)) t some = absurd (t refl)
@@ -205,17 +205,17 @@ module _ (n : ℕ) (l : List ℕ) (rest : List (List ℕ)) where
     due-step :
         (table m : ℕ) (s : Step) →
         table ≡ 2 →
-        lineIn table form (fieldsOf l) m ≡ StepLine s →
+        lineIn table heading (fieldsOf l) m ≡ StepLine s →
         lacks 10 l ≡ true →
         (length l ≡ 0 → ⊥) →
-        ahead s (due table true form (suc n) rest) ≡ due table true form n (l ∷ rest)
+        ahead s (due table true heading (suc n) rest) ≡ due table true heading n (l ∷ rest)
     due-step zero m s t e h some = absurd (omega arith)
     due-step (suc zero) m s t e h some = absurd (omega arith)
     due-step (suc (suc zero)) m s t e h some =
         sym
-        (ap (readLines form n) (text-first l rest h some)
-        ∙ lines-first form n l (tableText rest)
-        ∙ ap (λ (x : Line). follows x (readLines form (suc n) (split 10 (tableText rest)))) (step-anywhere form (fieldsOf l) m n s e))
+        (ap (readLines heading n) (text-first l rest h some)
+        ∙ lines-first heading n l (tableText rest)
+        ∙ ap (λ (x : Line). follows x (readLines heading (suc n) (split 10 (tableText rest)))) (step-anywhere heading (fieldsOf l) m n s e))
     due-step (suc (suc (suc k))) m s t e h some = absurd (omega arith)
 
 -- ## Each line that leads on keeps it
@@ -223,32 +223,32 @@ module _ (n : ℕ) (l : List ℕ) (rest : List (List ℕ)) where
 -- the log's reader will say x
 record Kept (x : Logged) (ls : List (List ℕ)) (v : Sofar) : Type 0 where
   line : ℕ
-  form : ℕ
-  its : v .stage .table ≡ 2 → v .stage .named ≡ true → form ≡ v .stage .heading
-  says : onward (v .read .steps) (due (v .stage .table) (v .stage .named) form line ls) ≡ x
+  heading : ℕ
+  its : v .stage .table ≡ 2 → v .stage .named ≡ true → heading ≡ v .stage .heading
+  says : onward (v .read .steps) (due (v .stage .table) (v .stage .named) heading line ls) ≡ x
 
 module _ (x : Logged) (l : List ℕ) (rest : List (List ℕ)) (h : lacks 10 l ≡ true) (v : Sofar) (q : Kept x (l ∷ rest) v) where
   -- which is said here, behind the table's names or before them
-  here : (named : Bool) → v .stage .named ≡ named → onward (v .read .steps) (due (v .stage .table) named (q .form) (q .line) (l ∷ rest)) ≡ x
-  here named b = ap (λ (z : Bool). onward (v .read .steps) (due (v .stage .table) z (q .form) (q .line) (l ∷ rest))) (sym b) ∙ q .says
+  here : (named : Bool) → v .stage .named ≡ named → onward (v .read .steps) (due (v .stage .table) named (q .heading) (q .line) (l ∷ rest)) ≡ x
+  here named b = ap (λ (z : Bool). onward (v .read .steps) (due (v .stage .table) z (q .heading) (q .line) (l ∷ rest))) (sym b) ∙ q .says
 
   -- the line of names, or the blank line
-  names-kept : (f : ℕ) → v .stage .named ≡ false → formOf (v .stage .table) l ≡ Form f → Kept x rest (record { stage = record { table = v .stage .table; named = true; heading = f }; read = v .read })
+  names-kept : (f : ℕ) → v .stage .named ≡ false → headingOf (v .stage .table) l ≡ Known f → Kept x rest (record { stage = record { table = v .stage .table; named = true; heading = f }; read = v .read })
   names-kept f b e =
       record {
         line = 2;
-        form = headingBehind (v .stage .table) (q .form) f;
-        its = λ t z. ap (λ (table : ℕ). headingBehind table (q .form) f) t;
-        says = ap (onward (v .read .steps)) (due-names (q .line) l rest (v .stage .table) (q .form) f e h) ∙ here false b;
+        heading = headingBehind (v .stage .table) (q .heading) f;
+        its = λ t z. ap (λ (table : ℕ). headingBehind table (q .heading) f) t;
+        says = ap (onward (v .read .steps)) (due-names (q .line) l rest (v .stage .table) (q .heading) f e h) ∙ here false b;
       }
 
   blank-kept : v .stage .named ≡ true → length l ≡ 0 → Kept x rest (record { stage = nextTable (v .stage); read = v .read })
   blank-kept b e =
       record {
         line = q .line;
-        form = q .form;
+        heading = q .heading;
         its = λ t z. absurd (false≢true z);
-        says = ap (onward (v .read .steps)) (due-blank (q .line) l rest (q .form) (v .stage .table) e) ∙ here true b;
+        says = ap (onward (v .read .steps)) (due-blank (q .line) l rest (q .heading) (v .stage .table) e) ∙ here true b;
       }
 
   -- a value line stays in its table
@@ -258,26 +258,26 @@ module _ (x : Logged) (l : List ℕ) (rest : List (List ℕ)) (h : lacks 10 l �
   -- one that is not blank
   module _ (b : v .stage .named ≡ true) (some : length l ≡ 0 → ⊥) where
     -- of another table
-    other : (v .stage .table ≡ 2 → ⊥) → onward (v .read .steps) (due (v .stage .table) (v .stage .named) (q .form) (q .line) rest) ≡ x
+    other : (v .stage .table ≡ 2 → ⊥) → onward (v .read .steps) (due (v .stage .table) (v .stage .named) (q .heading) (q .line) rest) ≡ x
     other t =
-        ap (λ (z : Bool). onward (v .read .steps) (due (v .stage .table) z (q .form) (q .line) rest)) b
-        ∙ ap (onward (v .read .steps)) (due-value (q .line) l rest (q .form) (v .stage .table) t some)
+        ap (λ (z : Bool). onward (v .read .steps) (due (v .stage .table) z (q .heading) (q .line) rest)) b
+        ∙ ap (onward (v .read .steps)) (due-value (q .line) l rest (q .heading) (v .stage .table) t some)
         ∙ here true b
 
     -- or of the third
     step-kept : (n : ℕ) (s : Step) → v .stage .table ≡ 2 → lineIn (v .stage .table) (v .stage .heading) (fieldsOf l) n ≡ StepLine s → Still (withStep (v .read) s)
     step-kept n s t e =
-        let judged : lineIn (v .stage .table) (q .form) (fieldsOf l) n ≡ StepLine s =
-        ap (λ (form : ℕ). lineIn (v .stage .table) form (fieldsOf l) n) (q .its t b) ∙ e
+        let judged : lineIn (v .stage .table) (q .heading) (fieldsOf l) n ≡ StepLine s =
+        ap (λ (heading : ℕ). lineIn (v .stage .table) heading (fieldsOf l) n) (q .its t b) ∙ e
         in
         record {
           line = suc (q .line);
-          form = q .form;
+          heading = q .heading;
           its = q .its;
           says =
-              onward-more (v .read .steps) s (due (v .stage .table) (v .stage .named) (q .form) (suc (q .line)) rest)
-              ∙ ap (λ (z : Bool). onward (v .read .steps) (ahead s (due (v .stage .table) z (q .form) (suc (q .line)) rest))) b
-              ∙ ap (onward (v .read .steps)) (due-step (q .line) l rest (q .form) (v .stage .table) n s t judged h some)
+              onward-more (v .read .steps) s (due (v .stage .table) (v .stage .named) (q .heading) (suc (q .line)) rest)
+              ∙ ap (λ (z : Bool). onward (v .read .steps) (ahead s (due (v .stage .table) z (q .heading) (suc (q .line)) rest))) b
+              ∙ ap (onward (v .read .steps)) (due-step (q .line) l rest (q .heading) (v .stage .table) n s t judged h some)
               ∙ here true b;
         }
 
@@ -289,16 +289,16 @@ module _ (x : Logged) (l : List ℕ) (rest : List (List ℕ)) (h : lacks 10 l �
     unfolding takes
     takes-kept n (Sizes k j r) e s =
         either (Leading Still) (leb j k) _ _
-        (λ _. record { line = q .line; form = q .form; its = q .its; says = other (λ t. omega (arith, s .0)) }) (λ _. tt)
+        (λ _. record { line = q .line; heading = q .heading; its = q .its; says = other (λ t. omega (arith, s .0)) }) (λ _. tt)
     takes-kept n (ItemLine i c d w) e s =
         either (Leading Still) (eqb i (length (v .read .catalog))) _ _
-        (λ _. record { line = q .line; form = q .form; its = q .its; says = other (λ t. omega (arith, s .0)) }) (λ _. tt)
+        (λ _. record { line = q .line; heading = q .heading; its = q .its; says = other (λ t. omega (arith, s .0)) }) (λ _. tt)
     takes-kept n (StepLine z) e s =
         either (Leading Still) (eqb (itemRefusal (v .read .k) (catalogAfter (v .read .catalog) (v .read .steps)) z) 0) _ _ (λ _. step-kept n z (s .0) e) (λ _. tt)
     takes-kept n (ActLine place act) e s =
         either (Leading Still) (inTurn (v .read) place) _ _
         (λ _. either (Leading Still) (eqb (ifKnown (catalogAfter (v .read .catalog) (take place (v .read .steps))) (actItem act) 0) 0) _ _
-        (λ _. record { line = q .line; form = q .form; its = q .its; says = other (λ t. omega (arith, s .0)) }) (λ _. tt))
+        (λ _. record { line = q .line; heading = q .heading; its = q .its; says = other (λ t. omega (arith, s .0)) }) (λ _. tt))
         (λ _. tt)
     takes-kept n (Refused r) e s = tt
 
@@ -322,7 +322,7 @@ module _ (x : Logged) (l : List ℕ) (rest : List (List ℕ)) (h : lacks 10 l �
       (λ b. either Q (cond (isBlank l) (mayEnd 3 (v .stage .table) (v .read .k)) false) _ _
       (λ e. blank-kept b (eqb-true (length l) 0 (first (isBlank l) (mayEnd 3 (v .stage .table) (v .read .k)) e)))
       (λ e. either Q (mustEnd (v .stage .table) (v .read .k)) _ _ (λ m. tt) (λ m. goes-on Still (Kept x rest) (takes (v .read) _ n) _ (values-kept n b) (λ w k. k))))
-      (λ b. names (formOf (v .stage .table) l) refl b)
+      (λ b. names (headingOf (v .stage .table) l) refl b)
     where
       Q : OrRefusal Sofar → Type 0
       Q = Leading (Kept x rest)
@@ -331,16 +331,16 @@ module _ (x : Logged) (l : List ℕ) (rest : List (List ℕ)) (h : lacks 10 l �
       first true q e = refl
       first false q e = absurd (false≢true e)
 
-      names : (z : Names) → formOf (v .stage .table) l ≡ z → v .stage .named ≡ false → Q (goesOn (namedBy (v .stage) z n) (λ p. gives (record { stage = p; read = v .read })))
-      names (Form f) e b = names-kept f b e
+      names : (z : Names) → headingOf (v .stage .table) l ≡ z → v .stage .named ≡ false → Q (goesOn (namedBy (v .stage) z n) (λ p. gives (record { stage = p; read = v .read })))
+      names (Known f) e b = names-kept f b e
       names Unknown e b = tt
 
 -- ## The whole text
 
 -- where all is read, the log's reader says the steps, under a heading
 record Agrees (x : Logged) (v : Tables) : Type 0 where
-  form : ℕ
-  says : x ≡ steps form (v .steps)
+  heading : ℕ
+  says : x ≡ steps heading (v .steps)
 
 end-agrees : (x : Logged) (n : ℕ) (ls : List (List ℕ)) (v : Sofar) → Kept x ls v → Leading (Agrees x) (atEnd 3 v n)
 end-agrees x n ls v q =
@@ -351,11 +351,11 @@ end-agrees x n ls v q =
     done e =
         let t : v .stage .table ≡ 3 = eqb-true (v .stage .table) 3 e in
         record {
-          form = q .form;
+          heading = q .heading;
           says =
               sym (q .says)
-              ∙ ap (λ (table : ℕ). onward (v .read .steps) (due table (v .stage .named) (q .form) (q .line) ls)) t
-              ∙ ap (steps (q .form)) (append-nil (v .read .steps));
+              ∙ ap (λ (table : ℕ). onward (v .read .steps) (due table (v .stage .named) (q .heading) (q .line) ls)) t
+              ∙ ap (steps (q .heading)) (append-nil (v .read .steps));
         }
 
 read-agrees : (x : Logged) (n : ℕ) (ls : List (List ℕ)) (v : Sofar) → AllLack ls → Kept x ls v → Leading (Agrees x) (readFrom 3 n ls v)
@@ -375,36 +375,36 @@ short-log t few = rw (le-leb (length t) 65536 few)
 
 -- what is read, if anything is, is read under this heading
 abbrev Under : ℕ → Logged → Type 0
-Under form (steps f ss) = f ≡ form
-Under form (fault r) = Unit {0}
+Under heading (steps f ss) = f ≡ heading
+Under heading (fault r) = Unit {0}
 
-ahead-under : (form : ℕ) (s : Step) (x : Logged) → Under form x → Under form (ahead s x)
-ahead-under form s (steps f ss) u = u
-ahead-under form s (fault r) u = tt
+ahead-under : (heading : ℕ) (s : Step) (x : Logged) → Under heading x → Under heading (ahead s x)
+ahead-under heading s (steps f ss) u = u
+ahead-under heading s (fault r) u = tt
 
-follows-under : (form : ℕ) (y : Line) (x : Logged) → Under form x → Under form (follows y x)
-follows-under form (StepLine s) x u = ahead-under form s x u
-follows-under form (Sizes k h r) x u = tt
-follows-under form (ItemLine i b l w) x u = tt
-follows-under form (ActLine place act) x u = tt
-follows-under form (Refused r) x u = tt
+follows-under : (heading : ℕ) (y : Line) (x : Logged) → Under heading x → Under heading (follows y x)
+follows-under heading (StepLine s) x u = ahead-under heading s x u
+follows-under heading (Sizes k h r) x u = tt
+follows-under heading (ItemLine i b l w) x u = tt
+follows-under heading (ActLine place act) x u = tt
+follows-under heading (Refused r) x u = tt
 
-lines-under : (form n : ℕ) (ls : List (List ℕ)) → Under form (readLines form n ls)
+lines-under : (heading n : ℕ) (ls : List (List ℕ)) → Under heading (readLines heading n ls)
 unfolding readLines
-lines-under form n [] = refl
-lines-under form n (l ∷ []) = either (Under form) (isBlank l) _ _ (λ e. refl) (λ e. tt)
-lines-under form n (l ∷ m ∷ rest) =
-    follows-under form (lineIn 2 form (fieldsOf l) n) (readLines form (suc n) (m ∷ rest)) (lines-under form (suc n) (m ∷ rest))
+lines-under heading n [] = refl
+lines-under heading n (l ∷ []) = either (Under heading) (isBlank l) _ _ (λ e. refl) (λ e. tt)
+lines-under heading n (l ∷ m ∷ rest) =
+    follows-under heading (lineIn 2 heading (fieldsOf l) n) (readLines heading (suc n) (m ∷ rest)) (lines-under heading (suc n) (m ∷ rest))
 
-headed-under : (names : Names) (ls : List (List ℕ)) → Under (formNumber names) (headed names ls)
-headed-under (Form form) ls = lines-under form 2 ls
+headed-under : (names : Names) (ls : List (List ℕ)) → Under (headingNumber names) (headed names ls)
+headed-under (Known heading) ls = lines-under heading 2 ls
 headed-under Unknown ls = tt
 
-table-under : (ls : List (List ℕ)) → Under (firstForm ls) (readTable ls)
+table-under : (ls : List (List ℕ)) → Under (firstHeading ls) (readTable ls)
 unfolding readTable
 table-under [] = tt
 table-under (l ∷ []) = tt
-table-under (l ∷ m ∷ rest) = headed-under (formOf 2 l) (m ∷ rest)
+table-under (l ∷ m ∷ rest) = headed-under (headingOf 2 l) (m ∷ rest)
 
 log-under : (t : List ℕ) → Under (headingIn t) (readLog t)
 unfolding readLog
@@ -418,22 +418,22 @@ two-readers s v few e =
     let agrees : Agrees x v =
     subst (Leading (Agrees x)) e
     (read-agrees x 1 (split 10 s) atStart (lines-lack s)
-    (record { line = 0; form = 0; its = λ t z. absurd (false≢true z); says = start }))
+    (record { line = 0; heading = 0; its = λ t z. absurd (false≢true z); says = start }))
     in
-    agrees .says ∙ ap (λ (form : ℕ). steps form (v .steps)) (subst (Under (headingIn (thirdTable s))) (agrees .says) (log-under (thirdTable s)))
+    agrees .says ∙ ap (λ (heading : ℕ). steps heading (v .steps)) (subst (Under (headingIn (thirdTable s))) (agrees .says) (log-under (thirdTable s)))
 
 -- an accepted text whose third table is what the writer makes of some steps under a heading has those steps
 pub written-is-read :
-    (s : List ℕ) (v : Tables) (form : ℕ) (ss : List Step) →
+    (s : List ℕ) (v : Tables) (heading : ℕ) (ss : List Step) →
     length s ≤ 65536 →
     readingOf s ≡ gives v →
-    isHeading form ≡ true →
-    stepsInRange form ss ≡ true →
-    thirdTable s ≡ logText form ss →
+    isHeading heading ≡ true →
+    stepsInRange heading ss ≡ true →
+    thirdTable s ≡ logText heading ss →
     v .steps ≡ ss
-written-is-read s v form ss few e head r t =
-    let short : length (logText form ss) ≤ 65536 = subst (λ (z : List ℕ). length z ≤ 65536) t (omega (arith, third-few s)) in
-    ap stepsIn (sym (two-readers s v few e) ∙ ap readLog t ∙ one-text .writtenReads form ss head r short)
+written-is-read s v heading ss few e head r t =
+    let short : length (logText heading ss) ≤ 65536 = subst (λ (z : List ℕ). length z ≤ 65536) t (omega (arith, third-few s)) in
+    ap stepsIn (sym (two-readers s v few e) ∙ ap readLog t ∙ one-text .writtenReads heading ss head r short)
   where
     stepsIn : Logged → List Step
     stepsIn (steps f xs) = xs

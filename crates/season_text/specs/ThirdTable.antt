@@ -4,7 +4,7 @@ use mathlib.Core.{Path._≡_, Bool.cond, List.{List, [], _∷_, _++_}}
 use Prim.Native.Nat.{ℕ, _≤_}
 use lib.{ListN.length, Dec.eqb}
 use Rattle.line_fields.specs.Fields.{split}
-use Rattle.season_lines.specs.{declared.Names.{Names, the-variants.{Form, Unknown}}, Lines.formOf}
+use Rattle.season_lines.specs.{declared.Names.{Names, the-variants.{Known, Unknown}}, Lines.headingOf}
 use Rattle.season_tables.specs.Tables.{Tables, gives, readingOf}
 use Rattle.season_log.specs.Log.{steps, readLog}
 
@@ -23,18 +23,18 @@ abbrev pub thirdTable : List ℕ → List ℕ
 thirdTable s = tableText (behindBlank (behindBlank (split 10 s)))
 
 -- the number of a heading; a line that is none has 0
-abbrev pub formNumber : Names → ℕ
-formNumber (Form f) = f
-formNumber Unknown = 0
+abbrev pub headingNumber : Names → ℕ
+headingNumber (Known f) = f
+headingNumber Unknown = 0
 
 -- which heading of the log stands on the first line
-abbrev pub firstForm : List (List ℕ) → ℕ
-firstForm [] = 0
-firstForm (l ∷ rest) = formNumber (formOf 2 l)
+abbrev pub firstHeading : List (List ℕ) → ℕ
+firstHeading [] = 0
+firstHeading (l ∷ rest) = headingNumber (headingOf 2 l)
 
 -- and so of a table alone
 abbrev pub headingIn : List ℕ → ℕ
-headingIn s = firstForm (split 10 s)
+headingIn s = firstHeading (split 10 s)
 
 -- the two readers agree (proofs/ThirdTable.antt)
 abbrev pub TwoReaders : Type 0

@@ -17,16 +17,16 @@ returns-2 c =
     let a = c .before .before .before .before .before .args in
     table-unfed (a .text .now) (a .list .now) (c .before .find .result) (c .before .find .ensures) (c .before .before .if1 .left) (c .if2 .taken)
 
-slice-aggregate-form-of : tie.Need-slice-aggregate-form-of
-slice-aggregate-form-of c =
+slice-aggregate-heading-of : tie.Need-slice-aggregate-heading-of
+slice-aggregate-heading-of c =
     let n = c .before .before .find .result in
     omega (arith, length-take-le n (c .before .before .before .before .before .before .args .text .now) (omega arith))
 
-form-of-requires : tie.Need-form-of-requires
-form-of-requires c κs = search needs
+heading-of-requires : tie.Need-heading-of-requires
+heading-of-requires c κs = search needs
 
-enum-known-form : tie.Need-enum-known-form
-enum-known-form c = search needs
+enum-known-heading : tie.Need-enum-known-heading
+enum-known-heading c = search needs
 
 add-from : tie.Need-add-from
 add-from c = search needs
@@ -52,12 +52,12 @@ same-length c = search needs
 returns-3 : tie.Need-returns-3
 returns-3 c =
     let a = c .before .before .before .before .before .before .before .before .before .before .before .before .before .before .before .args in
-    table-read (a .text .now) (a .list .now) (c .before .before .before .before .before .before .before .before .before .before .before .find .result) (c .before .before .before .before .before .before .before .before .before .before .before .find .ensures) (c .before .before .before .before .before .before .before .before .form-of .result) (c .before .before .before .before .before .before .before .before .before .before .if2 .left) (c .before .before .before .before .before .before .before .before .form-of .ensures) _ _ _ (c .before .before .before .before .before .before .form .given .1) (c .before .before .read-lines .ensures)
+    table-read (a .text .now) (a .list .now) (c .before .before .before .before .before .before .before .before .before .before .before .find .result) (c .before .before .before .before .before .before .before .before .before .before .before .find .ensures) (c .before .before .before .before .before .before .before .before .heading-of .result) (c .before .before .before .before .before .before .before .before .before .before .if2 .left) (c .before .before .before .before .before .before .before .before .heading-of .ensures) _ _ _ (c .before .before .before .before .before .before .heading .given .1) (c .before .before .read-lines .ensures)
 
 returns-4 : tie.Need-returns-4
 returns-4 c =
     let a = c .before .before .before .before .before .before .before .before .before .args in
-    table-unknown (a .text .now) (a .list .now) (c .before .before .before .before .before .find .result) (c .before .before .before .before .before .find .ensures) (c .before .before .form-of .result) (c .before .before .before .before .if2 .left) (c .before .before .form-of .ensures) (c .enum-told .given .1)
+    table-unknown (a .text .now) (a .list .now) (c .before .before .before .before .before .find .result) (c .before .before .before .before .before .find .ensures) (c .before .before .heading-of .result) (c .before .before .before .before .if2 .left) (c .before .before .heading-of .ensures) (c .enum-told .given .1)
 
 pub read-table-spec : {M : Type 1} → statement M
 read-table-spec =
@@ -66,9 +66,9 @@ read-table-spec =
     returns
     find-requires
     returns-2
-    slice-aggregate-form-of
-    form-of-requires
-    enum-known-form
+    slice-aggregate-heading-of
+    heading-of-requires
+    enum-known-heading
     add-from
     sub-read-lines
     part-read-lines-start

@@ -5,7 +5,7 @@ use mathlib.Core.Logic.{inl, inr, ⊎-elim}
 use native.Mathlib.Omega.{arith}
 use borrow.Author.Needs.{needs}
 use borrow.Author.Tests.{le-leb, lt-leb, ltb-true, ltb-false}
-use Rattle.season_lines.specs.declared.Line.the-variants.{Act as Placed}
+use Rattle.season_lines.specs.declared.Line.the-variants.{Act as ActLine}
 use Rattle.season_lines.proofs.Laws.{both-yes, told-no, told-yes, actsShape, act-malformed, act-far, act-good}
 use Rattle.season_lines.proofs.act_line.Statement.{statement}
 use Rattle.season_lines.proofs.act_line.Tie as tie
@@ -70,7 +70,7 @@ returns-3 c =
     let letter = c .before .before .before .before .before .before .before .before .before .before .before .before .before .value-in in
     let place = c .before .before .before .before .before .before .value-in2 in
     let item = c .before .before .before .before .before .value-in3 in
-    ap (Placed (place .result)) (c .act-of .ensures)
+    ap (ActLine (place .result)) (c .act-of .ensures)
     ∙ act-good _ _ _ _ (letter .result) (letter .ensures) (place .result) (item .result) (place .ensures) (item .ensures)
     (shape (c .before .before .before .before .before .before .before))
     (both-yes _ _

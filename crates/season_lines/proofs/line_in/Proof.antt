@@ -14,7 +14,7 @@ returns : tie.Need-returns
 returns c = line-count _ _ _ _ _ (omega arith) (λ e. c .if1 .taken (e ∙ sym (c .before .names-in .ensures .0)))
 
 -- where there are as many fields as names
-full : (c : tie.Else1) → (let a = c .before .before .args in a .count ≡ namesIn (a .table) (a .form))
+full : (c : tie.Else1) → (let a = c .before .before .args in a .count ≡ namesIn (a .table) (a .heading))
 full c = c .if1 .left ∙ c .before .names-in .ensures .0
 
 array-copy-out-a : tie.Need-array-copy-out-a

@@ -37,10 +37,10 @@ numbers-under-requires c κs = search needs
 numbers :
     (c : tie.After-numbers-under) →
     (let a = c .before .before .before .before .before .before .before .args in
-    c .numbers-under .result ≡ numbersUnder (a .form) (valuesOf (a .kind) (a .item) (a .minutes) (a .blocks) (a .load) (a .write)))
+    c .numbers-under .result ≡ numbersUnder (a .heading) (valuesOf (a .kind) (a .item) (a .minutes) (a .blocks) (a .load) (a .write)))
 numbers c =
     c .numbers-under .ensures
-    ∙ (λ i. numbersUnder (c .before .before .before .before .before .before .before .args .form) (numbersFrom (c .before .before .before .before .before .before .value-in .ensures i) (c .before .before .before .before .before .value-in2 .ensures i) (c .before .before .before .before .value-in3 .ensures i) (c .before .before .before .value-in4 .ensures i) (c .before .before .value-in5 .ensures i) (c .before .value-in6 .ensures i)))
+    ∙ (λ i. numbersUnder (c .before .before .before .before .before .before .before .args .heading) (numbersFrom (c .before .before .before .before .before .before .value-in .ensures i) (c .before .before .before .before .before .value-in2 .ensures i) (c .before .before .before .before .value-in3 .ensures i) (c .before .before .before .value-in4 .ensures i) (c .before .before .value-in5 .ensures i) (c .before .value-in6 .ensures i)))
 
 is-letter-requires : tie.Need-is-letter-requires
 is-letter-requires c κs = search needs

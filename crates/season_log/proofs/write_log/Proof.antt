@@ -99,10 +99,10 @@ part-put-lines-end c = search needs
 put-lines-requires : tie.Need-put-lines-requires
 put-lines-requires c κs =
     let s = c .before .before .before .before .before .before .before .before .before .before .before .before .before .before in
-    let form = s .args .heading in
+    let heading = s .args .heading in
     record {
-      taken = stepsOf form (given s);
-      whole = sized-whole form (given s) _ (list-under form (s .args .list .now)) (sized (c .before .before .before .before .before .before .before .before)) .0;
+      taken = stepsOf heading (given s);
+      whole = sized-whole heading (given s) _ (list-under heading (s .args .list .now)) (sized (c .before .before .before .before .before .before .before .before)) .0;
       room = go-room (room (c .before .before .before .before .before)) _ (lines s) [] _ (named (c .before .before .before));
     }
 
@@ -127,11 +127,11 @@ same-length c = search needs
 returns-4 : tie.Need-returns-4
 returns-4 c =
     let s = c .before .before .before .before .before .before .before .before .before .before .before .before .before .before .before .before .before in
-    let form = s .args .heading in
-    let under = list-under form (s .args .list .now) in
+    let heading = s .args .heading in
+    let under = list-under heading (s .args .list .now) in
     let n = size (c .before .before .before .before .before .before .before .before .before .before .before) in
     asked (c .before .before .before .before .before .before .before .before .before .before .before .before .before .before) _ _
-    (told-text form (given s) n (s .args .page .now) _ under (sized (c .before .before .before .before .before .before .before .before .before .before .before)) (c .before .before .before .before .before .before .before .before .before .if2 .left) (ltb-false (length (s .args .page .now)) n (c .before .before .before .before .before .before .before .before .if3 .left))
+    (told-text heading (given s) n (s .args .page .now) _ under (sized (c .before .before .before .before .before .before .before .before .before .before .before)) (c .before .before .before .before .before .before .before .before .before .if2 .left) (ltb-false (length (s .args .page .now)) n (c .before .before .before .before .before .before .before .before .if3 .left))
     (written (c .before .before)))
 
 pub write-log-spec : {M : Type 1} → statement M

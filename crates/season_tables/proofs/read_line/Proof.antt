@@ -8,15 +8,15 @@ use Rattle.season_tables.proofs.read_line.Statement.{statement}
 use Rattle.season_tables.proofs.read_line.Tie as tie
 use Rattle.season_tables.proofs.read_line.Reads as reads
 use Rattle.season_tables.proofs.read_line.Lts as lts
-use Rattle.season_lines.proofs.form_of.Reads as form-of-reads
+use Rattle.season_lines.proofs.heading_of.Reads as heading-of-reads
 use Rattle.season_lines.proofs.line_in.Reads as line-in-reads
 use Rattle.season_tables.proofs.take_blank.Reads as take-blank-reads
 use Rattle.season_tables.proofs.take_line.Reads as take-line-reads
 use Rattle.season_tables.proofs.take_names.Reads as take-names-reads
 use Rattle.season_tables.proofs.wants_values.Reads as wants-values-reads
 
-form-of-requires : tie.Need-form-of-requires
-form-of-requires c κs = search needs
+heading-of-requires : tie.Need-heading-of-requires
+heading-of-requires c κs = search needs
 
 take-names-requires : tie.Need-take-names-requires
 take-names-requires c κs = search needs
@@ -25,7 +25,7 @@ returns : tie.Need-returns
 returns c =
     let a = (c .before .before .before .before .before .before .before .before .args) in
     let r = (c .take-names) in
-    lead-names (a .upto) (a .stage) (a .seen) (a .catalog .now) (a .calls .now) (a .acts .now) (a .text .now) (a .line) (r .result) (c .before .form-of .result) (not-true _ (c .before .before .if1 .taken)) (c .before .form-of .ensures) (r .ensures)
+    lead-names (a .upto) (a .stage) (a .seen) (a .catalog .now) (a .calls .now) (a .acts .now) (a .text .now) (a .line) (r .result) (c .before .heading-of .result) (not-true _ (c .before .before .if1 .taken)) (c .before .heading-of .ensures) (r .ensures)
 
 wants-values-requires : tie.Need-wants-values-requires
 wants-values-requires c κs = search needs
@@ -71,7 +71,7 @@ pub read-line-spec : {M : Type 1} → statement M
 read-line-spec =
     tie.close
     (tie.spec
-    form-of-requires
+    heading-of-requires
     take-names-requires
     returns
     wants-values-requires
