@@ -1,5 +1,6 @@
 // The cache by value, in the form of paper 01: a struct whose calls are methods that take it and hand back the answer with the next one.
-// A method stores the struct in bytes, makes the call in place there, and reads it back; only this form pays for that.
+// A method stores the struct in bytes, makes the call in place there, and reads it back, and an opening is made in bytes too; only this
+// form pays for that.
 ghost use mathlib.Core.Path.{_≡_};
 ghost use Prim.Native.Nat.{_≤_};
 ghost use lib.ListN.{length};
