@@ -186,13 +186,6 @@ fn held_count(b: &[u8], n: usize) -> u32
     sum
 }
 
-// A count in 64 bits, with a bound for the sums.
-fn wide(x: u32) -> u64
-    ensures { λ r. ⌜ (r ≡ x) × (r < 4294967296) ⌝ }
-{
-    x as u64
-}
-
 // The sum of the loads counted for the first `n` items.
 fn loads_counted(b: &[u8], n: usize) -> u64
     requires { ⌜ CountedItems (now b) n ⌝ }
@@ -201,7 +194,7 @@ fn loads_counted(b: &[u8], n: usize) -> u64
     let mut sum: u64 = 0;
     let mut i: usize = 0;
     while i < n {
-        sum = sum + wide(layout::item_loads(b, i));
+        sum = sum + layout::item_loads(b, i) as u64;
         i += 1;
     }
     sum
@@ -215,7 +208,7 @@ fn writebacks_counted(b: &[u8], n: usize) -> u64
     let mut sum: u64 = 0;
     let mut i: usize = 0;
     while i < n {
-        sum = sum + wide(layout::item_writebacks(b, i));
+        sum = sum + layout::item_writebacks(b, i) as u64;
         i += 1;
     }
     sum

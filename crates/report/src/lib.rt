@@ -68,7 +68,7 @@ pub fn report(b: &[u8], rival: Rival, page: &mut [u8]) -> Written
 fn refusal_length(number: u32, line: u32, item: u32) -> usize
     ensures { λ r. ⌜ r ≡ length (refusedText number line item) ⌝ }
 {
-    let numbers = [report_lines::wide(number), report_lines::wide(line)];
+    let numbers = [number as u64, line as u64];
     let first = 13 + report_lines::line_length(&numbers);
     first + sentence::sentence_bytes(number, line, item)
 }
@@ -78,7 +78,7 @@ fn put_refusal(page: &mut [u8], number: u32, line: u32, item: u32)
     requires { ⌜ length (refusedText number line item) ≤ length (now page) ⌝ }
     ensures { λ _. ⌜ now (page .exit) ≡ textOver (refusedText number line item) (now (page .entry)) ⌝ }
 {
-    let both = [report_lines::wide(number), report_lines::wide(line)];
+    let both = [number as u64, line as u64];
     report_lines::put_table(page, b"refusal line\n", &both);
     let at = 13 + report_lines::line_length(&both);
     sentence::write_sentence(number, line, item, &mut page[at..]);

@@ -60,12 +60,6 @@ pub fn put_table(page: &mut [u8], names: &[u8], numbers: &[u64])
     put_line(&mut page[at..], numbers);
 }
 
-pub fn wide(x: u32) -> u64
-    ensures { λ r. ⌜ r ≡ x ⌝ }
-{
-    x as u64
-}
-
 // The whole tenths of an hour in so many minutes.
 fn whole_tenths(minutes: u32) -> u32
     ensures { λ r. ⌜ r ≡ tenthsOf minutes ⌝ }
@@ -78,12 +72,10 @@ fn item_numbers(b: &[u8], i: usize) -> [u64; 4]
     requires { ⌜ (length (now b) ≡ stateBytes) × (i < 256) ⌝ }
     ensures { λ r. ⌜ r ≡ itemNumbers i (usageOf (cacheOf (now (b .entry))) i) ⌝ }
 {
-    [
-        i as u64,
-        wide(whole_tenths(layout::minutes(b, i))),
-        wide(layout::item_loads(b, i)),
-        wide(layout::item_writebacks(b, i)),
-    ]
+    let tenths = whole_tenths(layout::minutes(b, i)) as u64;
+    let loads = layout::item_loads(b, i) as u64;
+    let writebacks = layout::item_writebacks(b, i) as u64;
+    [i as u64, tenths, loads, writebacks]
 }
 
 // How many bytes the items' lines have.
@@ -136,7 +128,7 @@ fn left_side(b: &[u8], h: u32) -> u64
 {
     let total = total_cost(b);
     let k = layout::capacity(b);
-    let factor = wide(k - h + 1);
+    let factor = (k - h + 1) as u64;
     factor * total
 }
 
@@ -145,7 +137,7 @@ fn right_side(b: &[u8], cost: u64) -> u64
     requires { ⌜ ValidBytes (now b) × (cost ≤ 1000000000000) ⌝ }
     ensures { λ r. ⌜ r ≡ rightSide (cacheOf (now (b .entry)) .k) cost ⌝ }
 {
-    let k = wide(layout::capacity(b));
+    let k = layout::capacity(b) as u64;
     k * cost
 }
 
@@ -166,16 +158,21 @@ fn figures(b: &[u8], rival: Rival) -> [u64; 11]
     ensures { λ r. ⌜ take (8 + rivalCount rival) r ≡ totalNumbers (view (cacheOf (now (b .entry)))) rival ⌝ }
 {
     let more = rival_numbers(b, rival);
+    let hits = layout::hits(b) as u64;
+    let loads = layout::loads(b) as u64;
     let load = layout::load_cost(b);
+    let evictions = layout::evictions(b) as u64;
+    let dirties = layout::dirty_evictions(b) as u64;
+    let writebacks = layout::writebacks(b) as u64;
     let write = layout::write_cost(b);
     let total = total_cost(b);
     [
-        wide(layout::hits(b)),
-        wide(layout::loads(b)),
+        hits,
+        loads,
         load,
-        wide(layout::evictions(b)),
-        wide(layout::dirty_evictions(b)),
-        wide(layout::writebacks(b)),
+        evictions,
+        dirties,
+        writebacks,
         write,
         total,
         more[0],

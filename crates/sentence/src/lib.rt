@@ -145,17 +145,11 @@ fn word_bytes(number: u32) -> usize
     word.to - word.from
 }
 
-fn wide(x: u32) -> u64
-    ensures { λ r. ⌜ r ≡ x ⌝ }
-{
-    x as u64
-}
-
 fn line_bytes(line: u32) -> usize
     ensures { λ r. ⌜ r ≡ length (linePart line) ⌝ }
 {
     if 0 < line {
-        7 + decimal::width(wide(line))
+        7 + decimal::width(line as u64)
     } else {
         0
     }
@@ -165,7 +159,7 @@ fn item_bytes(number: u32, item: u32) -> usize
     ensures { λ r. ⌜ r ≡ length (itemPart number item) ⌝ }
 {
     if names_item(number) {
-        7 + decimal::width(wide(item))
+        7 + decimal::width(item as u64)
     } else {
         0
     }

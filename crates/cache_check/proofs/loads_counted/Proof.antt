@@ -1,5 +1,4 @@
 -- `cache_check::loads_counted` meets its contract: the loop adds up the loads of the items. Assumes nothing.
-use mathlib.Core.Path.{_∙_}
 use mathlib.Core.List.{List}
 use Prim.Native.Nat.{ℕ, _-_}
 use native.Mathlib.Omega.{arith}
@@ -25,8 +24,8 @@ loop-holds c = adding-none 4294967295 (term (c .before .args .b .now)) (c .befor
 item-loads-requires : tie.Need-item-loads-requires Inv-loop μ-loop
 item-loads-requires c κs = (c .before .before .before .pre .size, omega (arith, c .before .before .before .pre .few))
 
-wide-requires : tie.Need-wide-requires Inv-loop μ-loop
-wide-requires c κs = search needs
+cast-sum : tie.Need-cast-sum Inv-loop μ-loop
+cast-sum c = search needs
 
 add-sum : tie.Need-add-sum Inv-loop μ-loop
 add-sum c = omega arith
@@ -39,9 +38,9 @@ loop-less c = omega arith
 
 loop-again : tie.Need-loop-again Inv-loop μ-loop
 loop-again c =
-    let l = c .before .before .before .loop in
-    adding-more 4294967295 (term (c .before .before .before .before .before .args .b .now)) (c .before .before .before .before .before .args .n) (l .i) (l .sum) (c .wide .result) (l .inv) (omega arith) (omega (arith, c .wide .ensures .1))
-    (c .wide .ensures .0 ∙ c .before .item-loads .ensures)
+    let l = c .before .before .loop in
+    let s = c .before .before .before .before in
+    adding-more 4294967295 (term (s .args .b .now)) (s .args .n) (l .i) (l .sum) (c .item-loads .result) (l .inv) (omega arith) (omega arith) (c .item-loads .ensures)
 
 returns : tie.Need-returns Inv-loop μ-loop
 returns c = adding-all 4294967295 (term (c .before .before .before .args .b .now)) (c .before .before .before .args .n) (c .before .loop .i) (c .before .loop .sum) (c .before .loop .inv) (omega arith)
@@ -54,7 +53,7 @@ loads-counted-spec =
     μ-loop
     loop-holds
     item-loads-requires
-    wide-requires
+    cast-sum
     add-sum
     add-i
     loop-less

@@ -1,11 +1,9 @@
 -- `report::put_refusal` meets its contract: the names and the two numbers first, then the sentence into the rest. Assumes nothing.
-use mathlib.Core.Path.{_≡_, refl, sym, ap, _∙_}
-use mathlib.Core.List.{List, [], _∷_, _++_, append-nil}
-use Prim.Native.Nat.{ℕ, _+_}
+use mathlib.Core.Path.{refl, sym, _∙_}
+use mathlib.Core.List.{[], _∷_, _++_, append-nil}
+use Prim.Native.Nat.{_+_}
 use native.Mathlib.Omega.{arith}
 use borrow.Author.Needs.{needs}
-use lib.ListN.{length}
-use Rattle.decimal.specs.InnerPages.{textOver}
 use Rattle.decimal.proofs.Laws.{page-all}
 use Rattle.decimal.proofs.Pages.{TextGoing, go-first, go-as, go-room, go-next, go-end}
 use Rattle.sentence.specs.Sentences.{sentenceOf}
@@ -15,35 +13,17 @@ use Rattle.report.proofs.Laws.{told-count, refused-count}
 use Rattle.report.proofs.put_refusal.Statement.{statement}
 use Rattle.report.proofs.put_refusal.Tie as tie
 
-wide-requires : tie.Need-wide-requires
-wide-requires c κs = search needs
-
-wide-requires-2 : tie.Need-wide-requires-2
-wide-requires-2 c κs = search needs
-
 slice-aggregate-put-table : tie.Need-slice-aggregate-put-table
 slice-aggregate-put-table c = search needs
 
 slice-aggregate-put-table-2 : tie.Need-slice-aggregate-put-table-2
 slice-aggregate-put-table-2 c = search needs
 
--- the code's two numbers are those of the text
-numbers-are :
-    (c : tie.After-wide2) →
-    (let a = c .before .before .before .args in c .before .wide .result ∷ c .wide2 .result ∷ [] ≡ a .number ∷ a .line ∷ [])
-numbers-are c = rw (c .before .wide .ensures, c .wide2 .ensures)
-
 put-table-requires : tie.Need-put-table-requires
 put-table-requires c κs =
-    let s = c .before .before .before .before .before .before in
+    let s = c .before .before .before .before in
     let a = s .args in
-    omega (
-      arith,
-      s .pre,
-      told-count (a .number) (a .line),
-      refused-count (a .number) (a .line) (a .item),
-      ap (λ (ns : List ℕ). length (refusalNames ++ lineOf ns)) (numbers-are (c .before .before .before)),
-    )
+    omega (arith, s .pre, told-count (a .number) (a .line), refused-count (a .number) (a .line) (a .item))
 
 slice-aggregate-line-length : tie.Need-slice-aggregate-line-length
 slice-aggregate-line-length c = search needs
@@ -57,24 +37,22 @@ add-at c = search needs
 -- the first two lines are written, and the sentence is left
 told :
     (c : tie.After-line-length) →
-    (let s = c .before .before .before .before .before .before .before .before .before .before .before in
+    (let s = c .before .before .before .before .before .before .before .before .before in
     let a = s .args in
     TextGoing (refusedText (a .number) (a .line) (a .item)) (a .page .now) (13 + c .line-length .result) (sentenceOf (a .number) (a .line) (a .item) ++ [])
     (c .before .before .before .before .put-table .last .0))
 told c =
-    let s = c .before .before .before .before .before .before .before .before .before .before .before in
+    let s = c .before .before .before .before .before .before .before .before .before in
     let a = s .args in
-    let ns = numbers-are (c .before .before .before .before .before .before .before .before) in
     go-as (sym (append-nil _))
     (go-first (refusalNames ++ lineOf (a .number ∷ a .line ∷ [])) (sentenceOf (a .number) (a .line) (a .item)) (a .page .now) (s .pre)
-    (omega (arith, told-count (a .number) (a .line), c .line-length .ensures .0, ap (λ (m : List ℕ). length (lineOf m)) ns))
-    (c .before .before .before .before .put-table .ensures ∙ ap (λ (m : List ℕ). textOver (refusalNames ++ lineOf m) (a .page .now)) ns))
+    (omega (arith, told-count (a .number) (a .line), c .line-length .ensures .0)) (c .before .before .before .before .put-table .ensures))
 
 sub-write-sentence : tie.Need-sub-write-sentence
-sub-write-sentence c = omega (arith, c .before .before .before .before .before .before .before .before .before .before .before .pre, told c)
+sub-write-sentence c = omega (arith, c .before .before .before .before .before .before .before .before .before .pre, told c)
 
 part-write-sentence-start : tie.Need-part-write-sentence-start
-part-write-sentence-start c = omega (arith, c .before .before .before .before .before .before .before .before .before .before .before .pre, told c)
+part-write-sentence-start c = omega (arith, c .before .before .before .before .before .before .before .before .before .pre, told c)
 
 part-write-sentence-end : tie.Need-part-write-sentence-end
 part-write-sentence-end c = search needs
@@ -87,7 +65,7 @@ same-length c = search needs
 
 returns : tie.Need-returns
 returns c =
-    let s = c .before .before .before .before .before .before .before .before .before .before .before .before .before .before .before in
+    let s = c .before .before .before .before .before .before .before .before .before .before .before .before .before in
     let a = s .args in
     let t = sentenceOf (a .number) (a .line) (a .item) in
     let g = told (c .before .before .before .before) in
@@ -99,8 +77,6 @@ pub put-refusal-spec : {M : Type 1} → statement M
 put-refusal-spec =
     tie.close
     (tie.spec
-    wide-requires
-    wide-requires-2
     slice-aggregate-put-table
     slice-aggregate-put-table-2
     put-table-requires

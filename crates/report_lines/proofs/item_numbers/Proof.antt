@@ -9,24 +9,24 @@ minutes-requires c κs = search needs
 whole-tenths-requires : tie.Need-whole-tenths-requires
 whole-tenths-requires c κs = search needs
 
-wide-requires : tie.Need-wide-requires
-wide-requires c κs = search needs
+cast-tenths : tie.Need-cast-tenths
+cast-tenths c = search needs
 
 item-loads-requires : tie.Need-item-loads-requires
 item-loads-requires c κs = search needs
 
-wide-requires-2 : tie.Need-wide-requires-2
-wide-requires-2 c κs = search needs
+cast-loads : tie.Need-cast-loads
+cast-loads c = search needs
 
 item-writebacks-requires : tie.Need-item-writebacks-requires
 item-writebacks-requires c κs = search needs
 
-wide-requires-3 : tie.Need-wide-requires-3
-wide-requires-3 c κs = search needs
+cast-writebacks : tie.Need-cast-writebacks
+cast-writebacks c = search needs
 
 returns : tie.Need-returns
 returns c =
-    rw (c .before .before .before .before .wide .ensures, c .before .before .before .before .before .whole-tenths .ensures, c .before .before .before .before .before .before .minutes .ensures, c .before .before .wide2 .ensures, c .before .before .before .item-loads .ensures, c .wide3 .ensures, c .before .item-writebacks .ensures)
+    rw (c .before .before .whole-tenths .ensures, c .before .before .before .minutes .ensures, c .before .item-loads .ensures, c .item-writebacks .ensures)
 
 pub item-numbers-spec : {M : Type 1} → statement M
 item-numbers-spec =
@@ -34,9 +34,9 @@ item-numbers-spec =
     (tie.spec
     minutes-requires
     whole-tenths-requires
-    wide-requires
+    cast-tenths
     item-loads-requires
-    wide-requires-2
+    cast-loads
     item-writebacks-requires
-    wide-requires-3
+    cast-writebacks
     returns)
