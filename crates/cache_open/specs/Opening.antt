@@ -18,10 +18,10 @@ openingNumber size o =
     let bytes = length (o .catalog) in
     cond (eqb size stateBytes) (cond (eqb (bytes % 5) 0 && leb bytes 1280) (openingRefusal (openingIn o)) 3) 17
 
-pub record OpenedLent (b : List ℕ) (o : Opening (List ℕ)) (number : ℕ) (left : List ℕ) : Type 0 where
+pub record OpenedLent (b : List ℕ) (o : Opening (List ℕ)) (number : ℕ) (d : List ℕ) : Type 0 where
   pub answer : number ≡ openingNumber (length b) o
-  pub valid : number ≡ 0 → ValidBytes left
-  pub stands : number ≡ 0 → view (cacheOf left) ≡ startsAt (openingIn o)
+  pub valid : number ≡ 0 → ValidBytes d
+  pub stands : number ≡ 0 → view (cacheOf d) ≡ startsAt (openingIn o)
   -- "It has 256 places, one for each sail number, empty at opening"
-  pub empty : number ≡ 0 → (i : ℕ) → i < 256 → EmptyPlace (cacheOf left) i
-  pub refused : number ≢ 0 → left ≡ b
+  pub empty : number ≡ 0 → (i : ℕ) → i < 256 → EmptyPlace (cacheOf d) i
+  pub refused : number ≢ 0 → d ≡ b

@@ -68,8 +68,8 @@ pub record SeasonLent (o : Opening Catalog) (calls : List Call) (numbers d : Lis
 
 -- The season theorem of the arguments alone: a refused opening leaves every byte and every answer as it was; else the three
 -- conclusions hold of the answers noted and of the bytes left.
-pub record RanLent (b : List ℕ) (o : Opening (List ℕ)) (calls : List Call) (before after : List ℕ) (number : ℕ) (left : List ℕ) : Type 0 where
+pub record RanLent (b : List ℕ) (o : Opening (List ℕ)) (calls : List Call) (before after : List ℕ) (number : ℕ) (d : List ℕ) : Type 0 where
   pub answer : number ≡ openingNumber (length b) o
-  pub refused : number ≢ 0 → (left ≡ b) × (after ≡ before)
+  pub refused : number ≢ 0 → (d ≡ b) × (after ≡ before)
   pub numbers : List ℕ
-  pub season : number ≡ 0 → SeasonLent (openingIn o) calls numbers left × (after ≡ sets before 0 numbers)
+  pub season : number ≡ 0 → SeasonLent (openingIn o) calls numbers d × (after ≡ sets before 0 numbers)

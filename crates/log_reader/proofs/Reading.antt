@@ -30,7 +30,7 @@ use Rattle.season_lines.specs.declared.Names.the-variants.{Known, Unknown}
 use Rattle.season_lines.specs.declared.Line.{Line}
 use Rattle.season_lines.specs.declared.Line.the-variants.{Sizes, Item as ItemLine, Step as StepLine, Act as ActLine, Refused}
 use Rattle.season_lines.specs.Lines.{headingOf, rangeUnder, lineIn}
-use Rattle.season_log.specs.Log.{Logged, steps, fault, ahead, noValues, stepText, numbersOnto, listOf, follows, readLines, headed, readTable, readLog}
+use Rattle.season_log.specs.Log.{Logged, steps, fault, ahead, noValues, stepText, numbersOnto, listOf, lineAhead, readLines, headed, readTable, readLog}
 use Rattle.season_log.specs.Inner.{onward}
 use Rattle.season_log.proofs.Lines.{split-first, ranged, lineOf, step-line, line-lacks, no-step as refused-no-step, step-written, step-reads}
 use Rattle.season_log.proofs.OneText.{onward-none, onward-more, length-list}
@@ -50,7 +50,7 @@ line-left :
     (heading n : ℕ) (s : List ℕ) →
     0 < length s →
     readLines heading n (split 10 s)
-    ≡ follows (firstLine heading n s) (readLines heading (suc n) (split 10 (drop (length (before 10 s) + 1) s)))
+    ≡ lineAhead (firstLine heading n s) (readLines heading (suc n) (split 10 (drop (length (before 10 s) + 1) s)))
 unfolding readLines firstLine
 line-left heading n s p = go (ltb (length (before 10 s)) (length s)) refl
   where
@@ -58,7 +58,7 @@ line-left heading n s p = go (ltb (length (before 10 s)) (length s)) refl
         (t : Bool) →
         ltb (length (before 10 s)) (length s) ≡ t →
         readLines heading n (split 10 s)
-        ≡ follows (cond t (lineIn 2 heading (fieldsOf (before 10 s)) n) (Refused (Malformed n)))
+        ≡ lineAhead (cond t (lineIn 2 heading (fieldsOf (before 10 s)) n) (Refused (Malformed n)))
         (readLines heading (suc n) (split 10 (drop (length (before 10 s) + 1) s)))
     go true h =
         rw (split-more 10 s (ltb-true (length (before 10 s)) (length s) h), split-some 10 (drop (length (before 10 s) + 1) s) .1)
@@ -75,7 +75,7 @@ none-left heading text at n h = rw (drop-of-length-le text {i = at} h)
 abbrev pub NoStep : Line → Type 0
 NoStep l = (s : Step) → l ≡ StepLine s → ⊥
 
-no-step : (l : Line) (rest : Logged) → NoStep l → follows l rest ≡ fault (lineRefusal l)
+no-step : (l : Line) (rest : Logged) → NoStep l → lineAhead l rest ≡ fault (lineRefusal l)
 no-step (StepLine s) rest h = absurd (h s refl)
 no-step (Refused r) rest h = refl
 no-step (Sizes k w r) rest h = refl
@@ -135,7 +135,7 @@ module _ (heading n : ℕ) (s : List ℕ) (m : ℕ) (e : m ≡ length (before 10
         (sym (is ∙ ap (λ (t : List ℕ). lineIn 2 heading (fieldsOf t) n) (piece-is 10 s 0 m e)))
 
     pub first-refused : (r : Refusal) → NoStep l → r ≡ lineRefusal l → FirstIs (firstLine heading n s) s (NextRefused r)
-    first-refused r h q rest = ap (λ (v : Line). follows v rest) first-fed ∙ no-step l rest h ∙ ap fault (sym q)
+    first-refused r h q rest = ap (λ (v : Line). lineAhead v rest) first-fed ∙ no-step l rest h ∙ ap fault (sym q)
 
     pub first-step : (t : Step) → l ≡ StepLine t → FirstIs (firstLine heading n s) s (NextStep t (m + 1))
     first-step t f = (first-fed ∙ f, omega arith)
@@ -270,7 +270,7 @@ module _ (heading : ℕ) (text : List ℕ) (at count : ℕ) (next : Next)
   abbrev rest : Logged
   rest = readLines heading (suc line) (split 10 (drop (length (before 10 left) + 1) left))
 
-  leads : readLines heading line (split 10 left) ≡ follows (firstLine heading line left) rest
+  leads : readLines heading line (split 10 left) ≡ lineAhead (firstLine heading line left) rest
   leads = line-left heading line left (omega (arith, length-drop at text))
 
   first : FirstIs (firstLine heading line left) left next
@@ -283,7 +283,7 @@ module _ (heading : ℕ) (text : List ℕ) (at count : ℕ) (next : Next)
       ReadSoFar heading text old at count list →
       ReadInto (readLines heading 2 (split 10 text)) old (Not r) list
   read-stops r e g =
-      let stops : (x : Logged) → follows (firstLine heading line left) x ≡ fault r = rw e at first in
+      let stops : (x : Logged) → lineAhead (firstLine heading line left) x ≡ fault r = rw e at first in
       let all : fault r ≡ readLines heading 2 (split 10 text) = ap (onward (g .read)) (sym (leads ∙ stops rest)) ∙ g .left in
       rw (← all) refl
 
@@ -308,7 +308,7 @@ module _ (heading : ℕ) (text : List ℕ) (at count : ℕ) (next : Next)
         after ≡ sets list (24 * count) (numbersOnto (numbersOf s) []) →
         ReadsOn heading text at count list (at + bytes) (count + 1) after × Roomy text (at + bytes) (count + 1) after
     read-goes list after fit put =
-        let next : readLines heading line (split 10 left) ≡ ahead s rest = leads ∙ ap (λ (v : Line). follows v rest) (step .0) in
+        let next : readLines heading line (split 10 left) ≡ ahead s rest = leads ∙ ap (λ (v : Line). lineAhead v rest) (step .0) in
         let behind : drop (length (before 10 left) + 1) left ≡ drop (at + bytes) text =
         ap (λ (k : ℕ). drop k left) (sym (step .1)) ∙ drop-drop bytes at text in
         let later : suc line ≡ count + 1 + 2 = omega arith in

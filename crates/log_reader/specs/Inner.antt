@@ -9,7 +9,7 @@ use Rattle.types.specs.Types.{numbersFrom, numbersOf}
 use Rattle.line_fields.specs.{Fields.{split, fieldsOf}, Inner.before}
 use Rattle.season_lines.specs.declared.Line.{Line, the-variants.{Sizes, Item as ItemLine, Step as StepLine, Act as ActLine, Refused}}
 use Rattle.season_lines.specs.Lines.{rangeUnder, lineIn}
-use Rattle.season_log.specs.Log.{Logged, steps, fault, noValues, stepText, listOf, follows, readLines}
+use Rattle.season_log.specs.Log.{Logged, steps, fault, noValues, stepText, listOf, lineAhead, readLines}
 use Rattle.season_log.specs.Inner.{onward}
 use Rattle.log_reader.specs.declared.{Found.Found, Next.{Next, the-variants.{Step as NextStep, Refused as NextRefused}}, ReadAnswer.{ReadAnswer, the-variants.{Steps, Refused as Not}}}
 
@@ -71,7 +71,7 @@ firstLine heading n s =
 -- a step and the bytes of its line, or the refusal that follows
 abbrev pub FirstIs : Line → List ℕ → Next → Type 0
 FirstIs line s (NextStep step bytes) = (line ≡ StepLine step) × (bytes ≡ length (before 10 s) + 1)
-FirstIs line s (NextRefused r) = (rest : Logged) → follows line rest ≡ fault r
+FirstIs line s (NextRefused r) = (rest : Logged) → lineAhead line rest ≡ fault r
 
 -- three numbers as bytes
 abbrev pub threeNumbers : ℕ → ℕ → ℕ → List ℕ

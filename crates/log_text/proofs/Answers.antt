@@ -14,7 +14,7 @@ use Rattle.types.specs.declared.{Step.Step, Refusal.{Refusal, the-variants.{Sho
 use Rattle.line_fields.specs.Fields.{split}
 use Rattle.season_lines.specs.Lines.{headingText}
 use Rattle.season_log.specs.declared.LogAnswer.{LogAnswer, the-variants.{Count, Refused as NotWritten}}
-use Rattle.season_log.specs.Log.{Logged, steps, fault, listOf, listed, stepText, stepLines, logText, readLog, readTable, writeAnswer, writtenPage}
+use Rattle.season_log.specs.Log.{Logged, steps, fault, listOf, lentLog, stepText, stepLines, logText, readLog, readTable, writeAnswer, writtenPage}
 use Rattle.season_log.proofs.OneText.{one-text, length-list}
 use Rattle.log_reader.specs.declared.ReadAnswer.{ReadAnswer, the-variants.{Steps, Refused as NotRead}}
 use Rattle.log_reader.specs.Answers.{readAnswer, readList, readHeading, readCount}
@@ -100,7 +100,7 @@ written (NotWritten r) = Refused r
 record Read (s after : List ℕ) (heading n : ℕ) : Type 0 where
   ss : List Step
   reads : readLog s ≡ steps heading ss
-  log : listed heading (take (24 * n) after) ≡ steps heading ss
+  log : lentLog heading (take (24 * n) after) ≡ steps heading ss
 
 list-read :
     (s list after : List ℕ) (heading n : ℕ) →
@@ -126,7 +126,7 @@ list-read s list after heading n e f = go (readLog s) refl e f
             record {
               ss = ss;
               reads = h ∙ ap (λ (x : ℕ). steps x ss) (sym headingIs);
-              log = ap (listed heading) front ∙ ap (λ (x : ℕ). listed x (listOf ss)) headingIs ∙ one-text .listReads g ss (law .1) (law .2) ∙ ap (λ (x : ℕ). steps x ss) (sym headingIs);
+              log = ap (lentLog heading) front ∙ ap (λ (x : ℕ). lentLog x (listOf ss)) headingIs ∙ one-text .listReads g ss (law .1) (law .2) ∙ ap (λ (x : ℕ). steps x ss) (sym headingIs);
             }
 
 -- the writer's answer to it, on any page
@@ -134,8 +134,8 @@ pub log-again :
     (s list after page p : List ℕ) (heading n : ℕ) (a : LogAnswer) (w : Written) →
     Steps heading n ≡ readAnswer (readLog s) list →
     after ≡ readList (readLog s) list →
-    a ≡ writeAnswer (listed heading (take (24 * n) after)) page →
-    p ≡ writtenPage (listed heading (take (24 * n) after)) page →
+    a ≡ writeAnswer (lentLog heading (take (24 * n) after)) page →
+    p ≡ writtenPage (lentLog heading (take (24 * n) after)) page →
     written a ≡ w →
     Answered (logOutcome s) page w p
 unfolding logOutcome

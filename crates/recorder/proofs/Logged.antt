@@ -7,7 +7,7 @@ use Rattle.types.specs.declared.Refusal.{Refusal}
 use Rattle.types.specs.Types.{refusalNumber, refusalLine}
 use Rattle.season_log.specs.declared.LogAnswer.{LogAnswer}
 use Rattle.season_log.specs.declared.LogAnswer.the-variants.{Count, Refused}
-use Rattle.season_log.specs.Log.{listed, writeAnswer, writtenPage}
+use Rattle.season_log.specs.Log.{lentLog, writeAnswer, writtenPage}
 use Rattle.recorder.specs.Reports.{bothHalves, lengthTold, LoggedLent}
 
 module _
@@ -15,13 +15,13 @@ module _
     (list before after : List ℕ)
     (was : ℕ)
     (w : LogAnswer)
-    (is : w ≡ writeAnswer (listed heading list) before)
-    (page : after ≡ writtenPage (listed heading list) before)
+    (is : w ≡ writeAnswer (lentLog heading list) before)
+    (page : after ≡ writtenPage (lentLog heading list) before)
   where
     -- an answer that is known to be z
     lent : (z : LogAnswer) → w ≡ z → LoggedLent heading list before was (bothHalves z) after (lengthTold z was)
     lent z e =
-        let same : z ≡ writeAnswer (listed heading list) before = sym e ∙ is in
+        let same : z ≡ writeAnswer (lentLog heading list) before = sym e ∙ is in
         record { tells = ap bothHalves same; page = page; size = ap (λ (x : LogAnswer). lengthTold x was) same }
 
     pub lent-text : (n : ℕ) → w ≡ Count n → LoggedLent heading list before was 0 after n

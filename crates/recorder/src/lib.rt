@@ -53,12 +53,12 @@ pub extern "C" fn recorder_close(state: &mut [u8]) -> u32
 
 // Writes the report of the state on the page, and how long it is in the length's place.
 #[no_mangle]
-pub extern "C" fn recorder_report(state: &[u8], page: &mut [u8], told: &mut usize) -> u32
-    ensures { λ r. ⌜ ReportedLent (now (state .entry)) (now (page .entry)) (now (told .entry)) r (now (page .exit)) (now (told .exit)) ⌝ }
+pub extern "C" fn recorder_report(state: &[u8], page: &mut [u8], written: &mut usize) -> u32
+    ensures { λ r. ⌜ ReportedLent (now (state .entry)) (now (page .entry)) (now (written .entry)) r (now (page .exit)) (now (written .exit)) ⌝ }
 {
     match report::report(state, Rival::Absent, page) {
         Written::Text(n) => {
-            *told = n;
+            *written = n;
             0
         }
         Written::Refused(r) => r.number(),
@@ -73,9 +73,9 @@ pub extern "C" fn recorder_sentence(
     line: u32,
     item: u32,
     page: &mut [u8],
-    told: &mut usize,
+    written: &mut usize,
 ) -> u32
-    ensures { λ r. ⌜ SaidLent number line item (now (page .entry)) (now (told .entry)) r (now (page .exit)) (now (told .exit)) ⌝ }
+    ensures { λ r. ⌜ SaidLent number line item (now (page .entry)) (now (written .entry)) r (now (page .exit)) (now (written .exit)) ⌝ }
 {
     if !sentence::in_table(number) {
         return 3;
@@ -85,7 +85,7 @@ pub extern "C" fn recorder_sentence(
     if bytes == 0 {
         return 15;
     }
-    *told = bytes;
+    *written = bytes;
     0
 }
 
@@ -93,12 +93,17 @@ pub extern "C" fn recorder_sentence(
 // the length's place. Refused, nothing is written, so the line comes back in the answer: the number in its low half, the line in its high
 // half.
 #[no_mangle]
-pub extern "C" fn recorder_log(heading: u32, list: &[u8], page: &mut [u8], told: &mut usize) -> u64
-    ensures { λ r. ⌜ LoggedLent heading (now (list .entry)) (now (page .entry)) (now (told .entry)) r (now (page .exit)) (now (told .exit)) ⌝ }
+pub extern "C" fn recorder_log(
+    heading: u32,
+    list: &[u8],
+    page: &mut [u8],
+    written: &mut usize,
+) -> u64
+    ensures { λ r. ⌜ LoggedLent heading (now (list .entry)) (now (page .entry)) (now (written .entry)) r (now (page .exit)) (now (written .exit)) ⌝ }
 {
     match season_log::write_log(heading, list, page) {
         LogAnswer::Count(length) => {
-            *told = length;
+            *written = length;
             0
         }
         LogAnswer::Refused(r) => {

@@ -21,7 +21,7 @@ use Rattle.types.specs.declared.Step.the-variants.{Read, Write, Flush, Arrive, 
 use Rattle.types.specs.declared.Numbers.{Numbers}
 use Rattle.types.specs.Types.{numbersFrom, numbersOf, stepOf, telling, refusalFrom}
 use Rattle.types.proofs.Steps.{same-step}
-use Rattle.landlord.specs.Catalog.{listed as itemListed, itemInRange}
+use Rattle.landlord.specs.Catalog.{listed, itemInRange}
 use Rattle.landlord.specs.Steps.{isItemNumber, inRange}
 use Rattle.landlord.proofs.Ranges.{item-facts}
 use Rattle.season_lines.specs.declared.Line.{Line}
@@ -33,7 +33,7 @@ use Rattle.season_lines.specs.Lines.{headings, headingText, headingAmong, headi
 use Rattle.line_fields.proofs.Laws.{and-parts}
 use Rattle.season_lines.proofs.Laws.{both-yes}
 use Rattle.line_fields.proofs.Pieces.{split-some}
-use Rattle.season_log.specs.Log.{Logged, steps, fault, ahead, isHeading, stepText, stepLines, logText, listNumber, listNumbers, toldLine, listedFrom, listedUnder, listed, numbersOnto, listOf, follows, readLines, headed, readTable, readLog, stepsInRange, OneText}
+use Rattle.season_log.specs.Log.{Logged, steps, fault, ahead, isHeading, stepText, stepLines, logText, listNumber, listNumbers, toldLine, lentFrom, lentUnder, lentLog, numbersOnto, listOf, lineAhead, readLines, headed, readTable, readLog, stepsInRange, OneText}
 pub use Rattle.season_log.specs.Inner.{onward}
 use Rattle.season_log.proofs.Lines.{lacks, joined, split-first, join-split, ranged, ranged-in, lineOf, step-line, line-lacks, kind-kept, under-same, step-ranged, step-written, step-reads}
 
@@ -52,7 +52,7 @@ onward-more ss s (fault r) = refl
 -- the first line of some, and what follows it
 pub lines-first :
     (heading n : ℕ) (l t : List ℕ) →
-    readLines heading n (l ∷ split 10 t) ≡ follows (lineIn 2 heading (fieldsOf l) n) (readLines heading (suc n) (split 10 t))
+    readLines heading n (l ∷ split 10 t) ≡ lineAhead (lineIn 2 heading (fieldsOf l) n) (readLines heading (suc n) (split 10 t))
 unfolding readLines
 lines-first heading n l t = rw (split-some 10 t .1)
 
@@ -74,7 +74,7 @@ lines-read heading n (s ∷ ss) h =
     let both = and-parts (ranged heading s) (stepsInRange heading ss) h in
     ap (readLines heading n) (split-step heading s (stepLines heading ss) (both .0))
     ∙ lines-first heading n (lineOf heading s) (stepLines heading ss)
-    ∙ (λ i. follows (step-reads heading (lineOf heading s) n s (both .0) (step-line heading s (both .0)) i) (lines-read heading (suc n) ss (both .1) i))
+    ∙ (λ i. lineAhead (step-reads heading (lineOf heading s) n s (both .0) (step-line heading s (both .0)) i) (lines-read heading (suc n) ss (both .1) i))
 
 -- a number that is a heading's is 0 or 1
 heading-is : (P : ℕ → Type 0) → P 0 → P 1 → (heading : ℕ) → isHeading heading ≡ true → P heading
@@ -160,7 +160,7 @@ lines-written heading n (l ∷ m ∷ rest) f ss e =
         (line : Line) (below : Logged) →
         ((s : Step) → line ≡ StepLine s → (stepText heading s ≡ l ++ (10 ∷ [])) × (ranged heading s ≡ true)) →
         ((g : ℕ) (later : List Step) → below ≡ steps g later → Written heading (m ∷ rest) g later) →
-        follows line below ≡ steps f ss →
+        lineAhead line below ≡ steps f ss →
         Written heading (l ∷ m ∷ rest) f ss
     go (StepLine s) (steps g later) a b e = one-written heading l m rest s g later f ss (a s refl) (b g later refl) e
     go (StepLine s) (fault r) a b e = absurd (no-steps r f ss e)
@@ -218,10 +218,10 @@ reads-written s heading ss e = go (leb (length s) 65536) e
 
 -- ## Steps as they are lent
 
-listed-ranged :
-    (heading m n : ℕ) (list : List ℕ) (f : ℕ) (ss : List Step) → listedFrom heading m n list ≡ steps f ss → (f ≡ heading) × (stepsInRange heading ss ≡ true)
-unfolding listedFrom stepsInRange
-listed-ranged heading zero n list f ss e = go (eqb (length list) 0) e
+lent-ranged :
+    (heading m n : ℕ) (list : List ℕ) (f : ℕ) (ss : List Step) → lentFrom heading m n list ≡ steps f ss → (f ≡ heading) × (stepsInRange heading ss ≡ true)
+unfolding lentFrom stepsInRange
+lent-ranged heading zero n list f ss e = go (eqb (length list) 0) e
   where
     go : (t : Bool) → cond t (steps heading []) (fault (OutOfRange (toldLine n))) ≡ steps f ss → (f ≡ heading) × (stepsInRange heading ss ≡ true)
     go true e =
@@ -229,9 +229,9 @@ listed-ranged heading zero n list f ss e = go (eqb (length list) 0) e
         let named : heading ≡ f = cc in
         (sym named, rw (← same) refl)
     go false e = absurd (no-steps (OutOfRange (toldLine n)) f ss e)
-listed-ranged heading (suc m) n list f ss e =
-    go (eqb (rangeUnder heading numbers) 0) (listedFrom heading m (suc n) (drop 24 list)) refl
-    (λ g later. listed-ranged heading m (suc n) (drop 24 list) g later) e
+lent-ranged heading (suc m) n list f ss e =
+    go (eqb (rangeUnder heading numbers) 0) (lentFrom heading m (suc n) (drop 24 list)) refl
+    (λ g later. lent-ranged heading m (suc n) (drop 24 list) g later) e
   where
     numbers : Numbers
     numbers = listNumbers 0 list
@@ -256,19 +256,19 @@ listed-ranged heading (suc m) n list f ss e =
     go true (fault q) r a e = absurd (no-steps q f ss e)
     go false below r a e = absurd (no-steps no f ss e)
 
-listed-in-range :
-    (told : ℕ) (list : List ℕ) (heading : ℕ) (ss : List Step) →
-    listed told list ≡ steps heading ss →
-    (heading ≡ told) × (isHeading heading ≡ true) × (stepsInRange heading ss ≡ true)
-listed-in-range told list heading ss e = go (isHeading told) refl e
+lent-in-range :
+    (asked : ℕ) (list : List ℕ) (heading : ℕ) (ss : List Step) →
+    lentLog asked list ≡ steps heading ss →
+    (heading ≡ asked) × (isHeading heading ≡ true) × (stepsInRange heading ss ≡ true)
+lent-in-range asked list heading ss e = go (isHeading asked) refl e
   where
     go :
         (t : Bool) →
-        isHeading told ≡ t →
-        cond t (listedUnder told list) (fault (OutOfRange 1)) ≡ steps heading ss →
-        (heading ≡ told) × (isHeading heading ≡ true) × (stepsInRange heading ss ≡ true)
+        isHeading asked ≡ t →
+        cond t (lentUnder asked list) (fault (OutOfRange 1)) ≡ steps heading ss →
+        (heading ≡ asked) × (isHeading heading ≡ true) × (stepsInRange heading ss ≡ true)
     go true h e =
-        let w = listed-ranged told (length list / 24) 2 list heading ss e in
+        let w = lent-ranged asked (length list / 24) 2 list heading ss e in
         (w .0, ap isHeading (w .0) ∙ h, ap (λ (f : ℕ). stepsInRange f ss) (w .0) ∙ w .1)
     go false h e = absurd (no-steps (OutOfRange 1) heading ss e)
 
@@ -297,8 +297,8 @@ step-small heading s r = go s (sym (ap inRange (under-kept heading s r)) ∙ ran
     go Flush r =
         record { kind = omega arith; item = omega arith; minutes = omega arith; blocks = omega arith; load = omega arith; write = omega arith }
     go (Arrive i b l w) r =
-        let both = and-parts (isItemNumber i) (itemInRange (itemListed b l w)) r in
-        let f = item-facts (itemListed b l w) (both .1) in
+        let both = and-parts (isItemNumber i) (itemInRange (listed b l w)) r in
+        let f = item-facts (listed b l w) (both .1) in
         record { kind = omega arith; item = leb-true i 255 (both .0); minutes = omega arith; blocks = f .small; load = f .load; write = f .write }
     go (Retire i) r =
         record { kind = omega arith; item = leb-true i 255 r; minutes = omega arith; blocks = omega arith; load = omega arith; write = omega arith }
@@ -361,8 +361,8 @@ unfolding listOf
 length-list [] = refl
 length-list (s ∷ ss) = omega (arith, onto-length (numbersOf s) (listOf ss), length-list ss)
 
-list-read : (heading n : ℕ) (ss : List Step) → stepsInRange heading ss ≡ true → listedFrom heading (length ss) n (listOf ss) ≡ steps heading ss
-unfolding listedFrom listOf stepsInRange
+list-read : (heading n : ℕ) (ss : List Step) → stepsInRange heading ss ≡ true → lentFrom heading (length ss) n (listOf ss) ≡ steps heading ss
+unfolding lentFrom listOf stepsInRange
 list-read heading n [] h = refl
 list-read heading n (s ∷ ss) h =
     let both = and-parts (ranged heading s) (stepsInRange heading ss) h in
@@ -376,13 +376,13 @@ list-read heading n (s ∷ ss) h =
     -- a step of these numbers, and the rest of the list
     next : Numbers → List ℕ → Logged
     next m l =
-        cond (eqb (rangeUnder heading m) 0) (ahead (stepOf (numbersUnder heading m)) (listedFrom heading (length ss) (suc n) l))
+        cond (eqb (rangeUnder heading m) 0) (ahead (stepOf (numbersUnder heading m)) (lentFrom heading (length ss) (suc n) l))
         (fault (refusalFrom (telling (rangeUnder heading m) (toldLine n) 0)))
 
-list-reads : (heading : ℕ) (ss : List Step) → isHeading heading ≡ true → stepsInRange heading ss ≡ true → listed heading (listOf ss) ≡ steps heading ss
+list-reads : (heading : ℕ) (ss : List Step) → isHeading heading ≡ true → stepsInRange heading ss ≡ true → lentLog heading (listOf ss) ≡ steps heading ss
 list-reads heading ss h r =
     let count : length (listOf ss) / 24 ≡ length ss = omega (arith, length-list ss) in
     rw (h, count) (list-read heading 2 ss r)
 
 pub one-text : OneText
-one-text = record { writtenReads = written-reads; readsWritten = reads-written; listedInRange = listed-in-range; listReads = list-reads }
+one-text = record { writtenReads = written-reads; readsWritten = reads-written; lentInRange = lent-in-range; listReads = list-reads }

@@ -25,14 +25,14 @@ use Rattle.types.specs.declared.Refusal.the-variants.{OutOfRange, ShortBuffer}
 use Rattle.types.specs.Types.{numbersFrom, stepOf, telling, told, refusalFrom}
 use Rattle.types.proofs.Refusals.{refusal-is}
 use Rattle.types.proofs.Steps.{step-read, step-write, step-arrive, step-retire, step-flush}
-use Rattle.landlord.specs.Catalog.{listed as itemListed}
+use Rattle.landlord.specs.Catalog.{listed}
 use Rattle.landlord.specs.Steps.{inRange, rangeRefusal}
 use Rattle.landlord.proofs.Ranges.{item-facts, range-write, range-arrive, range-wide}
 use Rattle.landlord.proofs.Steps.{free-range}
 use Rattle.season_lines.specs.Lines.{headings, headingText, kindUnder, numbersUnder, rangeUnder}
 use Rattle.season_log.specs.declared.LogAnswer.{LogAnswer}
 use Rattle.season_log.specs.declared.LogAnswer.the-variants.{Count, Refused as Not}
-use Rattle.season_log.specs.Log.{Logged, steps, fault, ahead, noValues, stepText, stepLines, logText, listNumber, listNumbers, toldLine, listedFrom, listedUnder, listed, writeAnswer, writtenPage}
+use Rattle.season_log.specs.Log.{Logged, steps, fault, ahead, noValues, stepText, stepLines, logText, listNumber, listNumbers, toldLine, lentFrom, lentUnder, lentLog, writeAnswer, writtenPage}
 use Rattle.season_log.specs.Inner.{namesText, namedText, arrivalText, rangeAt, stepAt, Arrives, textSize, LineFits, LinesFit, LinesOn}
 use Rattle.season_log.proofs.Lines.{by-kind, kind-kept, under-same}
 
@@ -126,7 +126,7 @@ cost-digits c h = digits-length c 5 (omega arith) (omega arith)
 -- the numbers of an arrival, and how many bytes its line has
 pub arrival-small : (n : Numbers) → Arrives n → (n .item ≤ 255) × (n .blocks ≤ 16) × (n .load ≤ 65535) × (n .write ≤ 65535)
 arrival-small n a =
-    let f = item-facts (itemListed (n .blocks) (n .load) (n .write)) (a .1) in
+    let f = item-facts (listed (n .blocks) (n .load) (n .write)) (a .1) in
     (leb-true (n .item) 255 (a .0), f .small, f .load, f .write)
 
 pub arrival-count :
@@ -189,10 +189,10 @@ TextOn text before n after = (n ≡ length text) × (after ≡ textOver text bef
 
 module _ (heading : ℕ) where
   abbrev restAt : ℕ → List ℕ → Logged
-  restAt at list = listedFrom heading ((length list - at) / 24) (at / 24 + 2) (drop at list)
+  restAt at list = lentFrom heading ((length list - at) / 24) (at / 24 + 2) (drop at list)
 
-  rest-start : (list : List ℕ) → restAt 0 list ≡ listedUnder heading list
-  rest-start list = let e : length list - 0 ≡ length list = omega arith in ap (λ (n : ℕ). listedFrom heading (n / 24) 2 list) e
+  rest-start : (list : List ℕ) → restAt 0 list ≡ lentUnder heading list
+  rest-start list = let e : length list - 0 ≡ length list = omega arith in ap (λ (n : ℕ). lentFrom heading (n / 24) 2 list) e
 
   -- the refusal of a number for the step of line n
   abbrev refusedAt : ℕ → ℕ → Refusal
@@ -202,8 +202,8 @@ module _ (heading : ℕ) where
   abbrev stepThen : Numbers → ℕ → Logged → Logged
   stepThen m n x = cond (eqb (rangeUnder heading m) 0) (ahead (stepOf (numbersUnder heading m)) x) (fault (refusedAt (rangeUnder heading m) n))
 
-  first-step : (w n : ℕ) (l : List ℕ) → listedFrom heading (suc w) n l ≡ stepThen (listNumbers 0 l) n (listedFrom heading w (suc n) (drop 24 l))
-  unfolding listedFrom
+  first-step : (w n : ℕ) (l : List ℕ) → lentFrom heading (suc w) n l ≡ stepThen (listNumbers 0 l) n (lentFrom heading w (suc n) (drop 24 l))
+  unfolding lentFrom
   first-step w n l = refl
 
   module _ (list : List ℕ) (at : ℕ) (more : at + 24 ≤ length list) where
@@ -214,9 +214,9 @@ module _ (heading : ℕ) where
         let number : (n : ℕ) → listNumber n (drop at list) ≡ listNumber (at + n) list = λ n. ap (λ (l : List ℕ). un (take 4 l)) (drop-drop n at list) in
         let numbers : listNumbers 0 (drop at list) ≡ listNumbers at list =
         λ j. numbersFrom (listNumber at list) (number 4 j) (number 8 j) (number 12 j) (number 16 j) (number 20 j) in
-        let rest : listedFrom heading ((length list - (at + 24)) / 24) (suc (at / 24 + 2)) (drop 24 (drop at list)) ≡ restAt (at + 24) list =
-        λ j. listedFrom heading ((length list - (at + 24)) / 24) (line j) (drop-drop 24 at list j) in
-        ap (λ (w : ℕ). listedFrom heading w (at / 24 + 2) (drop at list)) count
+        let rest : lentFrom heading ((length list - (at + 24)) / 24) (suc (at / 24 + 2)) (drop 24 (drop at list)) ≡ restAt (at + 24) list =
+        λ j. lentFrom heading ((length list - (at + 24)) / 24) (line j) (drop-drop 24 at list j) in
+        ap (λ (w : ℕ). lentFrom heading w (at / 24 + 2) (drop at list)) count
         ∙ first-step ((length list - (at + 24)) / 24) (at / 24 + 2) (drop at list)
         ∙ (λ j. stepThen (numbers j) (at / 24 + 2) (rest j))
 
@@ -234,10 +234,10 @@ module _ (heading : ℕ) where
   rest-few :
       (list : List ℕ) (at : ℕ) → length list < at + 24 →
       restAt at list ≡ cond (eqb (length (drop at list)) 0) (steps heading []) (tornAt at)
-  unfolding listedFrom
+  unfolding lentFrom
   rest-few list at h =
       let none : (length list - at) / 24 ≡ 0 = omega arith in
-      ap (λ (w : ℕ). listedFrom heading w (at / 24 + 2) (drop at list)) none
+      ap (λ (w : ℕ). lentFrom heading w (at / 24 + 2) (drop at list)) none
 
   rest-end : (list : List ℕ) (at : ℕ) → length list ≤ at → restAt at list ≡ steps heading []
   rest-end list at h =
@@ -262,16 +262,16 @@ module _ (heading : ℕ) where
       go true (fault r) u = u
       go false x u = tt
 
-  from-under : (m n : ℕ) (list : List ℕ) → Under (listedFrom heading m n list)
-  unfolding listedFrom
+  from-under : (m n : ℕ) (list : List ℕ) → Under (lentFrom heading m n list)
+  unfolding lentFrom
   from-under zero n list = go (eqb (length list) 0)
     where
       go : (t : Bool) → Under (cond t (steps heading []) (fault (OutOfRange (toldLine n))))
       go true = refl
       go false = tt
-  from-under (suc m) n list = under-then (listNumbers 0 list) n (listedFrom heading m (suc n) (drop 24 list)) (from-under m (suc n) (drop 24 list))
+  from-under (suc m) n list = under-then (listNumbers 0 list) n (lentFrom heading m (suc n) (drop 24 list)) (from-under m (suc n) (drop 24 list))
 
-  pub list-under : (list : List ℕ) → Under (listedUnder heading list)
+  pub list-under : (list : List ℕ) → Under (lentUnder heading list)
   list-under list = from-under (length list / 24) 2 list
 
   -- whether a list is one of whole steps in range, and which they are
@@ -316,7 +316,7 @@ module _ (heading : ℕ) where
     pub within : at ≤ length list
     pub even : at % 24 ≡ 0
     pub small : 24 * bytes ≤ 23 * at + 864
-    pub leads : textSize (listedUnder heading list) ≡ sizeFrom bytes (restAt at list)
+    pub leads : textSize (lentUnder heading list) ≡ sizeFrom bytes (restAt at list)
 
   pub counting : (list : List ℕ) (names : ℕ) → names ≡ length (namesText heading) → names ≤ 36 → Counting list 0 names
   counting list names is few =
@@ -324,7 +324,7 @@ module _ (heading : ℕ) where
         within = omega arith;
         even = refl;
         small = omega arith;
-        leads = size-start (listedUnder heading list) (list-under list) ∙ (λ j. sizeFrom (sym is j) (sym (rest-start list) j));
+        leads = size-start (lentUnder heading list) (list-under list) ∙ (λ j. sizeFrom (sym is j) (sym (rest-start list) j));
       }
 
   module _ {list : List ℕ} {at b : ℕ} (g : Counting list at b) where
@@ -351,7 +351,7 @@ module _ (heading : ℕ) where
           line ≡ toldLine (at / 24 + 2) →
           (r : Refusal) →
           told r ≡ telling number line 0 →
-          Not r ≡ textSize (listedUnder heading list)
+          Not r ≡ textSize (lentUnder heading list)
       counted-fault {number} {line} e f l r t =
           let same : number ≡ rangeAt heading at list = e ∙ range-is in
           ap Not (refusal-is r (telling number line 0) t ∙ (λ j. refusalFrom (telling (same j) (l j) 0)))
@@ -364,14 +364,14 @@ module _ (heading : ℕ) where
     -- and behind it none, but bytes of one
     pub counted-torn :
         {whole line : ℕ} → whole ≡ length list - length list % 24 → whole ≤ at → whole < length list → line ≡ toldLine (whole / 24 + 2) →
-        Not (OutOfRange line) ≡ textSize (listedUnder heading list)
+        Not (OutOfRange line) ≡ textSize (lentUnder heading list)
     counted-torn {whole} e h k l =
         let here : whole ≡ at = omega (arith, g .even, g .within) in
         ap (λ (n : ℕ). Not (OutOfRange n)) (l ∙ ap (λ (w : ℕ). toldLine (w / 24 + 2)) here)
         ∙ sym (g .leads ∙ ap (sizeFrom b) (rest-torn list at (omega arith) (omega arith)))
 
     -- or nothing
-    pub counted-whole : length list ≤ at → Count b ≡ textSize (listedUnder heading list)
+    pub counted-whole : length list ≤ at → Count b ≡ textSize (lentUnder heading list)
     unfolding stepLines
     counted-whole h = let e : b + 0 ≡ b = omega arith in sym (g .leads ∙ ap (sizeFrom b) (rest-end list at h) ∙ ap Count e)
 
@@ -411,24 +411,24 @@ module _ (heading : ℕ) where
   pub record Putting (list before : List ℕ) (at to : ℕ) (page : List ℕ) : Type 0 where
     pub within : at ≤ length list
     pub whole : isWhole (restAt at list) ≡ true
-    pub going : TextGoing (stepLines heading (stepsOf (listedUnder heading list))) before to (stepLines heading (stepsOf (restAt at list))) page
+    pub going : TextGoing (stepLines heading (stepsOf (lentUnder heading list))) before to (stepLines heading (stepsOf (restAt at list))) page
 
   pub putting : (list page : List ℕ) → LinesFit heading list page → Putting list page 0 0 page
   putting list page f =
       record {
         within = omega arith;
         whole = ap isWhole (rest-start list ∙ f .whole);
-        going = go-as (ap (λ (x : Logged). stepLines heading (stepsOf x)) (sym (rest-start list))) (go-start (stepLines heading (stepsOf (listedUnder heading list))) page);
+        going = go-as (ap (λ (x : Logged). stepLines heading (stepsOf x)) (sym (rest-start list))) (go-start (stepLines heading (stepsOf (lentUnder heading list))) page);
       }
 
-  pub lines-room : (list page : List ℕ) → LinesFit heading list page → length (stepLines heading (stepsOf (listedUnder heading list))) ≤ length page
+  pub lines-room : (list page : List ℕ) → LinesFit heading list page → length (stepLines heading (stepsOf (lentUnder heading list))) ≤ length page
   lines-room list page f = subst (λ (x : Logged). length (stepLines heading (stepsOf x)) ≤ length page) (sym (f .whole)) (f .room)
 
   module _ {list before page : List ℕ} {at to : ℕ} (g : Putting list before at to page)
-      (room : length (stepLines heading (stepsOf (listedUnder heading list))) ≤ length before) (more : at + 24 ≤ length list) where
+      (room : length (stepLines heading (stepsOf (lentUnder heading list))) ≤ length before) (more : at + 24 ≤ length list) where
     -- the line of the step at the place is next
     line-next :
-        TextGoing (stepLines heading (stepsOf (listedUnder heading list))) before to
+        TextGoing (stepLines heading (stepsOf (lentUnder heading list))) before to
         (stepText heading (stepAt heading at list) ++ stepLines heading (stepsOf (restAt (at + 24) list))) page
     line-next =
         let n = whole-next list at (g .whole) more in
@@ -464,11 +464,11 @@ module _ (heading : ℕ) where
 
   pub lines-end :
       (list before : List ℕ) {at to : ℕ} {page : List ℕ} →
-      LinesFit heading list before → Putting list before at to page → length list ≤ at → LinesOn (listedUnder heading list) before page
+      LinesFit heading list before → Putting list before at to page → length list ≤ at → LinesOn (lentUnder heading list) before page
   unfolding stepLines
   lines-end list before {at} {to} {page} f g h =
       let left : stepLines heading (stepsOf (restAt at list)) ≡ [] = ap (λ (x : Logged). stepLines heading (stepsOf x)) (rest-end list at h) in
-      lines-put (listedUnder heading list) before page (list-under list) (ap isWhole (f .whole)) (go-end (go-as left (g .going)) .1)
+      lines-put (lentUnder heading list) before page (list-under list) (ap isWhole (f .whole)) (go-end (go-as left (g .going)) .1)
 
   pub lines-on : (x : Logged) (before after : List ℕ) → Under x → LinesOn x before after → after ≡ textOver (stepLines heading (stepsOf x)) before
   lines-on (steps f ss) before after u l = rw (← u) l
@@ -531,8 +531,8 @@ told-text heading (steps f ss) n page after u z small room e =
     (ap Count n-is, put ∙ sym (page-all t page (omega arith)))
 
 -- a number that is a heading's, and one that is none's
-pub under-heading : (heading : ℕ) (list : List ℕ) → heading ≤ 1 → listedUnder heading list ≡ listed heading list
+pub under-heading : (heading : ℕ) (list : List ℕ) → heading ≤ 1 → lentUnder heading list ≡ lentLog heading list
 under-heading heading list h = rw (le-leb heading 1 h)
 
-pub told-heading : (heading : ℕ) (list page : List ℕ) → 1 < heading → Answers (listed heading list) page (Not (OutOfRange 1)) page
+pub told-heading : (heading : ℕ) (list page : List ℕ) → 1 < heading → Answers (lentLog heading list) page (Not (OutOfRange 1)) page
 told-heading heading list page h = rw (lt-leb heading 1 h) (refl, refl)

@@ -5,10 +5,10 @@ use lib.ListN.{length}
 use Rattle.decimal.specs.{Decimal.{textOf, digitsOf}, InnerPages.textOver}
 use Rattle.types.specs.declared.{Step.Step, Numbers.Numbers}
 use Rattle.types.specs.Types.{stepOf}
-use Rattle.landlord.specs.{Catalog.{listed as itemListed, itemInRange}, Steps.isItemNumber}
+use Rattle.landlord.specs.{Catalog.{listed, itemInRange}, Steps.isItemNumber}
 use Rattle.season_lines.specs.Lines.{headingText, numbersUnder, rangeUnder}
 use Rattle.season_log.specs.declared.LogAnswer.{LogAnswer, the-variants.{Count, Refused as Not}}
-use Rattle.season_log.specs.Log.{Logged, steps, fault, noValues, stepText, stepLines, logText, listNumbers, listedUnder}
+use Rattle.season_log.specs.Log.{Logged, steps, fault, noValues, stepText, stepLines, logText, listNumbers, lentUnder}
 
 -- steps in front of what follows them
 abbrev pub onward : List Step → Logged → Logged
@@ -41,7 +41,7 @@ stepAt heading at list = stepOf (numbersUnder heading (listNumbers at list))
 
 -- the numbers of an arrival in range
 abbrev pub Arrives : Numbers → Type 0
-Arrives n = (isItemNumber (n .item) ≡ true) × (itemInRange (itemListed (n .blocks) (n .load) (n .write)) ≡ true)
+Arrives n = (isItemNumber (n .item) ≡ true) × (itemInRange (listed (n .blocks) (n .load) (n .write)) ≡ true)
 
 -- how many bytes the text of a list has, or the refusal of its first fault
 abbrev pub textSize : Logged → LogAnswer
@@ -57,7 +57,7 @@ pub record LineFits (heading : ℕ) (list : List ℕ) (at : ℕ) (page : List �
 -- a list of whole steps in range whose lines have room on the page
 pub record LinesFit (heading : ℕ) (list page : List ℕ) : Type 0 where
   pub taken : List Step
-  pub whole : listedUnder heading list ≡ steps heading taken
+  pub whole : lentUnder heading list ≡ steps heading taken
   pub room : length (stepLines heading taken) ≤ length page
 
 -- their lines are on the page

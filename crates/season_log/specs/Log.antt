@@ -66,21 +66,21 @@ toldLine n = cond (leb n 4294967295) n 4294967295
 
 -- The steps of a list of m whole ones, the first of which has line n: "A step out of range is off the tape .. with the line the first
 -- such step would have had", and so is one that is not whole.
-unfoldable pub listedFrom : ℕ → ℕ → ℕ → List ℕ → Logged
-listedFrom heading zero n list = cond (eqb (length list) 0) (steps heading []) (fault (OutOfRange (toldLine n)))
-listedFrom heading (suc m) n list =
+unfoldable pub lentFrom : ℕ → ℕ → ℕ → List ℕ → Logged
+lentFrom heading zero n list = cond (eqb (length list) 0) (steps heading []) (fault (OutOfRange (toldLine n)))
+lentFrom heading (suc m) n list =
     let numbers = listNumbers 0 list in
     let range = rangeUnder heading numbers in
-    cond (eqb range 0) (ahead (stepOf (numbersUnder heading numbers)) (listedFrom heading m (suc n) (drop 24 list)))
+    cond (eqb range 0) (ahead (stepOf (numbersUnder heading numbers)) (lentFrom heading m (suc n) (drop 24 list)))
     (fault (refusalFrom (telling range (toldLine n) 0)))
 
 -- the names are line 1, the first step is line 2
-abbrev pub listedUnder : ℕ → List ℕ → Logged
-listedUnder heading list = listedFrom heading (length list / 24) 2 list
+abbrev pub lentUnder : ℕ → List ℕ → Logged
+lentUnder heading list = lentFrom heading (length list / 24) 2 list
 
 -- "The log writer is told the heading": a number that is no heading's is out of range on line 1
-abbrev pub listed : ℕ → List ℕ → Logged
-listed heading list = cond (isHeading heading) (listedUnder heading list) (fault (OutOfRange 1))
+abbrev pub lentLog : ℕ → List ℕ → Logged
+lentLog heading list = cond (isHeading heading) (lentUnder heading list) (fault (OutOfRange 1))
 
 -- a step's numbers as bytes, in front of others
 abbrev pub numbersOnto : Numbers → List ℕ → List ℕ
@@ -94,19 +94,19 @@ listOf (s ∷ rest) = numbersOnto (numbersOf s) (listOf rest)
 
 -- ## The reading of a text
 
--- a value line, and what follows it; a line of this table is a step or refused
-abbrev pub follows : Line → Logged → Logged
-follows (StepLine s) rest = ahead s rest
-follows (Refused r) rest = fault r
-follows (Sizes k h r) rest = fault (Malformed 0)
-follows (ItemLine i b l w) rest = fault (Malformed 0)
-follows (ActLine place act) rest = fault (Malformed 0)
+-- a value line in front of what follows it; a line of this table is a step or refused
+abbrev pub lineAhead : Line → Logged → Logged
+lineAhead (StepLine s) rest = ahead s rest
+lineAhead (Refused r) rest = fault r
+lineAhead (Sizes k h r) rest = fault (Malformed 0)
+lineAhead (ItemLine i b l w) rest = fault (Malformed 0)
+lineAhead (ActLine place act) rest = fault (Malformed 0)
 
 -- The lines under a heading from line n on. The last piece is what stands behind the last line feed: bytes there are a line without one.
 unfoldable pub readLines : ℕ → ℕ → List (List ℕ) → Logged
 readLines heading n [] = steps heading []
 readLines heading n (l ∷ []) = cond (eqb (length l) 0) (steps heading []) (fault (Malformed n))
-readLines heading n (l ∷ m ∷ rest) = follows (lineIn 2 heading (fieldsOf l) n) (readLines heading (suc n) (m ∷ rest))
+readLines heading n (l ∷ m ∷ rest) = lineAhead (lineIn 2 heading (fieldsOf l) n) (readLines heading (suc n) (m ∷ rest))
 
 -- the line of names, and the lines that follow it
 abbrev pub headed : Names → List (List ℕ) → Logged
@@ -174,8 +174,8 @@ pub record OneText : Type 0 where
       (s : List ℕ) (heading : ℕ) (ss : List Step) →
       readLog s ≡ steps heading ss →
       (logText heading ss ≡ s) × (isHeading heading ≡ true) × (stepsInRange heading ss ≡ true)
-  pub listedInRange :
-      (told : ℕ) (list : List ℕ) (heading : ℕ) (ss : List Step) →
-      listed told list ≡ steps heading ss →
-      (heading ≡ told) × (isHeading heading ≡ true) × (stepsInRange heading ss ≡ true)
-  pub listReads : (heading : ℕ) (ss : List Step) → isHeading heading ≡ true → stepsInRange heading ss ≡ true → listed heading (listOf ss) ≡ steps heading ss
+  pub lentInRange :
+      (asked : ℕ) (list : List ℕ) (heading : ℕ) (ss : List Step) →
+      lentLog asked list ≡ steps heading ss →
+      (heading ≡ asked) × (isHeading heading ≡ true) × (stepsInRange heading ss ≡ true)
+  pub listReads : (heading : ℕ) (ss : List Step) → isHeading heading ≡ true → stepsInRange heading ss ≡ true → lentLog heading (listOf ss) ≡ steps heading ss

@@ -10,7 +10,7 @@ ghost use Rattle.types.specs.declared.Step.the-variants.{Write, Flush};
 ghost use Rattle.types.specs.Types.{stepOf};
 ghost use Rattle.landlord.specs.Steps.{inRange};
 ghost use Rattle.season_lines.specs.Lines.{numbersUnder};
-ghost use Rattle.season_log.specs.Log.{noValues, stepText, listNumber, listNumbers, toldLine, listedUnder, listed, LogWritten};
+ghost use Rattle.season_log.specs.Log.{noValues, stepText, listNumber, listNumbers, toldLine, lentUnder, lentLog, LogWritten};
 ghost use Rattle.season_log.specs.Inner.{namesText, namedText, arrivalText, valueText, stepAt, Arrives, textSize, LineFits, LinesFit, LinesOn};
 use types::Numbers;
 use types::Refusal;
@@ -145,7 +145,7 @@ fn names_bytes(heading: u32) -> usize
 // How many bytes the text of a list has, or the refusal of its first step that is out of range or not whole. A line has fewer bytes than
 // its step in the list, so that no sum can wrap, however long the list is.
 fn text_size(heading: u32, list: &[u8]) -> LogAnswer
-    ensures { λ r. ⌜ r ≡ textSize (listedUnder heading (now (list .entry))) ⌝ }
+    ensures { λ r. ⌜ r ≡ textSize (lentUnder heading (now (list .entry))) ⌝ }
 {
     let whole = list.len() - list.len() % 24;
     let mut bytes = names_bytes(heading);
@@ -275,7 +275,7 @@ fn put_step(heading: u32, list: &[u8], at: usize, page: &mut [u8]) -> usize
 // Writes the lines of a list of steps in range at the start of the page, which has room for them.
 fn put_lines(heading: u32, list: &[u8], page: &mut [u8])
     requires { ⌜ LinesFit heading (now list) (now page) ⌝ }
-    ensures { λ _. ⌜ LinesOn (listedUnder heading (now (list .entry))) (now (page .entry)) (now (page .exit)) ⌝ }
+    ensures { λ _. ⌜ LinesOn (lentUnder heading (now (list .entry))) (now (page .entry)) (now (page .exit)) ⌝ }
 {
     let mut at = 0;
     let mut to = 0;
@@ -289,7 +289,7 @@ fn put_lines(heading: u32, list: &[u8], page: &mut [u8])
 // step out of range or not whole, then 15 if the text has too many bytes, for the page or for any reader; else the text. A refused page is
 // as it was.
 pub fn write_log(heading: u32, list: &[u8], page: &mut [u8]) -> LogAnswer
-    ensures { λ r. ⌜ LogWritten (listed heading (now (list .entry))) (now (page .entry)) r (now (page .exit)) ⌝ }
+    ensures { λ r. ⌜ LogWritten (lentLog heading (now (list .entry))) (now (page .entry)) r (now (page .exit)) ⌝ }
 {
     if 1 < heading {
         return LogAnswer::Refused(Refusal::OutOfRange { line: 1 });

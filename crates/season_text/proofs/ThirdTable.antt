@@ -29,7 +29,7 @@ use Rattle.season_lines.proofs.Pieces.{empty-malformed, Says, line-says}
 use Rattle.season_tables.specs.Tables.{Tables, Sofar, OrRefusal, gives, goesOn, atStart, withStep, inTurn, takes, mayEnd, mustEnd, nextTable, namedBy, readLine, atEnd, readFrom, readingOf}
 use Rattle.season_tables.specs.Inner.{isBlank}
 use Rattle.season_tables.proofs.Sound.{Leading, goes-on}
-use Rattle.season_log.specs.Log.{Logged, steps, fault, ahead, isHeading, logText, follows, readLines, headed, readTable, readLog, stepsInRange}
+use Rattle.season_log.specs.Log.{Logged, steps, fault, ahead, isHeading, logText, lineAhead, readLines, headed, readTable, readLog, stepsInRange}
 use Rattle.season_log.proofs.Lines.{lacks, split-first}
 use Rattle.season_log.proofs.OneText.{onward, onward-none, onward-more, lines-first, table-first, one-text}
 use Rattle.season_text.specs.ThirdTable.{tableText, behindBlank, thirdTable, headingNumber, firstHeading, headingIn, TwoReaders}
@@ -215,7 +215,7 @@ module _ (n : ℕ) (l : List ℕ) (rest : List (List ℕ)) where
         sym
         (ap (readLines heading n) (text-first l rest h some)
         ∙ lines-first heading n l (tableText rest)
-        ∙ ap (λ (x : Line). follows x (readLines heading (suc n) (split 10 (tableText rest)))) (step-anywhere heading (fieldsOf l) m n s e))
+        ∙ ap (λ (x : Line). lineAhead x (readLines heading (suc n) (split 10 (tableText rest)))) (step-anywhere heading (fieldsOf l) m n s e))
     due-step (suc (suc (suc k))) m s t e h some = absurd (omega arith)
 
 -- ## Each line that leads on keeps it
@@ -382,7 +382,7 @@ ahead-under : (heading : ℕ) (s : Step) (x : Logged) → Under heading x → Un
 ahead-under heading s (steps f ss) u = u
 ahead-under heading s (fault r) u = tt
 
-follows-under : (heading : ℕ) (y : Line) (x : Logged) → Under heading x → Under heading (follows y x)
+follows-under : (heading : ℕ) (y : Line) (x : Logged) → Under heading x → Under heading (lineAhead y x)
 follows-under heading (StepLine s) x u = ahead-under heading s x u
 follows-under heading (Sizes k h r) x u = tt
 follows-under heading (ItemLine i b l w) x u = tt

@@ -40,7 +40,7 @@ returns c =
     let a = c .before .before .before .before .before .before .before .before .before .args in
     let w = c .before .before .before .before .before .write-log in
     let n = c .before .length .given in
-    lent-text (a .heading) (a .list .now) (a .page .now) _ (a .told .now) (w .result) (log-one (w .ensures)) (w .ensures .page) (n .0 .0) (n .1)
+    lent-text (a .heading) (a .list .now) (a .page .now) _ (a .written .now) (w .result) (log-one (w .ensures)) (w .ensures .page) (n .0 .0) (n .1)
 
 same-length-2 : tie.Need-same-length-2
 same-length-2 c = search needs
@@ -51,7 +51,7 @@ returns-2 c =
     let w = c .before .before .before .before .before .before .before .write-log in
     let r = c .before .before .before .r .given in
     let number = c .before .number in
-    lent-refusal (a .heading) (a .list .now) (a .page .now) _ (a .told .now) (w .result) (log-one (w .ensures)) (w .ensures .page) (r .0 .0) (number .result) (c .line .result) (r .1) (number .ensures) (c .line .ensures)
+    lent-refusal (a .heading) (a .list .now) (a .page .now) _ (a .written .now) (w .result) (log-one (w .ensures)) (w .ensures .page) (r .0 .0) (number .result) (c .line .result) (r .1) (number .ensures) (c .line .ensures)
 
 pub recorder-log-spec : {M : Type 1} → statement M
 recorder-log-spec =

@@ -25,7 +25,7 @@ returns c =
     let a = c .before .before .before .before .before .before .before .before .before .args in
     let w = c .before .before .before .before .before .report in
     let n = c .before .n .given in
-    lent-report (a .state .now) (a .page .now) _ (a .told .now) (w .result) (Text (n .0 .0)) (n .1) (w .ensures)
+    lent-report (a .state .now) (a .page .now) _ (a .written .now) (w .result) (Text (n .0 .0)) (n .1) (w .ensures)
 
 same-length-2 : tie.Need-same-length-2
 same-length-2 c = search needs
@@ -36,7 +36,7 @@ returns-2 c =
     let w = c .before .before .before .before .before .before .report in
     let r = c .before .before .r .given in
     rw (c .number .ensures)
-    (lent-report (a .state .now) (a .page .now) _ (a .told .now) (w .result) (Refused (r .0 .0)) (r .1) (w .ensures))
+    (lent-report (a .state .now) (a .page .now) _ (a .written .now) (w .result) (Refused (r .0 .0)) (r .1) (w .ensures))
 
 pub recorder-report-spec : {M : Type 1} → statement M
 recorder-report-spec =

@@ -14,7 +14,7 @@ in-table-requires c κs = search needs
 returns : tie.Need-returns
 returns c =
     let a = c .before .before .before .args in
-    said-none (a .number) (a .line) (a .item) (a .page .now) (a .told .now) (sym (c .before .in-table .ensures) ∙ not-true _ (c .if1 .taken))
+    said-none (a .number) (a .line) (a .item) (a .page .now) (a .written .now) (sym (c .before .in-table .ensures) ∙ not-true _ (c .if1 .taken))
 
 write-sentence-requires : tie.Need-write-sentence-requires
 write-sentence-requires c κs = search needs
@@ -30,7 +30,7 @@ returns-2 : tie.Need-returns-2
 returns-2 c =
     let a = c .before .before .before .before .before .before .before .before .args in
     let w = c .before .before .before .write-sentence in
-    said-short (a .number) (a .line) (a .item) (a .page .now) (a .told .now) (row (c .before .before .before .before .before)) (w .result) _ (w .ensures .0) (w .ensures .1) (c .if2 .taken)
+    said-short (a .number) (a .line) (a .item) (a .page .now) (a .written .now) (row (c .before .before .before .before .before)) (w .result) _ (w .ensures .0) (w .ensures .1) (c .if2 .taken)
 
 same-length-2 : tie.Need-same-length-2
 same-length-2 c = search needs
@@ -39,7 +39,7 @@ returns-3 : tie.Need-returns-3
 returns-3 c =
     let a = c .before .before .before .before .before .before .before .before .args in
     let w = c .before .before .before .write-sentence in
-    said-whole (a .number) (a .line) (a .item) (a .page .now) (a .told .now) (row (c .before .before .before .before .before)) (w .result) _ (w .ensures .0) (w .ensures .1) (c .if2 .left)
+    said-whole (a .number) (a .line) (a .item) (a .page .now) (a .written .now) (row (c .before .before .before .before .before)) (w .result) _ (w .ensures .0) (w .ensures .1) (c .if2 .left)
 
 pub recorder-sentence-spec : {M : Type 1} → statement M
 recorder-sentence-spec =

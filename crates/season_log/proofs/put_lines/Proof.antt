@@ -4,7 +4,7 @@ use native.Mathlib.Omega.{arith}
 use borrow.Author.Needs.{needs}
 use borrow.Rule.Slice.PartMut.{putMid}
 use lib.ListN.{length}
-use Rattle.season_log.specs.Log.{stepLines, listedUnder}
+use Rattle.season_log.specs.Log.{stepLines, lentUnder}
 use Rattle.season_log.proofs.Writing.{stepsOf, whole-more, Putting, putting, lines-room, line-fits, putting-next, lines-end}
 use Rattle.season_log.proofs.put_lines.Statement.{statement}
 use Rattle.season_log.proofs.put_lines.Tie as tie
@@ -24,7 +24,7 @@ more c = whole-more (c .before .before .before .before .args .heading) (c .befor
 
 -- there is room for all lines
 room :
-    (s : tie.Start Inv-loop μ-loop) → length (stepLines (s .args .heading) (stepsOf (s .args .heading) (listedUnder (s .args .heading) (s .args .list .now)))) ≤ length (s .args .page .now)
+    (s : tie.Start Inv-loop μ-loop) → length (stepLines (s .args .heading) (stepsOf (s .args .heading) (lentUnder (s .args .heading) (s .args .list .now)))) ≤ length (s .args .page .now)
 room s = lines-room (s .args .heading) (s .args .list .now) (s .args .page .now) (s .pre)
 
 sub-put-step : tie.Need-sub-put-step Inv-loop μ-loop

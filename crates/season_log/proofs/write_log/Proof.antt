@@ -11,7 +11,7 @@ use lib.ListN.{length, length-append}
 use Rattle.decimal.specs.InnerPages.{textOver}
 use Rattle.decimal.proofs.Pages.{TextGoing, go-first, go-as, go-room, go-next, go-end}
 use Rattle.season_log.specs.declared.LogAnswer.{LogAnswer}
-use Rattle.season_log.specs.Log.{Logged, stepLines, logText, listedUnder, listed, LogWritten}
+use Rattle.season_log.specs.Log.{Logged, stepLines, logText, lentUnder, lentLog, LogWritten}
 use Rattle.season_log.specs.Inner.{namesText}
 use Rattle.season_log.proofs.Answers.{log-written}
 use Rattle.season_log.proofs.Writing.{Answers, stepsOf, list-under, log-is, Sized, told-fault, sized-whole, told-short, lines-on, told-text, under-heading, told-heading}
@@ -32,7 +32,7 @@ enum-known-bytes c = search needs
 
 -- what the list is, the lines of its steps, and its text
 abbrev given : (s : tie.Start) → Logged
-given s = listedUnder (s .args .heading) (s .args .list .now)
+given s = lentUnder (s .args .heading) (s .args .list .now)
 
 abbrev lines : (s : tie.Start) → List ℕ
 lines s = stepLines (s .args .heading) (stepsOf (s .args .heading) (given s))
@@ -46,7 +46,7 @@ text-is s = log-is (s .args .heading) (stepsOf (s .args .heading) (given s))
 -- past the first test it is what is asked
 asked :
     (c : tie.Else1) (r : LogAnswer) (after : List ℕ) →
-    (let a = c .before .before .before .args in Answers (given (c .before .before .before)) (a .page .now) r after → LogWritten (listed (a .heading) (a .list .now)) (a .page .now) r after)
+    (let a = c .before .before .before .args in Answers (given (c .before .before .before)) (a .page .now) r after → LogWritten (lentLog (a .heading) (a .list .now)) (a .page .now) r after)
 asked c r after h =
     let a = c .before .before .before .args in
     log-written (subst (λ (x : Logged). Answers x (a .page .now) r after) (under-heading (a .heading) (a .list .now) (c .if1 .left)) h)
