@@ -149,7 +149,7 @@ fn left_count(b: &[u8]) -> u32
 }
 
 // What an item adds to a sum over the held items. The bound is for the sums.
-fn share(held: bool, amount: u8) -> u32
+fn if_held(held: bool, amount: u8) -> u32
     ensures { λ r. ⌜ (r ≡ cond held amount 0) × (r < 256) ⌝ }
 {
     if held {
@@ -166,7 +166,7 @@ pub fn used(b: &[u8], n: usize) -> u32
     let mut sum: u32 = 0;
     let mut i: usize = 0;
     while i < n {
-        sum = sum + share(layout::held(b, i), layout::blocks(b, i));
+        sum = sum + if_held(layout::held(b, i), layout::blocks(b, i));
         i += 1;
     }
     sum
@@ -180,7 +180,7 @@ fn held_count(b: &[u8], n: usize) -> u32
     let mut sum: u32 = 0;
     let mut i: usize = 0;
     while i < n {
-        sum = sum + share(layout::held(b, i), 1);
+        sum = sum + if_held(layout::held(b, i), 1);
         i += 1;
     }
     sum

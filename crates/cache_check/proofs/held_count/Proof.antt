@@ -27,8 +27,8 @@ loop-holds c = adding-none 255 (term (c .before .args .b .now)) (c .before .args
 held-requires : tie.Need-held-requires Inv-loop μ-loop
 held-requires c κs = (c .before .before .before .pre .size, omega (arith, c .before .before .before .pre .few))
 
-share-requires : tie.Need-share-requires Inv-loop μ-loop
-share-requires c κs = search needs
+if-held-requires : tie.Need-if-held-requires Inv-loop μ-loop
+if-held-requires c κs = search needs
 
 add-sum : tie.Need-add-sum Inv-loop μ-loop
 add-sum c = omega arith
@@ -42,8 +42,8 @@ loop-less c = omega arith
 loop-again : tie.Need-loop-again Inv-loop μ-loop
 loop-again c =
     let l = c .before .before .before .loop in
-    adding-more 255 (term (c .before .before .before .before .before .args .b .now)) (c .before .before .before .before .before .args .n) (l .i) (l .sum) (c .share .result) (l .inv) (omega arith) (omega (arith, c .share .ensures .1))
-    (c .share .ensures .0 ∙ (λ z. cond (c .before .held .ensures z) 1 0))
+    adding-more 255 (term (c .before .before .before .before .before .args .b .now)) (c .before .before .before .before .before .args .n) (l .i) (l .sum) (c .if-held .result) (l .inv) (omega arith) (omega (arith, c .if-held .ensures .1))
+    (c .if-held .ensures .0 ∙ (λ z. cond (c .before .held .ensures z) 1 0))
 
 returns : tie.Need-returns Inv-loop μ-loop
 returns c =
@@ -58,7 +58,7 @@ held-count-spec =
     μ-loop
     loop-holds
     held-requires
-    share-requires
+    if-held-requires
     add-sum
     add-i
     loop-less

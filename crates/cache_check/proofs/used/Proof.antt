@@ -30,8 +30,8 @@ held-requires c κs = (c .before .before .before .pre .size, omega (arith, c .be
 blocks-requires : tie.Need-blocks-requires Inv-loop μ-loop
 blocks-requires c κs = (c .before .before .before .before .pre .size, omega (arith, c .before .before .before .before .pre .few))
 
-share-requires : tie.Need-share-requires Inv-loop μ-loop
-share-requires c κs = search needs
+if-held-requires : tie.Need-if-held-requires Inv-loop μ-loop
+if-held-requires c κs = search needs
 
 add-sum : tie.Need-add-sum Inv-loop μ-loop
 add-sum c = omega arith
@@ -45,8 +45,8 @@ loop-less c = omega arith
 loop-again : tie.Need-loop-again Inv-loop μ-loop
 loop-again c =
     let l = c .before .before .before .before .loop in
-    adding-more 255 (term (c .before .before .before .before .before .before .args .b .now)) (c .before .before .before .before .before .before .args .n) (l .i) (l .sum) (c .share .result) (l .inv) (omega arith) (omega (arith, c .share .ensures .1))
-    (c .share .ensures .0 ∙ (λ z. cond (c .before .before .held .ensures z) (c .before .blocks2 .ensures z) 0))
+    adding-more 255 (term (c .before .before .before .before .before .before .args .b .now)) (c .before .before .before .before .before .before .args .n) (l .i) (l .sum) (c .if-held .result) (l .inv) (omega arith) (omega (arith, c .if-held .ensures .1))
+    (c .if-held .ensures .0 ∙ (λ z. cond (c .before .before .held .ensures z) (c .before .blocks2 .ensures z) 0))
 
 returns : tie.Need-returns Inv-loop μ-loop
 returns c =
@@ -62,7 +62,7 @@ used-spec =
     loop-holds
     held-requires
     blocks-requires
-    share-requires
+    if-held-requires
     add-sum
     add-i
     loop-less
