@@ -79,7 +79,7 @@ view c =
       split = splitOf (c .rule);
     }
 
--- ---- validity: the rule of paper 01 for a foul locker (refusal 17), a named field for each of its sentences
+-- ---- validity: the papers' rule for a foul locker (refusal 17), a named field for each of its sentences
 
 -- "a sail not held is clean with credits 0"
 pub record Emptied (c : Cache) (i : ℕ) : Type 0 where

@@ -1,5 +1,5 @@
 -- Calls on a cache, what the table of refusals says to each, and the log of a list of calls.
--- Paper 01, 'The season as one list' and 'When the library says no'. Assumes nothing.
+-- Paper 01, 'The season as one list' and 'When the library says no', and paper 02, 'Three' and 'Six'. Assumes nothing.
 use mathlib.Core.{Bool.{Bool, true, false, cond, _&&_}, List.{List, [], _∷_, _++_}}
 use Prim.Native.Nat.{ℕ}
 use lib.{ListN.length, Dec.eqb}

@@ -1,5 +1,5 @@
 -- What the rule pays and counts: a table of what each event adds, and the sums over a log from an empty cache.
--- Paper 01, 'The step rule' and the report's names. Assumes nothing.
+-- Paper 01, 'The step rule' and the report's names, and paper 02, 'Four' and 'Six'. Assumes nothing.
 use mathlib.Core.{Bool.{Bool, true, false, cond}, List.List}
 use Prim.Native.Nat.{ℕ, _+_, _*_, _-_, _/_}
 use lib.{ListN.{length, getD}, Dec.eqb}
@@ -26,7 +26,7 @@ pub record Use : Type 0 where
   pub loads : ℕ
   pub writebacks : ℕ
 
--- all that paper 01's report is made of, and the steps and landings
+-- all that the report is made of, and the steps, the flushes, the arrivals and the retirements
 pub record Figures : Type 0 where
   pub totals : Totals
   pub uses : List Use

@@ -1,4 +1,4 @@
--- A rival plan, run over a log and priced. Paper 01, 'The rival plan'. Assumes nothing.
+-- A rival plan, run over a log and priced. Paper 01, 'The rival plan', and paper 02, 'Six'. Assumes nothing.
 use mathlib.Core.{Bool.{Bool, true, false, cond}, List.{List, [], _∷_, _++_}}
 use Prim.Native.Nat.{ℕ, suc, _+_}
 use lib.{ListN.{length, getD, set}, Dec.{leb, ltb}}
@@ -64,7 +64,7 @@ faultRefusal (alreadyHeld s a i) n = AlreadyHeld n i
 faultRefusal (requestNotHeld s i) n = RequestNotHeld n i
 faultRefusal (overCapacity s) n = OverCapacity n
 
--- its number in paper 01's table
+-- its number in the table of refusals
 abbrev pub faultNumber : Fault → ℕ
 faultNumber f = refusalNumber (faultRefusal f 0)
 

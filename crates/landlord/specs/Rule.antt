@@ -1,4 +1,5 @@
--- The step rule of paper 01: the published Writeback-Aware Landlord, with blocks, and with flushes.
+-- The step rule of paper 01: the published Writeback-Aware Landlord, with blocks, and with flushes; with the arrivals and retirements of
+-- paper 02, 'Six'.
 -- Each definition answers the next state and the events, in order; specs/Figures.antt says what each event pays.
 -- `split` is how a loss is split between the two credits (specs/Slot.antt), `k` the capacity. Assumes nothing.
 use mathlib.Core.{Bool.{Bool, true, false, cond}, List.{List, [], _∷_, _++_}}

@@ -1,4 +1,4 @@
--- What the rule knows of one item, and how a step changes it. Paper 01, 'Sails, locker, shares' and 'The step rule'.
+-- What the rule knows of one item, and how a step changes it. Paper 01, 'Sails, locker, shares' and 'The step rule', and paper 02, 'Three'.
 -- That an item not held has no credit, and a clean one no write credit, cannot be written otherwise here.
 -- Assumes nothing.
 use mathlib.Core.Bool.{Bool, true, false}

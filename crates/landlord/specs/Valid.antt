@@ -1,5 +1,5 @@
 -- What holds of the rule wherever it stands: the sentences of paper 01 on a foul locker that speak of the rule's state and
--- figures. Those on the fields of a program's state are with the program. Assumes nothing.
+-- figures, as paper 02, 'Four' and 'Six', leaves them. Those on the fields of a program's state are with the program. Assumes nothing.
 use mathlib.Core.{Path._≡_, Bool.{true, false, cond}}
 use Prim.Native.Nat.{ℕ, _+_, _*_, _≤_, _<_}
 use lib.ListN.{length}

@@ -1,5 +1,5 @@
 -- A text split into lines, a line into fields, and what a field is. Nothing here knows a heading: the lines are in
--- crates/season_lines/specs/Lines.antt. Paper 01, 'The text input'. Assumes nothing.
+-- crates/season_lines/specs/Lines.antt. Paper 01, 'The text input', and paper 02, 'Three'. Assumes nothing.
 use mathlib.Core.{Bool.{Bool, true, false, cond, not, _&&_, _||_}, List.{List, [], _∷_}}
 use Prim.Native.Nat.{ℕ}
 use lib.{ListN.{length, getD}, Dec.{leb, eqb}}

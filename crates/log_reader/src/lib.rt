@@ -35,7 +35,7 @@ struct Digits {
     end: usize,
 }
 
-// A read, a write or a landing that a text begins with: its first three numbers, the others being 0, and how many bytes its line has; 0
+// A read, a write or a flush that a text begins with: its first three numbers, the others being 0, and how many bytes its line has; 0
 // bytes if the text begins with none.
 struct Found {
     kind: u32,
@@ -179,7 +179,7 @@ fn write_in(heading: u32, text: &[u8]) -> Found
 }
 
 // The step that a text begins with, if its line is as the writer writes it. A line that is taken is never written otherwise, so that this
-// finds each read, write and landing; an arrival, a retirement and what it does not find are judged.
+// finds each read, write and flush; an arrival, a retirement and what it does not find are judged.
 fn step_in(heading: u32, text: &[u8]) -> Found
     ensures { λ r. ⌜ FoundIn heading (now (text .entry)) r ⌝ }
 {

@@ -1,5 +1,5 @@
--- The report's text, and what writing it on a lent page gives. Paper 01, 'The text input' and 'When the library says no'. Its lines are
--- in crates/report_lines/specs/Lines.antt. Assumes nothing.
+-- The report's text, and what writing it on a lent page gives. Paper 01, 'The text input' and 'When the library says no', and paper 02,
+-- 'One'. Its lines are in crates/report_lines/specs/Lines.antt. Assumes nothing.
 use mathlib.Core.{Path._≡_, Bool.cond, List.{List, [], _∷_, _++_}}
 use Prim.Native.Nat.{ℕ}
 use Rattle.decimal.specs.Decimal.{textOf, fits, wroteOf, pageOf}

@@ -1,5 +1,5 @@
--- The lines of a report: a line of numbers, the items' lines, and the last two. Paper 01, 'The text input'. What they make together is in
--- crates/report/specs/Report.antt. Assumes nothing.
+-- The lines of a report: a line of numbers, the items' lines, and the last two. Paper 01, 'The text input', and paper 02, 'Four'. What they
+-- make together is in crates/report/specs/Report.antt. Assumes nothing.
 use mathlib.Core.List.{List, [], _∷_, _++_}
 use Prim.Native.Nat.{ℕ, suc}
 use Rattle.decimal.specs.Decimal.{textOf, digitsOf}

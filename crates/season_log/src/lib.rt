@@ -191,7 +191,7 @@ fn put_end(heading: u32, page: &mut [u8]) -> usize
     decimal::put_text(b"\n", page)
 }
 
-// Writes the line of a landing at the start of the page, which has room for it.
+// Writes the line of a flush at the start of the page, which has room for it.
 fn put_flush(heading: u32, page: &mut [u8]) -> usize
     requires { ⌜ length (stepText heading Flush) ≤ length (now page) ⌝ }
     ensures { λ r. ⌜ r ≡ length (stepText heading Flush) ⌝ }

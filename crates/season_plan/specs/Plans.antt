@@ -1,5 +1,5 @@
 -- The plan of a text, priced by the definition that the wear bound cites, and the line of its first fault. Paper 01, 'The rival
--- plan' and 'When the library says no'. Assumes nothing.
+-- plan' and 'When the library says no', and paper 02, 'Six'. Assumes nothing.
 use mathlib.Core.{Path._≡_, Bool.cond, List.{List, [], _∷_}}
 use Prim.Native.Nat.{ℕ, suc, _+_}
 use lib.{ListN.length, Dec.{ltb, eqb}}

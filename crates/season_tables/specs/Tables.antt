@@ -1,5 +1,5 @@
 -- The tables of the text input, read line by line: the first faulty line decides. Paper 01, 'The text input' and 'When the library
--- says no'. Assumes nothing.
+-- says no', and paper 02, 'Three' and 'Six'. Assumes nothing.
 use mathlib.Core.{Bool.{Bool, true, false, cond, _&&_}, List.{List, [], _∷_, _++_}}
 use Prim.Native.Nat.{ℕ, suc}
 use lib.{ListN.{length, take}, Dec.{leb, ltb, eqb}}

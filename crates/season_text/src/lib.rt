@@ -80,7 +80,8 @@ pub fn answer(text: &[u8], page: &mut [u8]) -> Written
     }
 }
 
-// What is printed for a text, at the start of the page: its report, or the refusal's number and line. Answers how many bytes.
+// What is printed for a text, at the start of the page: its report, or the refusal's two numbers and sentence. Answers how
+// many bytes.
 pub fn output(text: &[u8], page: &mut [u8]) -> usize
     ensures { λ r. ⌜ Printed longest (outcomeOf (now (text .entry))) (now (page .entry)) r (now (page .exit)) ⌝ }
     ensures { λ r. ⌜ r ≤ length (now (page .exit)) ⌝ }

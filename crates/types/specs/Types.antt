@@ -90,8 +90,8 @@ namesItem number =
 abbrev pub itemTold : ℕ → ℕ → ℕ
 itemTold number item = cond (namesItem number) item 0
 
--- what an answer tells: a number of paper 01's table, 'When the library says no'; the line of the text, from 1, and 0 where no text was
--- read; and the item, where the number names one
+-- what an answer tells: a number of the table of refusals, 1 to 17 in paper 01, 'When the library says no', and 18 to 20 in paper 02,
+-- 'Three' and 'Six'; the line of the text, from 1, and 0 where no text was read; and the item, where the number names one
 pub record Told : Type 0 where
   pub number : ℕ
   pub line : ℕ

@@ -70,7 +70,7 @@ pub enum Deduction {
     LoadFirst,
 }
 
-// A refusal, one case for each row of paper 01's table, in its order. The payload is the line of the text, counted
+// A refusal, one case for each number of the table: 1 to 17 are paper 01's, 18 to 20 paper 02's. The payload is the line of the text, counted
 // from 1; it is 0 where a call is refused and no text was read. Some name the item that they are about.
 pub enum Refusal {
     // 1, torn
@@ -242,7 +242,7 @@ pub fn deduction_of(number: u32) -> Deduction
 }
 
 impl Refusal {
-    // The number in paper 01's table.
+    // The number in the table of refusals.
     pub fn number(self) -> u32
         ensures { λ r. ⌜ r ≡ refusalNumber self ⌝ }
     {

@@ -1,5 +1,5 @@
--- What each test decides, on the numbers that it is handed: a field for each sentence of paper 01's rule for a foul locker
--- (refusal 17) that it looks at. The crates above say of what these are the numbers. Assumes nothing.
+-- What each test decides, on the numbers that it is handed: a field for each sentence of the rule for a foul locker (refusal 17; paper
+-- 01, and paper 02, 'Four' and 'Six') that it looks at. The crates above say of what these are the numbers. Assumes nothing.
 use mathlib.Core.{Path._≡_, Bool.{Bool, true, false}}
 use Prim.Native.Nat.{ℕ, _+_, _*_, _≤_, _∣_}
 use Rattle.landlord.specs.{Catalog.full, Figures.Totals}
