@@ -1,7 +1,7 @@
 -- The bench rows: seasons with every figure that the rule gives for them, in one table, and one theorem over the table, by
 -- computation. The first nine are those that paper 01 marks, the next six catch replays that go astray, one is of minutes that come
 -- to a tenth of an hour only together, the next five are where write-first and load-first part, two are for the table of refusals and
--- the plan's faults, and the last four are of items that arrive and leave. Two more tables put questions to the table of refusals, about
+-- the plan's faults, and the last five are of items that arrive and leave. Two more tables put questions to the table of refusals, about
 -- calls and about openings. Assumes nothing.
 use mathlib.Core.{Path.{_≡_, refl}, Bool.{Bool, true, false}, List.{List, [], _∷_, _++_, map}}
 use Prim.Native.Nat.{ℕ, _+_, _*_, _-_, _≤_}
@@ -299,6 +299,11 @@ benchRows =
     fault (overCapacity 0) ∷
     fault (overCapacity 1) ∷
     [])) ∷
+    -- By load-first: item 0 stays dirty, with one of its two left of the load credit and five of its six of the write credit (by write-first
+    -- two and two). Item 3 arrives, is written and leaves dirty, which costs item 0 nothing.
+    rowBy 2 LoadFirst (item 1 2 6 ∷ item 1 3 0 ∷ item 1 1 0 ∷ []) (write 0 6 ∷ read 1 ∷ read 2 ∷ read 0 ∷ arrival 3 1 5 1 ∷ read 3 ∷ write 3 12 ∷ retirement 3 ∷ []) []
+    (gives (0 ∷ 0 ∷ 0 ∷ 0 ∷ 0 ∷ 0 ∷ 0 ∷ 0 ∷ []) 12 (totalsOf 8 2 4 11 3 1 1 1 0 1 1)
+    (useOf 6 1 0 ∷ useOf 0 1 0 ∷ useOf 0 1 0 ∷ useOf 12 1 1 ∷ []) (1 ∷ 2 ∷ 3 ∷ []) (dirty 720720 3603600 ∷ absent ∷ absent ∷ absent ∷ []) []) ∷
     -- level where the plan has one block: 10 against 10
     comesAndGoes ∷
     []
