@@ -17,14 +17,14 @@ use Rattle.cache_arrivals.specs.InnerStores.{listedOf, leftOf, LeftAt}
 
 -- the item at the place of the count, and then the count
 pub item-listed :
-    (b b1 b2 b3 left : List ℕ) (blocks load write : ℕ) {n : ℕ} →
+    (b b1 b2 b3 after : List ℕ) (blocks load write : ℕ) {n : ℕ} →
     n ≡ cacheOf b .n →
     Stands b1 (withBlocks (cacheOf b) n blocks) →
     Stands b2 (withItemLoadCost (cacheOf b1) n load) →
     Stands b3 (withItemWriteCost (cacheOf b2) n write) →
-    Stands left (withCount (cacheOf b3) (n + 1)) →
-    Stands left (listedOf (cacheOf b) blocks load write)
-item-listed b b1 b2 b3 left blocks load write {n} en s1 s2 s3 s4 =
+    Stands after (withCount (cacheOf b3) (n + 1)) →
+    Stands after (listedOf (cacheOf b) blocks load write)
+item-listed b b1 b2 b3 after blocks load write {n} en s1 s2 s3 s4 =
     stands-as s4
     (ap (λ (q : Cache). withCount q (n + 1))
     (s3 .cache
@@ -32,13 +32,13 @@ item-listed b b1 b2 b3 left blocks load write {n} en s1 s2 s3 s4 =
     ∙ (λ z. withCount (withItemWriteCost (withItemLoadCost (withBlocks (cacheOf b) (en z) blocks) (en z) load) (en z) write) (en z + 1)))
 
 pub left-marked :
-    (b b1 left : List ℕ) (i : ℕ) {words gone : List ℕ} →
+    (b b1 after : List ℕ) (i : ℕ) {words gone : List ℕ} →
     words ≡ cacheOf b .left →
     Stands b1 (stepCounted (cacheOf b) Retirements) →
     marks gone ≡ set (marks words) i true →
-    Stands left (withLeft (cacheOf b1) gone) →
-    LeftAt b i left
-left-marked b b1 left i {words} {gone} ew s1 mark s2 =
+    Stands after (withLeft (cacheOf b1) gone) →
+    LeftAt b i after
+left-marked b b1 after i {words} {gone} ew s1 mark s2 =
     record {
       reads = readable s2;
       cache =
@@ -48,8 +48,8 @@ left-marked b b1 left i {words} {gone} ew s1 mark s2 =
           };
     }
   where
-    is : cacheOf left ≡ leftOf (cacheOf b) gone
+    is : cacheOf after ≡ leftOf (cacheOf b) gone
     is = s2 .cache ∙ ap (λ (q : Cache). withLeft q gone) (s1 .cache)
 
-    words-are : cacheOf left .left ≡ gone
+    words-are : cacheOf after .left ≡ gone
     words-are = ap (λ (q : Cache). q .left) is

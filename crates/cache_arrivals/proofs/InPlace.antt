@@ -38,10 +38,10 @@ module _ (b : List ℕ) (p : ArrivableAt b) where
         record { reads = readable s1; few = subst (λ (m : ℕ). m < 256) (sym (ap (λ (q : Cache). q .n) (s1 .cache))) (p .few) }
 
     pub arrive-at :
-        (left : List ℕ) (blocks load write : ℕ) →
-        Stands left (listedOf (cacheOf b1) blocks load write) →
-        BecomesAt (took (view (cacheOf b)) (Arrive (cacheOf b .n) blocks load write)) left
-    arrive-at left blocks load write s2 =
+        (after : List ℕ) (blocks load write : ℕ) →
+        Stands after (listedOf (cacheOf b1) blocks load write) →
+        BecomesAt (took (view (cacheOf b)) (Arrive (cacheOf b .n) blocks load write)) after
+    arrive-at after blocks load write s2 =
         record {
           reads = readable s2;
           cache =
@@ -73,13 +73,13 @@ module _ (b : List ℕ) (i : ℕ) (p : ServableAt b i) where
         }
 
     pub held-at :
-        {h d : Bool} (left : List ℕ) →
+        {h d : Bool} (after : List ℕ) →
         h ≡ getD (cacheOf b .held) i false →
         h ≡ true →
         d ≡ dirtyAt (cacheOf b) i →
-        Stands left (countedOf (cacheOf b1) i d) →
-        BecomesAt (moved (view (cacheOf b)) (dropItem i (stateOf (cacheOf b))) (cacheOf b .closed)) left
-    held-at {d = d} left is so was s2 =
+        Stands after (countedOf (cacheOf b1) i d) →
+        BecomesAt (moved (view (cacheOf b)) (dropItem i (stateOf (cacheOf b))) (cacheOf b .closed)) after
+    held-at {d = d} after is so was s2 =
         record {
           reads = readable s2;
           cache =
@@ -102,6 +102,6 @@ module _ (b : List ℕ) (i : ℕ) (p : ServableAt b i) where
     pub dropped-valid : ValidBytes b1
     dropped-valid = becomes-valid (ok-drop (view (cacheOf b)) i (p .valid .cache .rule) (omega (arith, p .item, size-is (cacheOf b)))) s1
 
-    pub retire-at : (left : List ℕ) → LeftAt b1 i left → BecomesAt (took (view (cacheOf b)) (Retire i)) left
-    retire-at left s2 =
-        record { reads = s2 .reads; cache = retire-becomes (cacheOf b) (cacheOf b1) (cacheOf left) i (p .item) (s1 .cache) (s2 .cache) }
+    pub retire-at : (after : List ℕ) → LeftAt b1 i after → BecomesAt (took (view (cacheOf b)) (Retire i)) after
+    retire-at after s2 =
+        record { reads = s2 .reads; cache = retire-becomes (cacheOf b) (cacheOf b1) (cacheOf after) i (p .item) (s1 .cache) (s2 .cache) }

@@ -23,6 +23,6 @@ pub record Left (c : Cache) (i : ℕ) (r : Cache) : Type 0 where
   pub mark : marks (r .left) ≡ set (marks (c .left)) i true
 
 -- the same of the bytes of a state
-pub record LeftAt (b : List ℕ) (i : ℕ) (left : List ℕ) : Type 0 where
-  pub reads : Readable left
-  pub cache : Left (cacheOf b) i (cacheOf left)
+pub record LeftAt (b : List ℕ) (i : ℕ) (after : List ℕ) : Type 0 where
+  pub reads : Readable after
+  pub cache : Left (cacheOf b) i (cacheOf after)

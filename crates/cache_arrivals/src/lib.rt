@@ -42,7 +42,7 @@ fn drop_held(b: &mut [u8], i: usize)
     if layout::held(b, i) {
         let dirty = layout::is_dirty(b, i);
         cache_room::drop_item(b, i);
-        cache_room::count(b, i, dirty);
+        cache_room::count_eviction(b, i, dirty);
     }
 }
 

@@ -13,38 +13,38 @@ use Rattle.cache_counts.specs.Inner.{totalCounted, stepCounted, writebac
 
 -- a total, which is known by its getter and its setter
 pub total-counted :
-    (b : List ℕ) {q left : List ℕ} {total known : Total} (get : Cache → ℕ) (put : Cache → ℕ → Cache) {n : ℕ} →
+    (b : List ℕ) {q after : List ℕ} {total known : Total} (get : Cache → ℕ) (put : Cache → ℕ → Cache) {n : ℕ} →
     total ≡ known →
     n ≡ get (cacheOf b) →
     Stands q (put (cacheOf b) (n + 1)) →
-    left ≡ q →
+    after ≡ q →
     put (cacheOf b) (get (cacheOf b) + 1) ≡ totalCounted (cacheOf b) known →
-    Stands left (totalCounted (cacheOf b) total)
+    Stands after (totalCounted (cacheOf b) total)
 total-counted b {total = total} get put is en s e same =
     subst (λ (x : List ℕ). Stands x (totalCounted (cacheOf b) total)) (sym e)
     (stands-as s (ap (λ (m : ℕ). put (cacheOf b) (m + 1)) en ∙ same ∙ ap (totalCounted (cacheOf b)) (sym is)))
 
 -- and then the steps
 pub step-counted :
-    (b b1 left : List ℕ) (total : Total) {steps : ℕ} →
+    (b b1 after : List ℕ) (total : Total) {steps : ℕ} →
     steps ≡ cacheOf b .steps →
     Stands b1 (totalCounted (cacheOf b) total) →
-    Stands left (withSteps (cacheOf b1) (steps + 1)) →
-    Stands left (stepCounted (cacheOf b) total)
-step-counted b b1 left total es s1 s2 = stands-as s2 (λ z. withSteps (s1 .cache z) (es z + 1))
+    Stands after (withSteps (cacheOf b1) (steps + 1)) →
+    Stands after (stepCounted (cacheOf b) total)
+step-counted b b1 after total es s1 s2 = stands-as s2 (λ z. withSteps (s1 .cache z) (es z + 1))
 
 -- every number of a writeback was read before the first store
 pub writeback-counted :
-    (b b1 b2 left : List ℕ) (i : ℕ) {own writebacks paid price : ℕ} →
+    (b b1 b2 after : List ℕ) (i : ℕ) {own writebacks paid price : ℕ} →
     own ≡ getD (cacheOf b .itemwritebacks) i 0 →
     writebacks ≡ cacheOf b .writebacks →
     paid ≡ cacheOf b .writecost →
     price ≡ getD (cacheOf b .write) i 0 →
     Stands b1 (withItemWritebacks (cacheOf b) i (own + 1)) →
     Stands b2 (withWritebacks (cacheOf b1) (writebacks + 1)) →
-    Stands left (withWriteCost (cacheOf b2) (paid + price)) →
-    Stands left (writebackCounted (cacheOf b) i)
-writeback-counted b b1 b2 left i {own} {writebacks} {paid} {price} eo en ep er s1 s2 s3 =
+    Stands after (withWriteCost (cacheOf b2) (paid + price)) →
+    Stands after (writebackCounted (cacheOf b) i)
+writeback-counted b b1 b2 after i {own} {writebacks} {paid} {price} eo en ep er s1 s2 s3 =
     stands-as s3
     (ap (λ (q : Cache). withWriteCost q (paid + price))
     (s2 .cache ∙ ap (λ (q : Cache). withWritebacks q (writebacks + 1)) (s1 .cache))

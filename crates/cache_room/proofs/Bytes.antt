@@ -116,15 +116,15 @@ charge-passed c m i ok l s h =
 
 -- the four stores of a drop
 pub dropped-at :
-    (b b1 b2 b3 left : List ℕ) (v : ℕ) (ds ws : List ℕ) →
+    (b b1 b2 b3 after : List ℕ) (v : ℕ) (ds ws : List ℕ) →
     ds ≡ cacheOf b .dirty →
     Stands b1 (withHeld (cacheOf b) v false) →
     Stands b2 (withLoadCredit (cacheOf b1) v 0) →
     Stands b3 (withWriteCredit (cacheOf b2) v 0) →
     marks ws ≡ set (marks ds) v false →
-    Stands left (withDirty (cacheOf b3) ws) →
-    DroppedAt b v left
-dropped-at b b1 b2 b3 left v ds ws e s1 s2 s3 un s4 =
+    Stands after (withDirty (cacheOf b3) ws) →
+    DroppedAt b v after
+dropped-at b b1 b2 b3 after v ds ws e s1 s2 s3 un s4 =
     record {
       reads = readable s4;
       cache =
@@ -134,7 +134,7 @@ dropped-at b b1 b2 b3 left v ds ws e s1 s2 s3 un s4 =
           };
     }
   where
-    all : cacheOf left ≡ droppedOf (cacheOf b) v ws
+    all : cacheOf after ≡ droppedOf (cacheOf b) v ws
     all =
         s4 .cache
         ∙ ap (λ (q : Cache). withDirty q ws)
@@ -156,15 +156,15 @@ payable-at {v = v} {y = y} p s1 s2 =
     }
 
 pub counted-dirty :
-    (b b1 b2 left : List ℕ) (v : ℕ) {e de : ℕ} {d : Bool} →
+    (b b1 b2 after : List ℕ) (v : ℕ) {e de : ℕ} {d : Bool} →
     e ≡ cacheOf b .evictions →
     de ≡ cacheOf b .dirtyevictions →
     Stands b1 (withEvictions (cacheOf b) (e + 1)) →
     d ≡ true →
     Stands b2 (withDirtyEvictions (cacheOf b1) (de + 1)) →
-    Stands left (writebackCounted (cacheOf b2) v) →
-    Stands left (countedOf (cacheOf b) v d)
-counted-dirty b b1 b2 left v {e} {de} ee ed s1 was s2 s3 =
+    Stands after (writebackCounted (cacheOf b2) v) →
+    Stands after (countedOf (cacheOf b) v d)
+counted-dirty b b1 b2 after v {e} {de} ee ed s1 was s2 s3 =
     stands-as s3
     (ap (λ (q : Cache). writebackCounted q v) (s2 .cache ∙ ap (λ (q : Cache). withDirtyEvictions q (de + 1)) (s1 .cache))
     ∙ (λ z. writebackCounted (withDirtyEvictions (withEvictions (cacheOf b) (ee z + 1)) (ed z + 1)) v)
@@ -172,12 +172,12 @@ counted-dirty b b1 b2 left v {e} {de} ee ed s1 was s2 s3 =
 
 -- the one that counts another
 pub counted-clean :
-    (b left : List ℕ) (v : ℕ) {e : ℕ} {d : Bool} →
+    (b after : List ℕ) (v : ℕ) {e : ℕ} {d : Bool} →
     e ≡ cacheOf b .evictions →
-    Stands left (withEvictions (cacheOf b) (e + 1)) →
+    Stands after (withEvictions (cacheOf b) (e + 1)) →
     d ≡ false →
-    Stands left (countedOf (cacheOf b) v d)
-counted-clean b left v ee s was =
+    Stands after (countedOf (cacheOf b) v d)
+counted-clean b after v ee s was =
     stands-as s (ap (λ (x : ℕ). withEvictions (cacheOf b) (x + 1)) ee ∙ ap (countedOf (cacheOf b) v) (sym was))
 
 -- ---- the eviction of the victim v, of rank m
@@ -222,16 +222,16 @@ module _ (b : List ℕ) (n : ℕ) {v : ℕ} (p : CrowdedAt b n) (is : v ≡ vict
     countable-at = record { reads = s2 .reads; counts = countable (cacheOf b) (cacheOf b1) (cacheOf b2) (p .valid .valid .cache) known leaves }
 
     pub evicted-at :
-        {d : Bool} (left : List ℕ) →
+        {d : Bool} (after : List ℕ) →
         m ≡ rankOf (cacheOf b) v →
         d ≡ dirtyAt (cacheOf b) v →
-        Stands left (countedOf (cacheOf b2) v d) →
-        BecomesAt (moved (view (cacheOf b)) (evict (splitOf (cacheOf b .rule)) (stateOf (cacheOf b))) (cacheOf b .closed)) left
-    evicted-at left worth was s3 =
+        Stands after (countedOf (cacheOf b2) v d) →
+        BecomesAt (moved (view (cacheOf b)) (evict (splitOf (cacheOf b .rule)) (stateOf (cacheOf b))) (cacheOf b .closed)) after
+    evicted-at after worth was s3 =
         record {
           reads = readable s3;
           cache =
-              evict-becomes (cacheOf b) (cacheOf b1) (cacheOf b2) (cacheOf left) sizes (p .valid .valid .cache .fields) (p .some) is worth was leaves
+              evict-becomes (cacheOf b) (cacheOf b1) (cacheOf b2) (cacheOf after) sizes (p .valid .valid .cache .fields) (p .some) is worth was leaves
               (s3 .cache);
         }
       where

@@ -71,9 +71,9 @@ pub record ChargeableAt (b : List ℕ) (n m : ℕ) : Type 0 where
       lossAt (cacheOf b) m i ≤ getD (cacheOf b .loadcredit) i 0 + getD (cacheOf b .writecredit) i 0
 
 -- item v is dropped
-pub record DroppedAt (b : List ℕ) (v : ℕ) (left : List ℕ) : Type 0 where
-  pub reads : Readable left
-  pub cache : Dropped (cacheOf b) v (cacheOf left)
+pub record DroppedAt (b : List ℕ) (v : ℕ) (after : List ℕ) : Type 0 where
+  pub reads : Readable after
+  pub cache : Dropped (cacheOf b) v (cacheOf after)
 
 -- the eviction of item v can be counted
 pub record CountableAt (b : List ℕ) (v : ℕ) : Type 0 where

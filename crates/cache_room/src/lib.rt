@@ -80,7 +80,7 @@ pub fn drop_item(b: &mut [u8], v: usize)
 }
 
 // The eviction of item `v` is counted. A dirty item is written back before it goes, and that is paid for.
-pub fn count(b: &mut [u8], v: usize, dirty: bool)
+pub fn count_eviction(b: &mut [u8], v: usize, dirty: bool)
     requires { ⌜ CountableAt (now b) v ⌝ }
     ensures { λ _. ⌜ Stands (now (b .exit)) (countedOf (cacheOf (now (b .entry))) v dirty) ⌝ }
 {
@@ -111,7 +111,7 @@ pub fn evict(b: &mut [u8], n: usize) -> u8
     let dirty = layout::is_dirty(b, v);
     charge(b, n, least);
     drop_item(b, v);
-    count(b, v, dirty);
+    count_eviction(b, v, dirty);
     blocks
 }
 

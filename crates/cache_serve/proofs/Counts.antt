@@ -17,39 +17,39 @@ use Rattle.cache_counts.specs.Inner.{stepCounted, writebackCounted}
 use Rattle.cache_serve.specs.InnerStores.{loadedOf, refilledOf, writtenOf, wroteBackOf, WroteAt, WroteBackAt}
 
 pub item-loaded :
-    (b b1 b2 b3 left : List ℕ) (i : ℕ) {own paid price : ℕ} →
+    (b b1 b2 b3 after : List ℕ) (i : ℕ) {own paid price : ℕ} →
     own ≡ getD (cacheOf b .itemloads) i 0 →
     paid ≡ cacheOf b .loadcost →
     price ≡ getD (cacheOf b .load) i 0 →
     Stands b1 (stepCounted (cacheOf b) Loads) →
     Stands b2 (withHeld (cacheOf b1) i true) →
     Stands b3 (withItemLoads (cacheOf b2) i (own + 1)) →
-    Stands left (withLoadCost (cacheOf b3) (paid + price)) →
-    Stands left (loadedOf (cacheOf b) i)
-item-loaded b b1 b2 b3 left i {own} {paid} {price} eo ep er s1 s2 s3 s4 =
+    Stands after (withLoadCost (cacheOf b3) (paid + price)) →
+    Stands after (loadedOf (cacheOf b) i)
+item-loaded b b1 b2 b3 after i {own} {paid} {price} eo ep er s1 s2 s3 s4 =
     stands-as s4
     (ap (λ (q : Cache). withLoadCost q (paid + price))
     (s3 .cache ∙ ap (λ (q : Cache). withItemLoads q i (own + 1)) (s2 .cache ∙ ap (λ (q : Cache). withHeld q i true) (s1 .cache)))
     ∙ (λ z. withLoadCost (withItemLoads (withHeld (stepCounted (cacheOf b) Loads) i true) i (eo z + 1)) (ep z + er z)))
 
 pub credit-filled :
-    (b left : List ℕ) (i : ℕ) {credit : ℕ} →
+    (b after : List ℕ) (i : ℕ) {credit : ℕ} →
     credit ≡ full (getD (cacheOf b .load) i 0) →
-    Stands left (withLoadCredit (cacheOf b) i credit) →
-    Stands left (refilledOf (cacheOf b) i)
-credit-filled b left i ec s = stands-as s (λ z. withLoadCredit (cacheOf b) i (ec z))
+    Stands after (withLoadCredit (cacheOf b) i credit) →
+    Stands after (refilledOf (cacheOf b) i)
+credit-filled b after i ec s = stands-as s (λ z. withLoadCredit (cacheOf b) i (ec z))
 
 pub write-counted :
-    (b b1 b2 left : List ℕ) (i minutes : ℕ) {words marked : List ℕ} {credit sofar : ℕ} →
+    (b b1 b2 after : List ℕ) (i minutes : ℕ) {words marked : List ℕ} {credit sofar : ℕ} →
     words ≡ cacheOf b .dirty →
     credit ≡ full (getD (cacheOf b .write) i 0) →
     sofar ≡ getD (cacheOf b .minutes) i 0 →
     marks marked ≡ set (marks words) i true →
     Stands b1 (withDirty (cacheOf b) marked) →
     Stands b2 (withWriteCredit (cacheOf b1) i credit) →
-    Stands left (withMinutes (cacheOf b2) i (sofar + minutes)) →
-    WroteAt b i minutes left
-write-counted b b1 b2 left i minutes {words} {marked} {credit} {sofar} ew ec es mark s1 s2 s3 =
+    Stands after (withMinutes (cacheOf b2) i (sofar + minutes)) →
+    WroteAt b i minutes after
+write-counted b b1 b2 after i minutes {words} {marked} {credit} {sofar} ew ec es mark s1 s2 s3 =
     record {
       reads = readable s3;
       cache =
@@ -59,24 +59,24 @@ write-counted b b1 b2 left i minutes {words} {marked} {credit} {sofar} ew ec es 
           };
     }
   where
-    is : cacheOf left ≡ writtenOf (cacheOf b) i minutes marked
+    is : cacheOf after ≡ writtenOf (cacheOf b) i minutes marked
     is =
         s3 .cache
         ∙ ap (λ (q : Cache). withMinutes q i (sofar + minutes)) (s2 .cache ∙ ap (λ (q : Cache). withWriteCredit q i credit) (s1 .cache))
         ∙ (λ z. withMinutes (withWriteCredit (withDirty (cacheOf b) marked) i (ec z)) i (es z + minutes))
 
-    words-are : cacheOf left .dirty ≡ marked
+    words-are : cacheOf after .dirty ≡ marked
     words-are = ap (λ (q : Cache). q .dirty) is
 
 pub written-back :
-    (b b1 b2 left : List ℕ) (i : ℕ) {words marked : List ℕ} →
+    (b b1 b2 after : List ℕ) (i : ℕ) {words marked : List ℕ} →
     Stands b1 (writebackCounted (cacheOf b) i) →
     words ≡ cacheOf b1 .dirty →
     marks marked ≡ set (marks words) i false →
     Stands b2 (withDirty (cacheOf b1) marked) →
-    Stands left (withWriteCredit (cacheOf b2) i 0) →
-    WroteBackAt b i left
-written-back b b1 b2 left i {words} {marked} s1 ew mark s2 s3 =
+    Stands after (withWriteCredit (cacheOf b2) i 0) →
+    WroteBackAt b i after
+written-back b b1 b2 after i {words} {marked} s1 ew mark s2 s3 =
     record {
       reads = readable s3;
       cache =
@@ -86,8 +86,8 @@ written-back b b1 b2 left i {words} {marked} s1 ew mark s2 s3 =
           };
     }
   where
-    is : cacheOf left ≡ wroteBackOf (cacheOf b) i marked
+    is : cacheOf after ≡ wroteBackOf (cacheOf b) i marked
     is = s3 .cache ∙ ap (λ (q : Cache). withWriteCredit q i 0) (s2 .cache ∙ ap (λ (q : Cache). withDirty q marked) (s1 .cache))
 
-    words-are : cacheOf left .dirty ≡ marked
+    words-are : cacheOf after .dirty ≡ marked
     words-are = ap (λ (q : Cache). q .dirty) is

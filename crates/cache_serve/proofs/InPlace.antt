@@ -29,32 +29,32 @@ use Rattle.cache_serve.proofs.Writebacks.{Flushing, flush-starts, flush
 
 -- bytes that stand where a move of the rule leads
 abbrev MovesTo : List ℕ → (State → Moved) → List ℕ → Type 0
-MovesTo b f left = BecomesAt (moved (view (cacheOf b)) (f (stateOf (cacheOf b))) (cacheOf b .closed)) left
+MovesTo b f after = BecomesAt (moved (view (cacheOf b)) (f (stateOf (cacheOf b))) (cacheOf b .closed)) after
 
 -- ---- a request
 
 -- the item was held, and a hit counted; or it was not, and was loaded
 abbrev pub FoundOrLoaded : List ℕ → ℕ → List ℕ → Type 0
-FoundOrLoaded b i left =
-    ((getD (cacheOf b .held) i false ≡ true) × Stands left (stepCounted (cacheOf b) Hits))
-    ⊎ ((getD (cacheOf b .held) i false ≡ false) × Stands left (loadedOf (cacheOf b) i))
+FoundOrLoaded b i after =
+    ((getD (cacheOf b .held) i false ≡ true) × Stands after (stepCounted (cacheOf b) Hits))
+    ⊎ ((getD (cacheOf b .held) i false ≡ false) × Stands after (loadedOf (cacheOf b) i))
 
 pub hit-way :
-    (b : List ℕ) (i : ℕ) {q left : List ℕ} {isHeld : Bool} →
+    (b : List ℕ) (i : ℕ) {q after : List ℕ} {isHeld : Bool} →
     isHeld ≡ getD (cacheOf b .held) i false →
     isHeld ≡ true →
     Stands q (stepCounted (cacheOf b) Hits) →
-    left ≡ q →
-    FoundOrLoaded b i left
+    after ≡ q →
+    FoundOrLoaded b i after
 hit-way b i is h s e = inl (sym is ∙ h, subst (λ (x : List ℕ). Stands x (stepCounted (cacheOf b) Hits)) (sym e) s)
 
 pub load-way :
-    (b : List ℕ) (i : ℕ) {q left : List ℕ} {isHeld : Bool} →
+    (b : List ℕ) (i : ℕ) {q after : List ℕ} {isHeld : Bool} →
     isHeld ≡ getD (cacheOf b .held) i false →
     isHeld ≡ false →
     Stands q (loadedOf (cacheOf b) i) →
-    left ≡ q →
-    FoundOrLoaded b i left
+    after ≡ q →
+    FoundOrLoaded b i after
 load-way b i is h s e = inr (sym is ∙ h, subst (λ (x : List ℕ). Stands x (loadedOf (cacheOf b) i)) (sym e) s)
 
 module _ (b : List ℕ) (i : ℕ) (p : ServableAt b i) where
@@ -80,19 +80,19 @@ module _ (b : List ℕ) (i : ℕ) (p : ServableAt b i) where
 
   -- the load credit is filled last
   pub read-at :
-      (b1 left : List ℕ) →
+      (b1 after : List ℕ) →
       FoundOrLoaded b i b1 →
-      Stands left (refilledOf (cacheOf b1) i) →
-      MovesTo b (serveRead i) left
-  read-at b1 left w s = record { reads = readable s; cache = by w }
+      Stands after (refilledOf (cacheOf b1) i) →
+      MovesTo b (serveRead i) after
+  read-at b1 after w s = record { reads = readable s; cache = by w }
     where
       v : Standing
       v = moved (view (cacheOf b)) (serveRead i (stateOf (cacheOf b))) (cacheOf b .closed)
 
-      at : (c : Cache) → cacheOf b1 ≡ c → Becomes v (refilledOf c i) → Becomes v (cacheOf left)
+      at : (c : Cache) → cacheOf b1 ≡ c → Becomes v (refilledOf c i) → Becomes v (cacheOf after)
       at c e r = subst (Becomes v) (sym (s .cache ∙ ap (λ (q : Cache). refilledOf q i) e)) r
 
-      by : FoundOrLoaded b i b1 → Becomes v (cacheOf left)
+      by : FoundOrLoaded b i b1 → Becomes v (cacheOf after)
       by (inl h) = at (stepCounted (cacheOf b) Hits) (h .1 .cache) (read-hit (cacheOf b) i (whole b) servable (h .0))
       by (inr h) = at (loadedOf (cacheOf b) i) (h .1 .cache) (read-load (cacheOf b) i (whole b) servable (h .0))
 
@@ -103,21 +103,21 @@ module _ (b : List ℕ) (i : ℕ) (p : ServableAt b i) where
         record { reads = read .reads; counts = writable (cacheOf b) (cacheOf b1) i servable (read .cache) minutes short }
 
     pub write-at :
-        (left : List ℕ) →
-        WroteAt b1 i minutes left →
-        MovesTo b (serveWrite i minutes) left
-    write-at left w =
+        (after : List ℕ) →
+        WroteAt b1 i minutes after →
+        MovesTo b (serveWrite i minutes) after
+    write-at after w =
         record {
           reads = w .reads;
-          cache = write-becomes (cacheOf b) (cacheOf b1) i servable (read .cache) (cacheOf left) minutes (whole b1) (w .cache);
+          cache = write-becomes (cacheOf b) (cacheOf b1) i servable (read .cache) (cacheOf after) minutes (whole b1) (w .cache);
         }
 
 -- ---- a flush
 
 -- in a flush of the bytes b, with the items below `at` done
-pub record FlushingAt (b left : List ℕ) (at : ℕ) : Type 0 where
-  pub reads : Readable left
-  pub flushes : Flushing (cacheOf b) (cacheOf left) at
+pub record FlushingAt (b after : List ℕ) (at : ℕ) : Type 0 where
+  pub reads : Readable after
+  pub flushes : Flushing (cacheOf b) (cacheOf after) at
 
 pub flush-starts-at : (b : List ℕ) → ValidBytes b → FlushingAt b b 0
 flush-starts-at b p = record { reads = valid-reads p; flushes = flush-starts (cacheOf b) (p .cache) }
@@ -138,11 +138,11 @@ module _
     pub flushable-at : i < 256 → PayableAt q i
     flushable-at l = record { reads = f .reads; counts = flushable (cacheOf b) (cacheOf q) at i (f .flushes) next l }
 
-    pub flush-turn-at : i < 256 → (left : List ℕ) → WroteBackAt q i left → FlushingAt b left (i + 1)
-    flush-turn-at l left w =
+    pub flush-turn-at : i < 256 → (after : List ℕ) → WroteBackAt q i after → FlushingAt b after (i + 1)
+    flush-turn-at l after w =
         record {
           reads = w .reads;
-          flushes = flush-turn (cacheOf b) (cacheOf q) at i (f .flushes) next l (cacheOf left) (whole q) (w .cache);
+          flushes = flush-turn (cacheOf b) (cacheOf q) at i (f .flushes) next l (cacheOf after) (whole q) (w .cache);
         }
 
 -- ---- a flush of the log
@@ -157,13 +157,13 @@ module _ (b b1 : List ℕ) (p : SteppableAt b) (s : Stands b1 (stepCounted (cach
       }
 
   pub flush-step-at :
-      (left : List ℕ) →
-      MovesTo b1 flush left →
-      BecomesAt (took (view (cacheOf b)) Flush) left
-  flush-step-at left r =
+      (after : List ℕ) →
+      MovesTo b1 flush after →
+      BecomesAt (took (view (cacheOf b)) Flush) after
+  flush-step-at after r =
       record {
         reads = r .reads;
         cache =
-            flush-step-becomes (cacheOf b) (cacheOf left)
-            (subst (λ (c : Cache). Becomes (moved (view c) (flush (stateOf c)) (c .closed)) (cacheOf left)) (s .cache) (r .cache));
+            flush-step-becomes (cacheOf b) (cacheOf after)
+            (subst (λ (c : Cache). Becomes (moved (view c) (flush (stateOf c)) (c .closed)) (cacheOf after)) (s .cache) (r .cache));
       }

@@ -38,10 +38,10 @@ pub record WroteBack (c : Cache) (i : ℕ) (r : Cache) : Type 0 where
   pub mark : marks (r .dirty) ≡ set (marks (c .dirty)) i false
 
 -- the same of the bytes of a state
-pub record WroteAt (b : List ℕ) (i minutes : ℕ) (left : List ℕ) : Type 0 where
-  pub reads : Readable left
-  pub cache : Wrote (cacheOf b) i minutes (cacheOf left)
+pub record WroteAt (b : List ℕ) (i minutes : ℕ) (after : List ℕ) : Type 0 where
+  pub reads : Readable after
+  pub cache : Wrote (cacheOf b) i minutes (cacheOf after)
 
-pub record WroteBackAt (b : List ℕ) (i : ℕ) (left : List ℕ) : Type 0 where
-  pub reads : Readable left
-  pub cache : WroteBack (cacheOf b) i (cacheOf left)
+pub record WroteBackAt (b : List ℕ) (i : ℕ) (after : List ℕ) : Type 0 where
+  pub reads : Readable after
+  pub cache : WroteBack (cacheOf b) i (cacheOf after)

@@ -13,8 +13,8 @@ is-dirty-requires c κs = search needs
 drop-item-requires : tie.Need-drop-item-requires
 drop-item-requires c κs = search needs
 
-count-requires : tie.Need-count-requires
-count-requires c κs =
+count-eviction-requires : tie.Need-count-eviction-requires
+count-eviction-requires c κs =
     let d = c .before .before .before in
     let s = d .before .before .before .before .before .before .before .before in
     countable-at (s .args .b .now) (s .args .i) (s .pre) _ (d .drop-item .ensures)
@@ -31,7 +31,7 @@ returns c =
     let h = t .before in
     let s = h .before .before .before in
     held-at (s .args .b .now) (s .args .i) (s .pre) _ (d .drop-item .ensures) _ (h .held .ensures) (t .if1 .taken) (m .is-dirty .ensures)
-    (n .count .ensures)
+    (n .count-eviction .ensures)
 
 same-length-2 : tie.Need-same-length-2
 same-length-2 c = search needs
@@ -49,7 +49,7 @@ drop-held-spec =
     held-requires
     is-dirty-requires
     drop-item-requires
-    count-requires
+    count-eviction-requires
     same-length
     returns
     same-length-2

@@ -56,8 +56,8 @@ drop-item-requires : tie.Need-drop-item-requires
 drop-item-requires c κs =
     (readable (c .before .before .before .charge .ensures), place (c .before .before .before .before .before .before .before .before .before .before .before .before .before .before))
 
-count-requires : tie.Need-count-requires
-count-requires c κs =
+count-eviction-requires : tie.Need-count-eviction-requires
+count-eviction-requires c κs =
     let s = c .before .before .before .before .before .before .before .before .before .before .before .before .before .before .before .before .before .before .before .before .before in
     countable-at (s .args .b .now) (s .args .n) (s .pre)
     (c .before .before .before .before .before .before .before .before .before .before .before .before .before .before .before .before .before .before .victim .ensures)
@@ -77,7 +77,7 @@ returns c =
           (c .before .before .before .before .before .before .drop-item .ensures) _
           (worth (c .before .before .before .before .before .before .before .before .before .before .before .before .before .before))
           (c .before .before .before .before .before .before .before .before .before .before .before .before .is-dirty .ensures)
-          (c .before .before .count .ensures),
+          (c .before .before .count-eviction .ensures),
     )
 
 pub evict-spec : {M : Type 1} → statement M
@@ -92,6 +92,6 @@ evict-spec =
     is-dirty-requires
     charge-requires
     drop-item-requires
-    count-requires
+    count-eviction-requires
     same-length
     returns)

@@ -1,8 +1,8 @@
--- `cache_room::count` meets its contract. Assumes nothing.
+-- `cache_room::count_eviction` meets its contract. Assumes nothing.
 use borrow.Author.Needs.{needs}
 use Rattle.cache_room.proofs.Bytes.{payable-at, counted-dirty, counted-clean}
-use Rattle.cache_room.proofs.count.Statement.{statement}
-use Rattle.cache_room.proofs.count.Tie as tie
+use Rattle.cache_room.proofs.count_eviction.Statement.{statement}
+use Rattle.cache_room.proofs.count_eviction.Tie as tie
 
 evictions-requires : tie.Need-evictions-requires
 evictions-requires c κs = search needs
@@ -53,8 +53,8 @@ returns-2 c =
     let s = r1 .before .before .before in
     counted-clean (s .args .b .now) _ (s .args .v) (r1 .evictions .ensures) (e .put-evictions .ensures) (c .if1 .left)
 
-pub count-spec : {M : Type 1} → statement M
-count-spec =
+pub count-eviction-spec : {M : Type 1} → statement M
+count-eviction-spec =
     tie.close
     (tie.spec
     evictions-requires
