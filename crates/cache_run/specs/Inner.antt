@@ -13,7 +13,7 @@ pub record RanCalls {C : Type 0} (kind : Kind C) (c : C) (calls : List Call) (be
   pub noted : after ≡ sets before 0 numbers
 
 -- What an opening that was not refused gives: of what it was given, that the rule can start from it, and a valid state at the start. That
--- its answer was 0 is not asked: the season theorem holds from every such state.
+-- its answer was 0 is not asked, though today it is the same: the season theorem holds from every such state.
 pub record BeginsAt {C : Type 0} (kind : Kind C) (o : Opening Catalog) (first : C) : Type 0 where
   pub fine : OpeningOk o
   pub valid : kind .Valid first

@@ -1,5 +1,5 @@
 -- What the table of refusals says to a step where the log is open: first by how many steps are taken, then by the step's own numbers, then
--- by its item, in the catalog as the steps before it have left it. The calls, the text, the log and the bound all go by it.
+-- by its item, in the catalog as the steps before it have left it. The calls and the bound go by it, the text and the log by its parts.
 -- Paper 01, 'When the library says no', and paper 02, 'Six'. Assumes nothing.
 use mathlib.Core.Bool.{Bool, cond, _&&_}
 use Prim.Native.Nat.{ℕ}

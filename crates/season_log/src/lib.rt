@@ -63,7 +63,7 @@ fn numbers_at(list: &[u8], at: usize) -> Numbers
     }
 }
 
-// The same as the heading takes them. A landing is the same under both headings; where it is asked for first, the compiler reads no other
+// The same as the heading takes them. A flush is the same under both headings; where it is asked for first, the compiler reads no other
 // number of it.
 fn step_at(heading: u32, list: &[u8], at: usize) -> Numbers
     requires { ⌜ at + 24 ≤ length (now list) ⌝ }

@@ -141,6 +141,6 @@ abbrev pub refusals : ℕ → ℕ → List Refusal
 refusals l i =
     Malformed l ∷ Heading l ∷ OutOfRange l ∷ OutOfSequence l ∷ PlanTooLarge l ∷ UnknownItem l i ∷ ItemTooLarge l i ∷ LogFull l ∷ Closed l ∷ ActOutOfOrder l ∷ NotHeld l i ∷ AlreadyHeld l i ∷ OverCapacity l ∷ RequestNotHeld l i ∷ ShortBuffer l ∷ InputTooLong l ∷ InvalidState l ∷ UnknownRule l ∷ NotNextNumber l i ∷ RetiredItem l i ∷ []
 
--- the refusal that tells so much (proofs/Refusals.antt, refusal-is); nothing has number 0
+-- the refusal that tells so much (proofs/Refusals.antt, refusal-is); a number of no row, 0 among them, would be told as 17
 unfoldable pub refusalFrom : Told → Refusal
 refusalFrom t = getD (InvalidState (t .line) ∷ refusals (t .line) (t .item)) (t .number) (InvalidState (t .line))
