@@ -74,16 +74,22 @@ old-kind heading k e = rw e (go (eqb heading 1))
     go true = refl
     go false = refl
 
--- so a landing is kept
-pub flush-kept : (heading : ℕ) (n : Numbers) → n .kind ≡ 76 → n ≡ numbersUnder heading n
-flush-kept heading n e = sym (under-same heading n (old-kind heading (n .kind) (rw e)))
-
 -- numbers in range under a heading are so as they are
 pub kept : (heading : ℕ) (n : Numbers) → rangeUnder heading n ≡ 0 → (numbersUnder heading n ≡ n) × (inRange n ≡ true)
 kept heading n r =
     let near = free-range (numbersUnder heading n) r in
     let e = under-same heading n (kind-kept heading n near) in
     (e, ap inRange (sym e) ∙ near)
+
+-- and what is out of range as it is, is so under a heading
+pub range-stays : (heading : ℕ) (n : Numbers) → rangeRefusal n ≢ 0 → rangeRefusal n ≡ rangeUnder heading n
+unfolding rangeRefusal
+range-stays heading n some = go (inRange n) (inRange (numbersUnder heading n)) refl refl
+  where
+    go : (t u : Bool) → inRange n ≡ t → inRange (numbersUnder heading n) ≡ u → _≡_ {A = ℕ} (cond (inRange n) 0 3) (cond (inRange (numbersUnder heading n)) 0 3)
+    go true u e d = absurd (some (rw e))
+    go false true e d = absurd (false≢true (sym e ∙ kept heading n (rw d) .1))
+    go false false e d = rw (e, d)
 
 -- ## The line of a step
 

@@ -9,7 +9,7 @@ ghost use Rattle.decimal.specs.InnerPages.{textOver};
 ghost use Rattle.types.specs.declared.Step.the-variants.{Write, Flush};
 ghost use Rattle.types.specs.Types.{stepOf};
 ghost use Rattle.landlord.specs.Steps.{inRange};
-ghost use Rattle.season_lines.specs.Lines.{numbersUnder};
+ghost use Rattle.season_lines.specs.Lines.{rangeUnder};
 ghost use Rattle.season_log.specs.Log.{noValues, stepText, listNumber, listNumbers, toldLine, lentUnder, lentLog, LogWritten};
 ghost use Rattle.season_log.specs.Inner.{namesText, namedText, arrivalText, valueText, stepAt, Arrives, textSize, LineFits, LinesFit, LinesOn};
 use types::Numbers;
@@ -63,17 +63,16 @@ fn numbers_at(list: &[u8], at: usize) -> Numbers
     }
 }
 
-// The same as the heading takes them. A flush is the same under both headings; where it is asked for first, the compiler reads no other
-// number of it.
-fn step_at(heading: u32, list: &[u8], at: usize) -> Numbers
-    requires { ⌜ at + 24 ≤ length (now list) ⌝ }
-    ensures { λ r. ⌜ r ≡ numbersUnder heading (listNumbers at (now (list .entry))) ⌝ }
+// What the table says to a step by its numbers, as the heading takes them. What is out of range as it is, is so under both headings;
+// where that is asked first, the compiler makes a way of its own for each kind.
+fn range_under(heading: u32, n: Numbers) -> u32
+    ensures { λ r. ⌜ r ≡ rangeUnder heading n ⌝ }
 {
-    let n = numbers_at(list, at);
-    if n.kind == types::FLUSH {
-        return n;
+    let number = landlord::range_refusal(n);
+    if number != 0 {
+        return number;
     }
-    season_lines::numbers_under(heading, n)
+    landlord::range_refusal(season_lines::numbers_under(heading, n))
 }
 
 // The line of the step at a place of a list, as far as 32 bits hold it.
@@ -151,8 +150,8 @@ fn text_size(heading: u32, list: &[u8]) -> LogAnswer
     let mut bytes = names_bytes(heading);
     let mut at = 0;
     while at < whole {
-        let step = step_at(heading, list, at);
-        let number = landlord::range_refusal(step);
+        let step = numbers_at(list, at);
+        let number = range_under(heading, step);
         if number != 0 {
             return LogAnswer::Refused(types::refusal_of(number, line_of(at), 0));
         }
