@@ -51,16 +51,16 @@ refused-answers kind c call n ok e d = record { answer = e; valid = ok; stands =
 
 -- a call that is not refused moves the rule on
 taken-answers :
-    (b left : List ℕ) (call : Call) →
+    (b next : List ℕ) (call : Call) →
     ValidBytes b →
     0 ≡ refusalNow (view (cacheOf b)) call →
-    BecomesAt (accepted (view (cacheOf b)) call) left →
-    Answers lent b call 0 left
+    BecomesAt (accepted (view (cacheOf b)) call) next →
+    Answers lent b call 0 next
 unfolding after
-taken-answers b left call ok e h =
+taken-answers b next call ok e h =
     record {
       answer = e;
-      valid = becomes-valid (subst StandingOk goes (ok-after (view (cacheOf b)) call (deduction-ok (cacheOf b .rule)) (ok .cache .rule))) h;
+      valid = becomes-valid (subst StandingOk goes (ok-after (view (cacheOf b)) call (deduction-ok (cacheOf b .rule)) (ok .cache .standing))) h;
       stands = h .cache .stands ∙ sym goes;
       refused = λ z. absurd (z refl);
     }
@@ -69,12 +69,12 @@ taken-answers b left call ok e h =
     goes = rw (sym e)
 
 pub step-answers :
-    (b left : List ℕ) (n : Numbers) →
+    (b next : List ℕ) (n : Numbers) →
     ValidBytes b →
     0 ≡ refusalNow (view (cacheOf b)) (stepCall n) →
-    BecomesAt (took (view (cacheOf b)) (stepOf n)) left →
-    Answers lent b (stepCall n) 0 left
-step-answers b left n ok e h = taken-answers b left (stepCall n) ok e h
+    BecomesAt (took (view (cacheOf b)) (stepOf n)) next →
+    Answers lent b (stepCall n) 0 next
+step-answers b next n ok e h = taken-answers b next (stepCall n) ok e h
 
 -- the closing: closed already, or open
 pub closed-answers : (b : List ℕ) → ValidBytes b → cacheOf b .closed ≡ true → Answers lent b close 9 b
@@ -97,11 +97,11 @@ closed-becomes c q h = record { stands = ended ∙ ap shut (h .stands) ∙ same;
     ended = unfold catalogOf slotsOf usesOf in refl
 
 pub closing-answers :
-    (b flushed left : List ℕ) →
+    (b flushed next : List ℕ) →
     ValidBytes b →
     cacheOf b .closed ≡ false →
     BecomesAt (moved (view (cacheOf b)) (flush (stateOf (cacheOf b))) (cacheOf b .closed)) flushed →
-    Stands left (withClosed (cacheOf flushed) true) →
-    Answers lent b close 0 left
-closing-answers b flushed left ok e h s =
-    taken-answers b left close ok (unfold refusalAt in rw e) (stands-become s (closed-becomes (cacheOf b) (cacheOf flushed) (h .cache)))
+    Stands next (withClosed (cacheOf flushed) true) →
+    Answers lent b close 0 next
+closing-answers b flushed next ok e h s =
+    taken-answers b next close ok (unfold refusalAt in rw e) (stands-become s (closed-becomes (cacheOf b) (cacheOf flushed) (h .cache)))

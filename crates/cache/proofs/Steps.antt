@@ -135,7 +135,7 @@ module _ (c : Cache) (n : Numbers) (free : answer c n ≡ 0) where
 
       free-ready : CanServe (moved (view c) made (c .closed)) (n .item)
       free-ready =
-          room-ready (splitOf (c .rule)) (view c) (n .item) (deduction-ok (c .rule)) (record { standing = ok .rule; few = free-ranged .few; isOpen = free-ranged .isOpen }) below small free-stays
+          room-ready (splitOf (c .rule)) (view c) (n .item) (deduction-ok (c .rule)) (record { standing = ok .standing; few = free-ranged .few; isOpen = free-ranged .isOpen }) below small free-stays
 
       module _ (room : Cache) (at : view room ≡ moved (view c) made (c .closed)) where
         together : (b : State → Moved) → moved (view room) (b (stateOf room)) (room .closed) ≡ moved (view c) (joined made (b (made .state))) (c .closed)
@@ -157,8 +157,8 @@ module _ (c : Cache) (n : Numbers) (free : answer c n ≡ 0) where
 
 -- the same of the bytes of a state
 module _ (b : List ℕ) (n : Numbers) (p : TablePasses b n) where
-  so : {u v : Standing} {left : List ℕ} → u ≡ v → BecomesAt u left → BecomesAt v left
-  so {left = left} e h = subst (λ (z : Standing). BecomesAt z left) e h
+  so : {u v : Standing} {after : List ℕ} → u ≡ v → BecomesAt u after → BecomesAt v after
+  so {after = after} e h = subst (λ (z : Standing). BecomesAt z after) e h
 
   few : cacheOf b .steps < 1000000
   few = free-ranged (cacheOf b) n (p .free) .few
@@ -167,11 +167,11 @@ module _ (b : List ℕ) (n : Numbers) (p : TablePasses b n) where
   passed-steps = record { valid = p .valid; room = few }
 
   pub passed-flush :
-      (left : List ℕ) →
+      (after : List ℕ) →
       n .kind ≡ 76 →
-      BecomesAt (took (view (cacheOf b)) Flush) left →
-      BecomesAt (took (view (cacheOf b)) (stepOf n)) left
-  passed-flush left e h = so (free-flush (cacheOf b) n (p .free) e) h
+      BecomesAt (took (view (cacheOf b)) Flush) after →
+      BecomesAt (took (view (cacheOf b)) (stepOf n)) after
+  passed-flush after e h = so (free-flush (cacheOf b) n (p .free) e) h
 
   pub passed-values : n .kind ≡ 65 → ItemFacts (listed (n .blocks) (n .load) (n .write))
   passed-values = free-values (cacheOf b) n (p .free)
@@ -180,11 +180,11 @@ module _ (b : List ℕ) (n : Numbers) (p : TablePasses b n) where
   passed-arrives e = record { valid = p .valid; room = few; few = free-place (cacheOf b) n (p .free) e }
 
   pub passed-arrived :
-      (left : List ℕ) →
+      (after : List ℕ) →
       n .kind ≡ 65 →
-      BecomesAt (took (view (cacheOf b)) (Arrive (cacheOf b .n) (n .blocks) (n .load) (n .write))) left →
-      BecomesAt (took (view (cacheOf b)) (stepOf n)) left
-  passed-arrived left e h = so (free-arrive (cacheOf b) n (p .free) e) h
+      BecomesAt (took (view (cacheOf b)) (Arrive (cacheOf b .n) (n .blocks) (n .load) (n .write))) after →
+      BecomesAt (took (view (cacheOf b)) (stepOf n)) after
+  passed-arrived after e h = so (free-arrive (cacheOf b) n (p .free) e) h
 
   module _ (f : n .kind ≢ 76) (a : n .kind ≢ 65) where
     pub passed-place : n .item < 256
@@ -194,11 +194,11 @@ module _ (b : List ℕ) (n : Numbers) (p : TablePasses b n) where
     passed-leaves = record { valid = p .valid; item = free-known (cacheOf b) n (p .free) f a; room = few }
 
     pub passed-left :
-        (left : List ℕ) →
+        (after : List ℕ) →
         n .kind ≡ 81 →
-        BecomesAt (took (view (cacheOf b)) (Retire (n .item))) left →
-        BecomesAt (took (view (cacheOf b)) (stepOf n)) left
-    passed-left left e h = so (free-retire (cacheOf b) n (p .free) e) h
+        BecomesAt (took (view (cacheOf b)) (Retire (n .item))) after →
+        BecomesAt (took (view (cacheOf b)) (stepOf n)) after
+    passed-left after e h = so (free-retire (cacheOf b) n (p .free) e) h
 
     module _ (q : n .kind ≢ 81) where
       pub passed-minutes : n .kind ≢ 82 → n .minutes ≤ 1440
@@ -219,15 +219,15 @@ module _ (b : List ℕ) (n : Numbers) (p : TablePasses b n) where
             }
 
         pub read-took :
-            (left : List ℕ) →
+            (after : List ℕ) →
             n .kind ≡ 82 →
-            BecomesAt (moved (view (cacheOf room)) (serveRead (n .item) (stateOf (cacheOf room))) (cacheOf room .closed)) left →
-            BecomesAt (took (view (cacheOf b)) (stepOf n)) left
-        read-took left e h = so (read-taken (cacheOf b) n (p .free) f a q (p .valid .cache) (cacheOf room) (at .cache .stands) e) h
+            BecomesAt (moved (view (cacheOf room)) (serveRead (n .item) (stateOf (cacheOf room))) (cacheOf room .closed)) after →
+            BecomesAt (took (view (cacheOf b)) (stepOf n)) after
+        read-took after e h = so (read-taken (cacheOf b) n (p .free) f a q (p .valid .cache) (cacheOf room) (at .cache .stands) e) h
 
         pub write-took :
-            (left : List ℕ) →
+            (after : List ℕ) →
             n .kind ≢ 82 →
-            BecomesAt (moved (view (cacheOf room)) (serveWrite (n .item) (n .minutes) (stateOf (cacheOf room))) (cacheOf room .closed)) left →
-            BecomesAt (took (view (cacheOf b)) (stepOf n)) left
-        write-took left r h = so (write-taken (cacheOf b) n (p .free) f a q (p .valid .cache) (cacheOf room) (at .cache .stands) r) h
+            BecomesAt (moved (view (cacheOf room)) (serveWrite (n .item) (n .minutes) (stateOf (cacheOf room))) (cacheOf room .closed)) after →
+            BecomesAt (took (view (cacheOf b)) (stepOf n)) after
+        write-took after r h = so (write-taken (cacheOf b) n (p .free) f a q (p .valid .cache) (cacheOf room) (at .cache .stands) r) h

@@ -100,7 +100,7 @@ module _ (b : List ℕ) (i : ℕ) (p : ServableAt b i) where
   -- and then its mark set
   module _ (b1 : List ℕ) (s1 : BecomesAt (moved (view (cacheOf b)) (dropItem i (stateOf (cacheOf b))) (cacheOf b .closed)) b1) where
     pub dropped-valid : ValidBytes b1
-    dropped-valid = becomes-valid (ok-drop (view (cacheOf b)) i (p .valid .cache .rule) (omega (arith, p .item, size-is (cacheOf b)))) s1
+    dropped-valid = becomes-valid (ok-drop (view (cacheOf b)) i (p .valid .cache .standing) (omega (arith, p .item, size-is (cacheOf b)))) s1
 
     pub retire-at : (after : List ℕ) → LeftAt b1 i after → BecomesAt (took (view (cacheOf b)) (Retire i)) after
     retire-at after s2 =

@@ -11,9 +11,9 @@ use lib.Dec.{eqb}
 use lib.ListN.{take, drop, getD}
 use lib.Seq.{drop-drop, getD-drop}
 use borrow.Author.Tests.{eq-eqb, eqb-true, not-false}
-use Rattle.fields.specs.LittleEndian.{un, unrun}
+use Rattle.fields.specs.LittleEndian.{fromBytes, runFromBytes}
 use Rattle.basis.specs.InnerDecided.{Decided}
-use Rattle.layout.proofs.Places.{unrun-at, flag-at}
+use Rattle.layout.proofs.Places.{run-from-at, flag-at}
 use Rattle.cache_check.specs.Inner.{Zeros, BlankRun, BlankFlags}
 
 -- ---- the loop: `all` is 0 exactly if every byte passed is
@@ -59,25 +59,25 @@ passed-all b from to i all e p =
 
 -- ---- numbers of bytes 0
 
-un-zero : (w : ℕ) (bs : List ℕ) → ((j : ℕ) → j < w → getD bs j 0 ≡ 0) → un (take w bs) ≡ 0
-unfolding un
-un-zero zero bs h = refl
-un-zero (suc w) [] h = refl
-un-zero (suc w) (x ∷ bs) h = omega (arith, h 0 (omega arith), un-zero w bs (λ j l. h (suc j) (omega arith)))
+from-zero : (w : ℕ) (bs : List ℕ) → ((j : ℕ) → j < w → getD bs j 0 ≡ 0) → fromBytes (take w bs) ≡ 0
+unfolding fromBytes
+from-zero zero bs h = refl
+from-zero (suc w) [] h = refl
+from-zero (suc w) (x ∷ bs) h = omega (arith, h 0 (omega arith), from-zero w bs (λ j l. h (suc j) (omega arith)))
 
-zero-un : (w : ℕ) (bs : List ℕ) → un (take w bs) ≡ 0 → (j : ℕ) → j < w → getD bs j 0 ≡ 0
-unfolding un
-zero-un zero bs e j l = absurd (omega arith)
-zero-un (suc w) [] e j l = refl
-zero-un (suc w) (x ∷ bs) e zero l = omega arith
-zero-un (suc w) (x ∷ bs) e (suc j) l = zero-un w bs (omega arith) j (omega arith)
+zero-from : (w : ℕ) (bs : List ℕ) → fromBytes (take w bs) ≡ 0 → (j : ℕ) → j < w → getD bs j 0 ≡ 0
+unfolding fromBytes
+zero-from zero bs e j l = absurd (omega arith)
+zero-from (suc w) [] e j l = refl
+zero-from (suc w) (x ∷ bs) e zero l = omega arith
+zero-from (suc w) (x ∷ bs) e (suc j) l = zero-from w bs (omega arith) j (omega arith)
 
 run-zero : (b : List ℕ) (at w n : ℕ) → Zeros b (at + n * w) (at + 256 * w) → BlankRun b at w n
 run-zero b at w n z =
     record {
       each = λ i l m.
-          unrun-at w 256 (drop at b) i m
-          ∙ un-zero w (drop (i * w) (drop at b))
+          run-from-at w 256 (drop at b) i m
+          ∙ from-zero w (drop (i * w) (drop at b))
           (λ j s.
           getD-drop (i * w) (drop at b) j 0
           ∙ getD-drop at b (i * w + j) 0
@@ -85,13 +85,13 @@ run-zero b at w n z =
     }
 
 -- the bytes of m numbers that are all 0
-zeros-go : (w m : ℕ) (bs : List ℕ) → ((i : ℕ) → i < m → getD (unrun w m bs) i 0 ≡ 0) → (j : ℕ) → j < m * w → getD bs j 0 ≡ 0
-unfolding unrun
+zeros-go : (w m : ℕ) (bs : List ℕ) → ((i : ℕ) → i < m → getD (runFromBytes w m bs) i 0 ≡ 0) → (j : ℕ) → j < m * w → getD bs j 0 ≡ 0
+unfolding runFromBytes
 zeros-go w zero bs h j l = absurd (omega arith)
 zeros-go w (suc m) bs h j l = go (decLt j w) (λ k. zeros-go w m (drop w bs) (λ i s. h (suc i) (omega arith)) (j - w) (omega arith))
   where
     go : Dec (j < w) → (w ≤ j → getD (drop w bs) (j - w) 0 ≡ 0) → getD bs j 0 ≡ 0
-    go (yes k) rest = zero-un w bs (h 0 (omega arith)) j k
+    go (yes k) rest = zero-from w bs (h 0 (omega arith)) j k
     go (no k) rest =
         let e : w + (j - w) ≡ j = omega arith in
         ap (λ (x : ℕ). getD bs x 0) (sym e) ∙ sym (getD-drop w bs (j - w) 0) ∙ rest (omega arith)
@@ -107,12 +107,12 @@ zero-run b at w n few r =
           ∙ zeros-go w (256 - n) (drop (at + n * w) b) same (j - (at + n * w)) (omega arith);
     }
   where
-    same : (i : ℕ) → i < 256 - n → getD (unrun w (256 - n) (drop (at + n * w) b)) i 0 ≡ 0
+    same : (i : ℕ) → i < 256 - n → getD (runFromBytes w (256 - n) (drop (at + n * w) b)) i 0 ≡ 0
     same i l =
         let e : at + n * w + i * w ≡ at + (n + i) * w = omega arith in
-        unrun-at w (256 - n) (drop (at + n * w) b) i l
-        ∙ ap (λ (x : List ℕ). un (take w x)) (drop-drop (i * w) (at + n * w) b ∙ ap (λ (x : ℕ). drop x b) e ∙ sym (drop-drop ((n + i) * w) at b))
-        ∙ sym (unrun-at w 256 (drop at b) (n + i) (omega arith))
+        run-from-at w (256 - n) (drop (at + n * w) b) i l
+        ∙ ap (λ (x : List ℕ). fromBytes (take w x)) (drop-drop (i * w) (at + n * w) b ∙ ap (λ (x : ℕ). drop x b) e ∙ sym (drop-drop ((n + i) * w) at b))
+        ∙ sym (run-from-at w 256 (drop at b) (n + i) (omega arith))
         ∙ r .each (n + i) (omega arith) (omega arith)
 
 pub decided-run : (b : List ℕ) (at w n : ℕ) {r : Bool} → n ≤ 256 → Decided (Zeros b (at + n * w) (at + 256 * w)) r → Decided (BlankRun b at w n) r

@@ -2,7 +2,7 @@
 use mathlib.Core.{Path._≡_, Bool.false, List.List}
 use Prim.Native.Nat.{ℕ, _+_, _*_, _≤_, _<_}
 use lib.ListN.{length, drop, getD}
-use Rattle.fields.specs.LittleEndian.{unflags}
+use Rattle.fields.specs.LittleEndian.{flagsFromBytes}
 use Rattle.marks.specs.Marks.{marked}
 use Rattle.layout.specs.Layout.{stateBytes, cacheOf, numbersAt}
 
@@ -16,7 +16,7 @@ pub record BlankRun (b : List ℕ) (at w n : ℕ) : Type 0 where
 
 -- of the 256 flags at a place, those from n on are not set
 pub record BlankFlags (b : List ℕ) (at n : ℕ) : Type 0 where
-  pub each : (i : ℕ) → n ≤ i → i < 256 → getD (unflags 256 (drop at b)) i false ≡ false
+  pub each : (i : ℕ) → n ≤ i → i < 256 → getD (flagsFromBytes 256 (drop at b)) i false ≡ false
 
 -- of 256 marks in four words, those from n on are not set
 pub record BlankMarks (ws : List ℕ) (n : ℕ) : Type 0 where

@@ -128,15 +128,15 @@ unfolding storeTo
 entered-none xs s = s
 
 pub entered-more :
-    {b one two left : List ℕ} (c : Cache) (xs : List ℕ) (i : ℕ) {x y z : ℕ} →
+    {b one two after : List ℕ} (c : Cache) (xs : List ℕ) (i : ℕ) {x y z : ℕ} →
     Stands b (enteredOf c xs i) →
     x ≡ itemIn xs i .blocks →
     y ≡ itemIn xs i .load →
     z ≡ itemIn xs i .write →
     Stands one (withBlocks (cacheOf b) i x) →
     Stands two (withItemLoadCost (cacheOf one) i y) →
-    Stands left (withItemWriteCost (cacheOf two) i z) →
-    Stands left (enteredOf c xs (i + 1))
+    Stands after (withItemWriteCost (cacheOf two) i z) →
+    Stands after (enteredOf c xs (i + 1))
 entered-more c xs i s ex ey ez p q r =
     stands-as
     (stands-on (λ d v. withItemWriteCost d i v) r (stands-on (λ d v. withItemLoadCost d i v) q (stands-on (λ d v. withBlocks d i v) p s)))
@@ -169,7 +169,7 @@ pub opening-refused : (b : List ℕ) (o : Opening (List ℕ)) (n : ℕ) → n �
 opening-refused b o n e d = record { answer = e; valid = λ z. absurd (d z); stands = λ z. absurd (d z); empty = λ z. absurd (d z); refused = λ z. refl }
 
 pub opening-done :
-    (b : List ℕ) (o : Opening (List ℕ)) (n : ℕ) {r : Deduction} {one two three four left : List ℕ} →
+    (b : List ℕ) (o : Opening (List ℕ)) (n : ℕ) {r : Deduction} {one two three four after : List ℕ} →
     n ≡ openingNumber (length b) o →
     n ≡ 0 →
     Stands one cleared →
@@ -177,14 +177,14 @@ pub opening-done :
     Stands three (withCount (cacheOf two) (length (o .catalog) / 5)) →
     r ≡ deductionOf (o .rule) →
     Stands four (withRule (cacheOf three) r) →
-    Stands left (enteredOf (cacheOf four) (o .catalog) (length (o .catalog) / 5)) →
-    OpenedLent b o 0 left
-opening-done b o n {left = left} e z p q u is t s =
+    Stands after (enteredOf (cacheOf four) (o .catalog) (length (o .catalog) / 5)) →
+    OpenedLent b o 0 after
+opening-done b o n {after = after} e z p q u is t s =
     let k = o .k in
     let xs = o .catalog in
     let rule = o .rule in
     let ranges = right e z in
-    let so : Stands left (openedOf k (deductionOf rule) xs) =
+    let so : Stands after (openedOf k (deductionOf rule) xs) =
     stands-as (stands-on (λ d v. enteredOf d xs v) s (stands-on withRule t (stands-on withCount u (stands-on withCapacity q p)))) (ap (λ (d : Deduction). openedOf k d xs) is)
     in
     let stood = stands-become so (opened-becomes k (deductionOf rule) xs (omega (arith, ranges .lengths .few))) in

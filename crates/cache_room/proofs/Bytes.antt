@@ -124,13 +124,13 @@ pub dropped-at :
     marks ws ≡ set (marks ds) v false →
     Stands after (withDirty (cacheOf b3) ws) →
     DroppedAt b v after
-dropped-at b b1 b2 b3 after v ds ws e s1 s2 s3 un s4 =
+dropped-at b b1 b2 b3 after v ds ws e s1 s2 s3 fromBytes s4 =
     record {
       reads = readable s4;
       cache =
           record {
             fields = all ∙ ap (droppedOf (cacheOf b) v) (sym (ap (λ (q : Cache). q .dirty) all));
-            unmarked = ap (λ (q : Cache). marks (q .dirty)) all ∙ un ∙ ap (λ (d : List ℕ). set (marks d) v false) e;
+            unmarked = ap (λ (q : Cache). marks (q .dirty)) all ∙ fromBytes ∙ ap (λ (d : List ℕ). set (marks d) v false) e;
           };
     }
   where
@@ -201,7 +201,7 @@ module _ (b : List ℕ) (n : ℕ) {v : ℕ} (p : CrowdedAt b n) (is : v ≡ vict
       let k : i < size (stateOf q) = omega (arith, size-is q) in
       let low : Least (stateOf q) (victim (stateOf q)) = victim-least (stateOf q) (p .some) in
       rw (← rank-is q (ok .fields) v known, ← load-is q (ok .fields) i m, ← write-is q (ok .fields) i m, ← blocks-is q i m, is)
-      (bears-rank (q .k) (stateOf q) (victim (stateOf q)) i (ok .rule .kept) k (least-rank low i k (held-is q i m ∙ h)))
+      (bears-rank (q .k) (stateOf q) (victim (stateOf q)) i (ok .standing .kept) k (least-rank low i k (held-is q i m ∙ h)))
 
   pub chargeable : {m : ℕ} → m ≡ rankOf (cacheOf b) v → ChargeableAt b n m
   chargeable e =

@@ -25,7 +25,7 @@ use Rattle.cache_room.proofs.Stores.{EvictionSizes, charged-slot, charg
 -- The three together: item v, which has rank m, is evicted; d says whether it was dirty, and ws are the marks without it.
 module _
     (c : Cache) (v m : ℕ) (ws : List ℕ) (d : Bool) (sizes : EvictionSizes c) (ok : Normal c) (l : v < c .n) (is : m ≡ rank (stateOf c) v)
-    (un : marks ws ≡ set (marks (c .dirty)) v false) (was : d ≡ dirtyAt c v) where
+    (fromBytes : marks ws ≡ set (marks (c .dirty)) v false) (was : d ≡ dirtyAt c v) where
   abbrev left : Cache
   left = droppedOf (chargedOf c m (c .n)) v ws
 
@@ -36,7 +36,7 @@ module _
 
   slot-after : (i : ℕ) → i < c .n → slotOf left i ≡ slotAfter i
   slot-after i b =
-      dropped-slot (chargedOf c m (c .n)) v ws (charged-sizes c m sizes ok) (charged-normal c m sizes ok) l un i b
+      dropped-slot (chargedOf c m (c .n)) v ws (charged-sizes c m sizes ok) (charged-normal c m sizes ok) l fromBytes i b
       ∙ ap (λ (s : Slot). cond (eqb i v) absent s)
       (charged-slot c m sizes ok i b
       ∙ (λ z. lose (splitOf (c .rule)) (sym (blocks-is c i b) z) (sym (blocks-is c i b) z * is z) (sym (slot-is c i b) z)))
@@ -51,10 +51,10 @@ module _
       }
 
   left-normal : Normal left
-  left-normal = dropped-normal (chargedOf c m (c .n)) v ws (charged-sizes c m sizes ok) (charged-normal c m sizes ok) l un
+  left-normal = dropped-normal (chargedOf c m (c .n)) v ws (charged-sizes c m sizes ok) (charged-normal c m sizes ok) l fromBytes
 
   left-sizes : EvictionSizes left
-  left-sizes = dropped-sizes (chargedOf c m (c .n)) v ws (charged-sizes c m sizes ok) (charged-normal c m sizes ok) l un
+  left-sizes = dropped-sizes (chargedOf c m (c .n)) v ws (charged-sizes c m sizes ok) (charged-normal c m sizes ok) l fromBytes
 
   view-after :
       view (countedOf left v d)
@@ -86,31 +86,31 @@ pub can-count :
     Countable q v
 can-count c q {v} ok l e own =
     record {
-      evictions = omega (arith, ap (λ (t : Totals). t .evictions) e, ok .rule .steps, ok .rule .taken, ok .rule .evictions);
+      evictions = omega (arith, ap (λ (t : Totals). t .evictions) e, ok .standing .steps, ok .standing .taken, ok .standing .evictions);
       dirtyEvictions =
           omega (
             arith,
             ap (λ (t : Totals). t .dirtyEvictions) e,
-            ok .rule .steps,
-            ok .rule .taken,
-            ok .rule .evictions,
-            ok .rule .dirtyEvictions,
+            ok .standing .steps,
+            ok .standing .taken,
+            ok .standing .evictions,
+            ok .standing .dirtyEvictions,
           );
       writeback =
           record {
             place = omega (arith, ok .fields .few);
-            total = omega (arith, ap (λ (t : Totals). t .writebacks) e, ok .rule .taken, ok .rule .writebacks);
+            total = omega (arith, ap (λ (t : Totals). t .writebacks) e, ok .standing .taken, ok .standing .writebacks);
             own =
                 let b : v < size (stateOf c) = rw size-is l in
                 omega (
                   arith,
                   ap (λ (ws : List ℕ). getD ws v 0) own,
-                  ok .rule .taken,
-                  ok .rule .writebacks,
-                  line-writebacks (view c) v (ok .rule) b,
+                  ok .standing .taken,
+                  ok .standing .writebacks,
+                  line-writebacks (view c) v (ok .standing) b,
                   ap (λ (u : Use). u .writebacks) (use-is c v l),
                 );
-            cost = omega (arith, ap (λ (t : Totals). t .writeCost) e, ok .rule .taken, ok .rule .writebacks, ok .rule .writeCost);
+            cost = omega (arith, ap (λ (t : Totals). t .writeCost) e, ok .standing .taken, ok .standing .writebacks, ok .standing .writeCost);
           };
     }
 
@@ -134,13 +134,13 @@ evict-becomes c {v} {m} ch e {d} r sizes ok some least is was so counts =
     (sym (counts ∙ ap (λ (q : Cache). countedOf q v d) (leaving c ch e so)))
     (record {
       stands =
-          view-after c v m (e .dirty) d sizes ok l worth un was
+          view-after c v m (e .dirty) d sizes ok l worth fromBytes was
           ∙ ap (λ (u : ℕ).
           moved (view c) (record { state = evictItem (splitOf (c .rule)) u (stateOf c); events = evicted u (isDirty (slotAt (stateOf c) u)) ∷ [] }) (c .closed))
           least;
       fields =
-          counted-normal (droppedOf (chargedOf c m (c .n)) v (e .dirty)) v (left-sizes c v m (e .dirty) d sizes ok l worth un was)
-          (left-normal c v m (e .dirty) d sizes ok l worth un was) l d;
+          counted-normal (droppedOf (chargedOf c m (c .n)) v (e .dirty)) v (left-sizes c v m (e .dirty) d sizes ok l worth fromBytes was)
+          (left-normal c v m (e .dirty) d sizes ok l worth fromBytes was) l d;
     })
   where
     l : v < c .n
@@ -149,5 +149,5 @@ evict-becomes c {v} {m} ch e {d} r sizes ok some least is was so counts =
     worth : m ≡ rank (stateOf c) v
     worth = is ∙ sym (rank-is c ok v l)
 
-    un : marks (e .dirty) ≡ set (marks (c .dirty)) v false
-    un = so .drop .unmarked ∙ ap (λ (q : Cache). set (marks (q .dirty)) v false) (so .charge)
+    fromBytes : marks (e .dirty) ≡ set (marks (c .dirty)) v false
+    fromBytes = so .drop .unmarked ∙ ap (λ (q : Cache). set (marks (q .dirty)) v false) (so .charge)

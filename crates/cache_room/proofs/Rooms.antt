@@ -90,7 +90,7 @@ going-on {k} {blocks} q₀ q r {u} {f} so fits l is out =
             valid =
                 record {
                   fields = out .fields;
-                  rule = subst StandingOk (sym (out .stands)) (ok-evict (splitOf (q .rule)) (view q) (deduction-ok (q .rule)) (so .valid .rule) low);
+                  standing = subst StandingOk (sym (out .stands)) (ok-evict (splitOf (q .rule)) (view q) (deduction-ok (q .rule)) (so .valid .standing) low);
                 };
             count = same-count ∙ so .count;
             taken = omega (arith, freed);

@@ -57,8 +57,8 @@ rank-past c =
 pub ranked : (c : Cache) → Valid c → (i : ℕ) → i < c .n → Ranked (getD (c .loadcredit) i 0) (getD (c .writecredit) i 0) (getD (c .blocks) i 0)
 ranked c ok i l =
     let b : i < size (stateOf c) = rw size-is l in
-    let it : ItemFacts (itemAt (stateOf c .catalog) i) = catalog-facts (stateOf c .catalog) (ok .rule .kept .catalog) .each i b in
-    let s : SlotKept (itemAt (stateOf c .catalog) i) (slotAt (stateOf c) i) = ok .rule .kept .slot i b in
+    let it : ItemFacts (itemAt (stateOf c .catalog) i) = catalog-facts (stateOf c .catalog) (ok .standing .kept .catalog) .each i b in
+    let s : SlotKept (itemAt (stateOf c .catalog) i) (slotAt (stateOf c) i) = ok .standing .kept .slot i b in
     record {
       some = omega (arith, blocks-is c i l);
       load = omega (arith, load-is c (ok .fields) i l);

@@ -19,11 +19,11 @@ use Rattle.cache_run.specs.Inner.{RanCalls}
 use Rattle.cache_run.proofs.Season.{season-lent}
 
 -- a call of numbers
-pub call-takes : (b left : List ℕ) (which n : ℕ) (step : Numbers) → which ≡ 0 → Answers lent b (stepCall step) n left → Answers lent b (callFrom which step) n left
-call-takes b left which n step e h = rw (eq-eqb which 0 e) h
+pub call-takes : (b after : List ℕ) (which n : ℕ) (step : Numbers) → which ≡ 0 → Answers lent b (stepCall step) n after → Answers lent b (callFrom which step) n after
+call-takes b after which n step e h = rw (eq-eqb which 0 e) h
 
-pub call-closes : (b left : List ℕ) (which n : ℕ) (step : Numbers) → which ≢ 0 → Answers lent b close n left → Answers lent b (callFrom which step) n left
-call-closes b left which n step e h = rw (ne-eqb which 0 e) h
+pub call-closes : (b after : List ℕ) (which n : ℕ) (step : Numbers) → which ≢ 0 → Answers lent b close n after → Answers lent b (callFrom which step) n after
+call-closes b after which n step e h = rw (ne-eqb which 0 e) h
 
 -- storing a run of values and one more
 sets-more : (l vs : List ℕ) (at v : ℕ) → sets l at (vs ++ (v ∷ [])) ≡ set (sets l at vs) (at + length vs) v
@@ -59,11 +59,11 @@ going-on {C = C} kind c q r calls before out after i call number l e h noted g =
       noted = noted ∙ ap (λ (z : List ℕ). set z i number) (g .noted) ∙ ap (λ (n : ℕ). set (sets before 0 (g .numbers)) n number) (let z : i ≡ 0 + length (g .numbers) = omega (arith, g .count) in z) ∙ sym (sets-more before (g .numbers) 0 number);
     }
   where
-    left : drop i calls ≡ call ∷ drop (i + 1) calls
-    left = drop-cons calls i close l ∙ (λ z. e z ∷ drop (sym (add-one i) z) calls)
+    ahead : drop i calls ≡ call ∷ drop (i + 1) calls
+    ahead = drop-cons calls i close l ∙ (λ z. e z ∷ drop (sym (add-one i) z) calls)
 
     steps : (rest : List ℕ) (d : C) → Follows kind r (drop (i + 1) calls) rest d → Follows kind q (drop i calls) (number ∷ rest) d
-    steps rest d f = subst (λ (z : List Call). Follows kind q z (number ∷ rest) d) (sym left) (then (answers-called kind q r call number (g .valid) h) f)
+    steps rest d f = subst (λ (z : List Call). Follows kind q z (number ∷ rest) d) (sym ahead) (then (answers-called kind q r call number (g .valid) h) f)
 
 pub going-ends : {C : Type 0} (kind : Kind C) (c q : C) (calls : List Call) (before out : List ℕ) (i : ℕ) → length calls ≤ i → CallsGoing kind c calls before i q out → RanCalls kind c calls before out q
 going-ends kind c q calls before out i l g =
@@ -74,23 +74,23 @@ going-ends kind c q calls before out i l g =
     }
 
 -- the whole list: a refused opening, and an accepted one, of which the season theorem holds
-pub run-refused : (b : List ℕ) (o : Opening (List ℕ)) (calls : List Call) (before left : List ℕ) (n : ℕ) → OpenedLent b o n left → n ≢ 0 → RanLent b o calls before before n left
-run-refused b o calls before left n h e =
+pub run-refused : (b : List ℕ) (o : Opening (List ℕ)) (calls : List Call) (before last : List ℕ) (n : ℕ) → OpenedLent b o n last → n ≢ 0 → RanLent b o calls before before n last
+run-refused b o calls before last n h e =
     record { answer = h .answer; refused = λ z. (h .refused z, refl); numbers = []; season = λ z. absurd (e z) }
 
 pub run-taken :
-    (b first : List ℕ) (o : Opening (List ℕ)) (calls : List Call) (before after left : List ℕ) (n : ℕ) →
+    (b first : List ℕ) (o : Opening (List ℕ)) (calls : List Call) (before after last : List ℕ) (n : ℕ) →
     OpenedLent b o n first →
     n ≡ 0 →
-    RanCalls lent first calls before after left →
-    RanLent b o calls before after 0 left
-run-taken b first o calls before after left n h e ran =
+    RanCalls lent first calls before after last →
+    RanLent b o calls before after 0 last
+run-taken b first o calls before after last n h e ran =
     record {
       answer = sym e ∙ h .answer;
       refused = λ z. absurd (z refl);
       numbers = ran .numbers;
       season = λ z. (
-        season-lent o calls (ran .numbers) left (record { before = b; first = first; opening = subst (λ (m : ℕ). OpenedLent b o m first) e h; follows = ran .follows }),
+        season-lent o calls (ran .numbers) last (record { before = b; first = first; opening = subst (λ (m : ℕ). OpenedLent b o m first) e h; follows = ran .follows }),
         ran .noted,
       );
     }

@@ -32,7 +32,7 @@ module _ (c : Cache) (ok : Valid c) (i : ℕ) (l : i < c .n) where
       omega (
         arith,
         term-le (size (stateOf c)) i (λ j. useAt (figuresOf c) j .loads) inside,
-        ok .rule .loadsAdd,
+        ok .standing .loadsAdd,
         ap (λ (u : Use). u .loads) (use-is c i l),
       )
 
@@ -41,15 +41,15 @@ module _ (c : Cache) (ok : Valid c) (i : ℕ) (l : i < c .n) where
       omega (
         arith,
         term-le (size (stateOf c)) i (λ j. useAt (figuresOf c) j .writebacks) inside,
-        ok .rule .writebacksAdd,
+        ok .standing .writebacksAdd,
         ap (λ (u : Use). u .writebacks) (use-is c i l),
       )
 
   pub item-minutes : getD (c .minutes) i 0 ≤ 1440 * c .steps
-  item-minutes = omega (arith, ok .rule .minutes i inside, ap (λ (u : Use). u .minutes) (use-is c i l))
+  item-minutes = omega (arith, ok .standing .minutes i inside, ap (λ (u : Use). u .minutes) (use-is c i l))
 
   pub item-ok : ItemFacts (itemOf c i)
-  item-ok = rw (item-is c i l) at (catalog-facts (catalogOf c) (ok .rule .kept .catalog) .each i inside)
+  item-ok = rw (item-is c i l) at (catalog-facts (catalogOf c) (ok .standing .kept .catalog) .each i inside)
 
   pub write-small : getD (c .write) i 0 ≤ 65535
   write-small = item-ok .write

@@ -125,9 +125,9 @@ flush-starts c ok =
       normal = ok .fields;
       within = omega arith;
       done = λ j l. absurd (let z : j < 0 = l in omega arith);
-      total = omega (arith, ok .rule .writebacks, ok .rule .taken);
-      own = λ j l. omega (arith, item-writebacks c ok j l, ok .rule .writebacks, ok .rule .taken);
-      cost = omega (arith, ok .rule .writeCost, ok .rule .writebacks, ok .rule .taken);
+      total = omega (arith, ok .standing .writebacks, ok .standing .taken);
+      own = λ j l. omega (arith, item-writebacks c ok j l, ok .standing .writebacks, ok .standing .taken);
+      cost = omega (arith, ok .standing .writeCost, ok .standing .writebacks, ok .standing .taken);
       small = λ j l. write-small c ok j l;
       goal = refl;
     }
@@ -209,10 +209,10 @@ pub flushed-valid : (c : Cache) → Steppable c → Valid (stepCounted c Flushes
 unfolding catalogOf slotsOf usesOf
 flushed-valid c ok =
     let n : Normal c = ok .valid .fields in
-    let v : StandingOk (view c) = ok .valid .rule in
+    let v : StandingOk (view c) = ok .valid .standing in
     record {
       fields = figures-normal c (c .itemwritebacks) (countsOf (stepCounted c Flushes)) (c .closed) n (λ i l m. n .past i l m .place .writebacks);
-      rule =
+      standing =
           record {
             capacity = v .capacity;
             kept = v .kept;

@@ -179,7 +179,7 @@ sum-writebacks c =
     ∙ sum-eq (c .n) _ _ (λ i l. ap (λ (u : Use). u .writebacks) (use-is c i l))
 
 pub valid-of : (c : Cache) → Costs c → Parts c → Valid c
-valid-of c w p = record { fields = v; rule = rule }
+valid-of c w p = record { fields = v; standing = standing }
   where
     v : Normal c
     v = normal-of c p
@@ -192,8 +192,8 @@ valid-of c w p = record { fields = v; rule = rule }
         let o : EntryAt c i = p .entries .each i l in
         rw (item-is c i l) record { some = o .some; small = o .small; load = w .load i; write = w .write i }
 
-    rule : StandingOk (view c)
-    rule =
+    standing : StandingOk (view c)
+    standing =
         record {
           capacity = capacity-ok (c .k) (record { low = p .counts .low; high = p .counts .high });
           kept =
@@ -223,18 +223,18 @@ valid-of c w p = record { fields = v; rule = rule }
 entry-of : (c : Cache) → Valid c → (i : ℕ) → i < c .n → EntryAt c i
 entry-of c o i l =
     record {
-      some = rw (item-is c i l) at (catalog-facts (catalogOf c) (o .rule .kept .catalog) .each i m .some);
-      small = rw (item-is c i l) at (catalog-facts (catalogOf c) (o .rule .kept .catalog) .each i m .small);
+      some = rw (item-is c i l) at (catalog-facts (catalogOf c) (o .standing .kept .catalog) .each i m .some);
+      small = rw (item-is c i l) at (catalog-facts (catalogOf c) (o .standing .kept .catalog) .each i m .small);
       marks =
           record {
             absentClean = λ e. v .absent i l e .dirty;
             absentEmpty = λ e. v .absent i l e .loadCredit;
             cleanEmpty = λ e. v .clean i l e;
-            closedClean = λ e. sym (dirty-here c v i l) ∙ o .rule .closed e i m;
+            closedClean = λ e. sym (dirty-here c v i l) ∙ o .standing .closed e i m;
           };
       loads = record { whole = rw (load-here c v i l) at (s .wholeLoad); top = rw (load-here c v i l) at (s .loadTop) };
       writes = record { whole = rw (write-here c v i l) at (s .wholeWrite); top = rw (write-here c v i l) at (s .writeTop) };
-      minutesTop = rw (use-is c i l) at (o .rule .minutes i m);
+      minutesTop = rw (use-is c i l) at (o .standing .minutes i m);
     }
   where
     v : Normal c
@@ -244,7 +244,7 @@ entry-of c o i l =
     m = rw (size-is c) l
 
     s : SlotKept (itemOf c i) (slotAt (stateOf c) i)
-    s = rw (item-is c i l) at (o .rule .kept .slot i m)
+    s = rw (item-is c i l) at (o .standing .kept .slot i m)
 
 pub parts-of : (c : Cache) → Valid c → Parts c
 parts-of c o =
@@ -252,25 +252,25 @@ parts-of c o =
       few = o .fields .few;
       past = record { each = o .fields .past };
       entries = record { each = entry-of c o };
-      left = record { each = λ i l e. sym (held-is c i l) ∙ o .rule .kept .left i (rw (size-is c) l) (left-is c i l ∙ e) };
+      left = record { each = λ i l e. sym (held-is c i l) ∙ o .standing .kept .left i (rw (size-is c) l) (left-is c i l ∙ e) };
       sums =
           record {
-            room = o .rule .kept .room;
-            kept = o .rule .evictions;
-            due = rw (dirty-count c (o .fields)) at (o .rule .writebacks);
-            loadsAdd = sym (sum-loads c) ∙ o .rule .loadsAdd;
-            writebacksAdd = sym (sum-writebacks c) ∙ o .rule .writebacksAdd;
-            gone = o .rule .retirements ∙ left-count c (o .fields);
+            room = o .standing .kept .room;
+            kept = o .standing .evictions;
+            due = rw (dirty-count c (o .fields)) at (o .standing .writebacks);
+            loadsAdd = sym (sum-loads c) ∙ o .standing .loadsAdd;
+            writebacksAdd = sym (sum-writebacks c) ∙ o .standing .writebacksAdd;
+            gone = o .standing .retirements ∙ left-count c (o .fields);
           };
       counts =
           record {
-            low = capacity-facts (c .k) (o .rule .capacity) .low;
-            high = capacity-facts (c .k) (o .rule .capacity) .high;
-            steps = o .rule .steps;
-            taken = o .rule .taken;
-            dirtyEvictions = o .rule .dirtyEvictions;
-            dirtyWritten = o .rule .dirtyWritten;
-            loadCost = o .rule .loadCost;
-            writeCost = o .rule .writeCost;
+            low = capacity-facts (c .k) (o .standing .capacity) .low;
+            high = capacity-facts (c .k) (o .standing .capacity) .high;
+            steps = o .standing .steps;
+            taken = o .standing .taken;
+            dirtyEvictions = o .standing .dirtyEvictions;
+            dirtyWritten = o .standing .dirtyWritten;
+            loadCost = o .standing .loadCost;
+            writeCost = o .standing .writeCost;
           };
     }

@@ -118,4 +118,4 @@ pub record Normal (c : Cache) : Type 0 where
 -- and those on the rule's state and figures, which landlord's specs/Valid.antt names one by one
 pub record Valid (c : Cache) : Type 0 where
   pub fields : Normal c
-  pub rule : StandingOk (view c)
+  pub standing : StandingOk (view c)

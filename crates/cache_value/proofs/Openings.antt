@@ -75,7 +75,7 @@ module _ (k rule n : ℕ) (blocks load write : List ℕ) where
   refused-with number c same some e =
       record {
         answer = same;
-        valid = record { fields = so .fields; rule = subst StandingOk (sym (so .stands)) refused-ok };
+        valid = record { fields = so .fields; standing = subst StandingOk (sym (so .stands)) refused-ok };
         stands = rw some (so .stands);
         empty = λ i l. subst (λ (z : records.Cache). EmptyPlace z i) (sym e) (empty-place 1 0 (replicate 256 0) (replicate 256 0) (replicate 256 0) true WriteFirst i l);
       }

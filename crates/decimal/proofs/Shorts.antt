@@ -91,25 +91,25 @@ two-stored page at v p q =
     rw (p, q, low, add-one)
 
 pub three-stored :
-    (page : List ℕ) (at v : ℕ) {a : ℕ} {left : List ℕ} → a ≡ 48 + v / 100 →
-    left ≡ sets (set page at a) (at + 1) (twoDigits (v - 100 * (v / 100))) →
-    left ≡ sets page at (threeDigits v)
+    (page : List ℕ) (at v : ℕ) {a : ℕ} {after : List ℕ} → a ≡ 48 + v / 100 →
+    after ≡ sets (set page at a) (at + 1) (twoDigits (v - 100 * (v / 100))) →
+    after ≡ sets page at (threeDigits v)
 three-stored page at v p q =
     let low : v - 100 * (v / 100) ≡ v % 100 = omega arith in
     rw (q, p, low, add-one)
 
 pub four-stored :
-    (page : List ℕ) (v : ℕ) {a : ℕ} {left : List ℕ} → a ≡ 48 + v / 1000 →
-    left ≡ sets (set page 0 a) 1 (threeDigits (v - 1000 * (v / 1000))) →
-    left ≡ sets page 0 ((48 + v / 1000) ∷ threeDigits (v % 1000))
+    (page : List ℕ) (v : ℕ) {a : ℕ} {after : List ℕ} → a ≡ 48 + v / 1000 →
+    after ≡ sets (set page 0 a) 1 (threeDigits (v - 1000 * (v / 1000))) →
+    after ≡ sets page 0 ((48 + v / 1000) ∷ threeDigits (v % 1000))
 four-stored page v p q =
     let low : v - 1000 * (v / 1000) ≡ v % 1000 = omega arith in
     rw (q, p, low)
 
 -- the digits stored from the page's start on are the text over the page
 pub digits-stored :
-    (v : ℕ) (page t : List ℕ) {left : List ℕ} → digitsOf v ≡ t → length (digitsOf v) ≤ length page → left ≡ sets page 0 t →
-    (length t ≡ length (digitsOf v)) × (left ≡ textOver (digitsOf v) page)
+    (v : ℕ) (page t : List ℕ) {after : List ℕ} → digitsOf v ≡ t → length (digitsOf v) ≤ length page → after ≡ sets page 0 t →
+    (length t ≡ length (digitsOf v)) × (after ≡ textOver (digitsOf v) page)
 digits-stored v page t e h q =
     let room : length t ≤ length page = rw e at h in
     rw e (refl, q ∙ sets-eq t page 0 (omega arith) ∙ rw zero-add)

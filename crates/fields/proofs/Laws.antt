@@ -9,66 +9,66 @@ use native.Mathlib.Omega.{arith}
 use lib.Dec.{eqb}
 use lib.ListN.{length, take, drop, getD, set, replicate, length-append, length-drop, length-set, take-append-drop, drop-of-length-le}
 use lib.Seq.{sets, set-append-left, sets-eq, length-take-le, take-at, drop-at, drop-append-add, drop-drop, take-add, getD-drop}
-use Rattle.fields.specs.LittleEndian.{un, unrun, unflags, le}
+use Rattle.fields.specs.LittleEndian.{fromBytes, runFromBytes, flagsFromBytes, toBytes}
 use Rattle.fields.specs.Inner.{Below, runOf, flags}
 
 -- ---- lengths
 
-pub length-le : (w v : ℕ) → length (le w v) ≡ w
-unfolding le
-length-le zero v = refl
-length-le (suc w) v = ap suc (length-le w (v / 256))
+pub length-to : (w v : ℕ) → length (toBytes w v) ≡ w
+unfolding toBytes
+length-to zero v = refl
+length-to (suc w) v = ap suc (length-to w (v / 256))
 
 pub length-run : (w : ℕ) (vs : List ℕ) → length (runOf w vs) ≡ length vs * w
 unfolding runOf
 length-run w [] = omega arith
-length-run w (v ∷ vs) = omega (arith, length-append (le w v) (runOf w vs), length-le w v, length-run w vs)
+length-run w (v ∷ vs) = omega (arith, length-append (toBytes w v) (runOf w vs), length-to w v, length-run w vs)
 
-pub length-unrun : (w n : ℕ) (bs : List ℕ) → length (unrun w n bs) ≡ n
-unfolding unrun
-length-unrun w zero bs = refl
-length-unrun w (suc n) bs = ap suc (length-unrun w n (drop w bs))
+pub length-run-from : (w n : ℕ) (bs : List ℕ) → length (runFromBytes w n bs) ≡ n
+unfolding runFromBytes
+length-run-from w zero bs = refl
+length-run-from w (suc n) bs = ap suc (length-run-from w n (drop w bs))
 
 pub length-flags : (fs : List Bool) → length (flags fs) ≡ length fs
 unfolding flags
 length-flags [] = refl
 length-flags (f ∷ fs) = ap suc (length-flags fs)
 
-pub length-unflags : (n : ℕ) (bs : List ℕ) → length (unflags n bs) ≡ n
-unfolding unflags
-length-unflags zero bs = refl
-length-unflags (suc n) bs = ap suc (length-unflags n (drop 1 bs))
+pub length-flags-from : (n : ℕ) (bs : List ℕ) → length (flagsFromBytes n bs) ≡ n
+unfolding flagsFromBytes
+length-flags-from zero bs = refl
+length-flags-from (suc n) bs = ap suc (length-flags-from n (drop 1 bs))
 
 -- ---- a number and its bytes
 
 -- the bytes of a number that fits stand for that number
-pub un-le : (w v : ℕ) → v < 256 ^ w → un (le w v) ≡ v
-unfolding le un
-un-le zero v h = omega (arith, pow-zero 256)
-un-le (suc w) v h = omega (arith, un-le w (v / 256) (omega (arith, pow-suc 256 w)))
+pub from-to : (w v : ℕ) → v < 256 ^ w → fromBytes (toBytes w v) ≡ v
+unfolding toBytes fromBytes
+from-to zero v h = omega (arith, pow-zero 256)
+from-to (suc w) v h = omega (arith, from-to w (v / 256) (omega (arith, pow-suc 256 w)))
 
 -- the same, read off a list that goes on
-pub un-front : (w v : ℕ) (rest : List ℕ) → v < 256 ^ w → un (take w (le w v ++ rest)) ≡ v
-un-front w v rest h = rw (take-at (le w v) rest w (length-le w v)) (un-le w v h)
+pub from-front : (w v : ℕ) (rest : List ℕ) → v < 256 ^ w → fromBytes (take w (toBytes w v ++ rest)) ≡ v
+from-front w v rest h = rw (take-at (toBytes w v) rest w (length-to w v)) (from-to w v h)
 
 -- the two parts of a number with one more byte
 digit : (u b : ℕ) → b < 256 → ((u * 256 + b) % 256 ≡ b) × ((u * 256 + b) / 256 ≡ u)
 digit u b h = (omega arith, omega arith)
 
 -- bytes are the bytes of the number that they stand for
-pub le-un : (bs : List ℕ) → Below 256 bs → le (length bs) (un bs) ≡ bs
-unfolding le un
-le-un [] h = refl
-le-un (b ∷ bs) h =
-    let d : ((un bs * 256 + b) % 256 ≡ b) × ((un bs * 256 + b) / 256 ≡ un bs) = digit (un bs) b (h zero) in
-    rw (d .0, d .1, le-un bs (λ i. h (suc i)))
+pub to-from : (bs : List ℕ) → Below 256 bs → toBytes (length bs) (fromBytes bs) ≡ bs
+unfolding toBytes fromBytes
+to-from [] h = refl
+to-from (b ∷ bs) h =
+    let d : ((fromBytes bs * 256 + b) % 256 ≡ b) × ((fromBytes bs * 256 + b) / 256 ≡ fromBytes bs) = digit (fromBytes bs) b (h zero) in
+    rw (d .0, d .1, to-from bs (λ i. h (suc i)))
 
 -- the number that at most `w` bytes stand for has at most `w` bytes
-pub un-take-lt : (w : ℕ) (bs : List ℕ) → Below 256 bs → un (take w bs) < 256 ^ w
-unfolding un
-un-take-lt zero bs h = omega (arith, pow-zero 256)
-un-take-lt (suc w) [] h = one-le-pow (suc w) 256 (omega arith)
-un-take-lt (suc w) (b ∷ bs) h = omega (arith, pow-suc 256 w, h zero, un-take-lt w bs (λ i. h (suc i)))
+pub from-take-lt : (w : ℕ) (bs : List ℕ) → Below 256 bs → fromBytes (take w bs) < 256 ^ w
+unfolding fromBytes
+from-take-lt zero bs h = omega (arith, pow-zero 256)
+from-take-lt (suc w) [] h = one-le-pow (suc w) 256 (omega arith)
+from-take-lt (suc w) (b ∷ bs) h = omega (arith, pow-suc 256 w, h zero, from-take-lt w bs (λ i. h (suc i)))
 
 -- ---- parts of a list of bytes
 
@@ -95,41 +95,41 @@ pub rejoin : {A : Type 0} (l : List A) (at n to : ℕ) → to ≡ at + n → tak
 rejoin l at n to e = rw (e, ← drop-drop n at l) (take-append-drop n (drop at l))
 
 -- a number read off a place, stored again, is the bytes of that place
-pub le-back : (w at : ℕ) (bs : List ℕ) → at + w ≤ length bs → Below 256 bs → le w (un (take w (drop at bs))) ≡ take w (drop at bs)
-le-back w at bs l h =
+pub to-back : (w at : ℕ) (bs : List ℕ) → at + w ≤ length bs → Below 256 bs → toBytes w (fromBytes (take w (drop at bs))) ≡ take w (drop at bs)
+to-back w at bs l h =
     let e : length (take w (drop at bs)) ≡ w = length-take-le w (drop at bs) (omega (arith, length-drop at bs)) in
-    rw e at (le-un (take w (drop at bs)) (below-take 256 w (drop at bs) (below-drop 256 at bs h)))
+    rw e at (to-from (take w (drop at bs)) (below-take 256 w (drop at bs) (below-drop 256 at bs h)))
 
 -- ---- numbers one after another
 
 -- each number of `w` bytes is below 256 ^ w
-pub unrun-lt : (w n : ℕ) (bs : List ℕ) → Below 256 bs → Below (256 ^ w) (unrun w n bs)
-unfolding unrun
-unrun-lt w zero bs h i = one-le-pow w 256 (omega arith)
-unrun-lt w (suc n) bs h zero = un-take-lt w bs h
-unrun-lt w (suc n) bs h (suc i) = unrun-lt w n (drop w bs) (below-drop 256 w bs h) i
+pub run-from-lt : (w n : ℕ) (bs : List ℕ) → Below 256 bs → Below (256 ^ w) (runFromBytes w n bs)
+unfolding runFromBytes
+run-from-lt w zero bs h i = one-le-pow w 256 (omega arith)
+run-from-lt w (suc n) bs h zero = from-take-lt w bs h
+run-from-lt w (suc n) bs h (suc i) = run-from-lt w n (drop w bs) (below-drop 256 w bs h) i
 
 -- a run of numbers that fit, read back, is those numbers
-pub unrun-run : (w n : ℕ) (vs rest : List ℕ) → length vs ≡ n → Below (256 ^ w) vs → unrun w n (runOf w vs ++ rest) ≡ vs
-unfolding unrun runOf
-unrun-run w zero [] rest e h = refl
-unrun-run w zero (v ∷ vs) rest e h = absurd (omega arith)
-unrun-run w (suc n) [] rest e h = absurd (omega arith)
-unrun-run w (suc n) (v ∷ vs) rest e h =
-    rw (append-assoc, un-front w v (runOf w vs ++ rest) (h zero), drop-at (le w v) (runOf w vs ++ rest) w (length-le w v), unrun-run w n vs rest (omega arith) (λ i. h (suc i)))
+pub run-from-to : (w n : ℕ) (vs rest : List ℕ) → length vs ≡ n → Below (256 ^ w) vs → runFromBytes w n (runOf w vs ++ rest) ≡ vs
+unfolding runFromBytes runOf
+run-from-to w zero [] rest e h = refl
+run-from-to w zero (v ∷ vs) rest e h = absurd (omega arith)
+run-from-to w (suc n) [] rest e h = absurd (omega arith)
+run-from-to w (suc n) (v ∷ vs) rest e h =
+    rw (append-assoc, from-front w v (runOf w vs ++ rest) (h zero), drop-at (toBytes w v) (runOf w vs ++ rest) w (length-to w v), run-from-to w n vs rest (omega arith) (λ i. h (suc i)))
 
 -- numbers read off bytes, stored again, are those bytes
-pub run-unrun : (w n : ℕ) (bs : List ℕ) → n * w ≤ length bs → Below 256 bs → runOf w (unrun w n bs) ≡ take (n * w) bs
-unfolding unrun runOf
-run-unrun w zero bs l h = rw (zero-mul w)
-run-unrun w (suc n) bs l h =
+pub run-to-from : (w n : ℕ) (bs : List ℕ) → n * w ≤ length bs → Below 256 bs → runOf w (runFromBytes w n bs) ≡ take (n * w) bs
+unfolding runFromBytes runOf
+run-to-from w zero bs l h = rw (zero-mul w)
+run-to-from w (suc n) bs l h =
     let i : n * w ≤ length (drop w bs) = omega (arith, length-drop w bs) in
     let s : suc n * w ≡ w + n * w = omega arith in
-    rw (s, take-add, le-back w 0 bs (omega arith) h, run-unrun w n (drop w bs) i (below-drop 256 w bs h))
+    rw (s, take-add, to-back w 0 bs (omega arith) h, run-to-from w n (drop w bs) i (below-drop 256 w bs h))
 
 -- the same at a place
-pub run-back : (w n at : ℕ) (bs : List ℕ) → at + n * w ≤ length bs → Below 256 bs → runOf w (unrun w n (drop at bs)) ≡ take (n * w) (drop at bs)
-run-back w n at bs l h = run-unrun w n (drop at bs) (omega (arith, length-drop at bs)) (below-drop 256 at bs h)
+pub run-back : (w n at : ℕ) (bs : List ℕ) → at + n * w ≤ length bs → Below 256 bs → runOf w (runFromBytes w n (drop at bs)) ≡ take (n * w) (drop at bs)
+run-back w n at bs l h = run-to-from w n (drop at bs) (omega (arith, length-drop at bs)) (below-drop 256 at bs h)
 
 -- ---- flags
 
@@ -142,13 +142,13 @@ flags-lt (false ∷ fs) zero = omega arith
 flags-lt (f ∷ fs) (suc i) = flags-lt fs i
 
 -- flags read back are those flags
-pub unflags-flags : (n : ℕ) (fs : List Bool) (rest : List ℕ) → length fs ≡ n → unflags n (flags fs ++ rest) ≡ fs
-unfolding unflags flags
-unflags-flags zero [] rest e = refl
-unflags-flags zero (f ∷ fs) rest e = absurd (omega arith)
-unflags-flags (suc n) [] rest e = absurd (omega arith)
-unflags-flags (suc n) (true ∷ fs) rest e = ap (λ (l : List Bool). true ∷ l) (unflags-flags n fs rest (omega arith))
-unflags-flags (suc n) (false ∷ fs) rest e = ap (λ (l : List Bool). false ∷ l) (unflags-flags n fs rest (omega arith))
+pub flags-from-to : (n : ℕ) (fs : List Bool) (rest : List ℕ) → length fs ≡ n → flagsFromBytes n (flags fs ++ rest) ≡ fs
+unfolding flagsFromBytes flags
+flags-from-to zero [] rest e = refl
+flags-from-to zero (f ∷ fs) rest e = absurd (omega arith)
+flags-from-to (suc n) [] rest e = absurd (omega arith)
+flags-from-to (suc n) (true ∷ fs) rest e = ap (λ (l : List Bool). true ∷ l) (flags-from-to n fs rest (omega arith))
+flags-from-to (suc n) (false ∷ fs) rest e = ap (λ (l : List Bool). false ∷ l) (flags-from-to n fs rest (omega arith))
 
 -- a byte 0 or 1 is its flag's number
 pub flag-byte : (b : ℕ) → b < 2 → cond (not (eqb b 0)) 1 0 ≡ b
@@ -157,37 +157,37 @@ flag-byte (suc zero) h = refl
 flag-byte (suc (suc b)) h = absurd (omega arith)
 
 -- flags read off bytes 0 and 1, stored again, are those bytes
-pub flags-unflags : (n : ℕ) (bs : List ℕ) → n ≤ length bs → ((i : ℕ) → i < n → getD bs i 0 < 2) → flags (unflags n bs) ≡ take n bs
-unfolding unflags flags
-flags-unflags zero bs l h = refl
-flags-unflags (suc n) [] l h = absurd (omega arith)
-flags-unflags (suc n) (b ∷ bs) l h =
-    rw (flag-byte b (h zero (omega arith)), flags-unflags n bs (omega arith) (λ i k. h (suc i) (omega arith)))
+pub flags-to-from : (n : ℕ) (bs : List ℕ) → n ≤ length bs → ((i : ℕ) → i < n → getD bs i 0 < 2) → flags (flagsFromBytes n bs) ≡ take n bs
+unfolding flagsFromBytes flags
+flags-to-from zero bs l h = refl
+flags-to-from (suc n) [] l h = absurd (omega arith)
+flags-to-from (suc n) (b ∷ bs) l h =
+    rw (flag-byte b (h zero (omega arith)), flags-to-from n bs (omega arith) (λ i k. h (suc i) (omega arith)))
 
 -- the same at a place
-pub flags-back : (n at : ℕ) (bs : List ℕ) → at + n ≤ length bs → ((i : ℕ) → i < n → getD bs (at + i) 0 < 2) → flags (unflags n (drop at bs)) ≡ take n (drop at bs)
-flags-back n at bs l h = flags-unflags n (drop at bs) (omega (arith, length-drop at bs)) (λ i k. rw getD-drop (h i k))
+pub flags-back : (n at : ℕ) (bs : List ℕ) → at + n ≤ length bs → ((i : ℕ) → i < n → getD bs (at + i) 0 < 2) → flags (flagsFromBytes n (drop at bs)) ≡ take n (drop at bs)
+flags-back n at bs l h = flags-to-from n (drop at bs) (omega (arith, length-drop at bs)) (λ i k. rw getD-drop (h i k))
 
 -- ---- bytes that are all 0
 
 -- they stand for 0, for numbers that are all 0, and for flags that are all false
-pub un-blank : (w : ℕ) (bs : List ℕ) → Below 1 bs → un (take w bs) ≡ 0
-unfolding un
-un-blank zero bs h = refl
-un-blank (suc w) [] h = refl
-un-blank (suc w) (b ∷ bs) h = omega (arith, h zero, un-blank w bs (λ i. h (suc i)))
+pub from-blank : (w : ℕ) (bs : List ℕ) → Below 1 bs → fromBytes (take w bs) ≡ 0
+unfolding fromBytes
+from-blank zero bs h = refl
+from-blank (suc w) [] h = refl
+from-blank (suc w) (b ∷ bs) h = omega (arith, h zero, from-blank w bs (λ i. h (suc i)))
 
-pub unrun-blank : (w n : ℕ) (bs : List ℕ) → Below 1 bs → unrun w n bs ≡ replicate n 0
-unfolding unrun
-unrun-blank w zero bs h = refl
-unrun-blank w (suc n) bs h = rw (un-blank w bs h, unrun-blank w n (drop w bs) (below-drop 1 w bs h))
+pub run-from-blank : (w n : ℕ) (bs : List ℕ) → Below 1 bs → runFromBytes w n bs ≡ replicate n 0
+unfolding runFromBytes
+run-from-blank w zero bs h = refl
+run-from-blank w (suc n) bs h = rw (from-blank w bs h, run-from-blank w n (drop w bs) (below-drop 1 w bs h))
 
-pub unflags-blank : (n : ℕ) (bs : List ℕ) → Below 1 bs → unflags n bs ≡ replicate n false
-unfolding unflags
-unflags-blank zero bs h = refl
-unflags-blank (suc n) bs h =
+pub flags-from-blank : (n : ℕ) (bs : List ℕ) → Below 1 bs → flagsFromBytes n bs ≡ replicate n false
+unfolding flagsFromBytes
+flags-from-blank zero bs h = refl
+flags-from-blank (suc n) bs h =
     let e : getD bs 0 0 ≡ 0 = omega (arith, h 0) in
-    rw (e, unflags-blank n (drop 1 bs) (below-drop 1 1 bs h))
+    rw (e, flags-from-blank n (drop 1 bs) (below-drop 1 1 bs h))
 
 -- ---- stores one after another
 
@@ -235,13 +235,13 @@ sets-front xs ys vs e =
     sets-eq vs (xs ++ ys) 0 l ∙ rw (drop-at xs ys (0 + length vs) (omega arith))
 
 -- of one number, it is the run of the list with that number set
-pub run-set : (w : ℕ) (vs : List ℕ) (i v : ℕ) → i < length vs → sets (runOf w vs) (i * w) (le w v) ≡ runOf w (set vs i v)
+pub run-set : (w : ℕ) (vs : List ℕ) (i v : ℕ) → i < length vs → sets (runOf w vs) (i * w) (toBytes w v) ≡ runOf w (set vs i v)
 unfolding runOf
 run-set w [] i v h = absurd (omega arith)
-run-set w (x ∷ vs) zero v h = rw (zero-mul w) (sets-front (le w x) (runOf w vs) (le w v) (length-le w v ∙ sym (length-le w x)))
+run-set w (x ∷ vs) zero v h = rw (zero-mul w) (sets-front (toBytes w x) (runOf w vs) (toBytes w v) (length-to w v ∙ sym (length-to w x)))
 run-set w (x ∷ vs) (suc i) v h =
-    let e : suc i * w ≡ length (le w x) + i * w = omega (arith, length-le w x) in
-    rw (sets-past (le w x) (runOf w vs) (le w v) (suc i * w) (i * w) e, run-set w vs i v (omega arith))
+    let e : suc i * w ≡ length (toBytes w x) + i * w = omega (arith, length-to w x) in
+    rw (sets-past (toBytes w x) (runOf w vs) (toBytes w v) (suc i * w) (i * w) e, run-set w vs i v (omega arith))
 
 -- of one flag, it is the flags of the list with that flag set
 pub flags-set : (fs : List Bool) (i : ℕ) (f : Bool) → set (flags fs) i (cond f 1 0) ≡ flags (set fs i f)

@@ -7,33 +7,33 @@ use native.Mathlib.Nat.{pow-suc, pow-le-pow-right, lt-of-lt-of-le}
 use native.Mathlib.Omega.{arith}
 use lib.ListN.{length, take, drop, getD, set}
 use lib.Seq.{sets, drop-cons}
-use Rattle.fields.specs.LittleEndian.{un, le}
+use Rattle.fields.specs.LittleEndian.{fromBytes, toBytes}
 
 -- put: with one byte stored, the rest of them lead to the same list
-pub put-step : (buf : List ℕ) (at i left x : ℕ) → 0 < left → sets (set buf (at + i) (x % 256)) (at + (i + 1)) (le (left - 1) (x / 256)) ≡ sets buf (at + i) (le left x)
-unfolding le
+pub put-step : (buf : List ℕ) (at i rest x : ℕ) → 0 < rest → sets (set buf (at + i) (x % 256)) (at + (i + 1)) (toBytes (rest - 1) (x / 256)) ≡ sets buf (at + i) (toBytes rest x)
+unfolding toBytes
 put-step buf at i zero x h = absurd (omega arith)
-put-step buf at i (suc left) x h =
-    let e : suc left - 1 ≡ left = omega arith in
+put-step buf at i (suc rest) x h =
+    let e : suc rest - 1 ≡ rest = omega arith in
     let f : at + (i + 1) ≡ suc (at + i) = omega arith in
     rw (e, f)
 
 -- put: no byte left
-pub put-done : (buf : List ℕ) (to left x : ℕ) → left ≤ 0 → sets buf to (le left x) ≡ buf
-unfolding le
+pub put-done : (buf : List ℕ) (to rest x : ℕ) → rest ≤ 0 → sets buf to (toBytes rest x) ≡ buf
+unfolding toBytes
 put-done buf to zero x h = refl
-put-done buf to (suc left) x h = absurd (omega arith)
+put-done buf to (suc rest) x h = absurd (omega arith)
 
 -- get: no byte yet
-pub get-start : (buf : List ℕ) (at w : ℕ) → (0 < 256 ^ (w - w)) × (0 ≡ un (take (w - w) (drop (at + w) buf)))
-unfolding un
+pub get-start : (buf : List ℕ) (at w : ℕ) → (0 < 256 ^ (w - w)) × (0 ≡ fromBytes (take (w - w) (drop (at + w) buf)))
+unfolding fromBytes
 get-start buf at w =
     let e : w - w ≡ 0 = omega arith in
     (rw e (omega arith), rw e)
 
 -- get: the bytes from one place further down
-pub get-step : (buf : List ℕ) (at w i : ℕ) → 0 < i → i ≤ w → at + w ≤ length buf → un (take (w - i) (drop (at + i) buf)) * 256 + getD buf (at + (i - 1)) 0 ≡ un (take (w - (i - 1)) (drop (at + (i - 1)) buf))
-unfolding un
+pub get-step : (buf : List ℕ) (at w i : ℕ) → 0 < i → i ≤ w → at + w ≤ length buf → fromBytes (take (w - i) (drop (at + i) buf)) * 256 + getD buf (at + (i - 1)) 0 ≡ fromBytes (take (w - (i - 1)) (drop (at + (i - 1)) buf))
+unfolding fromBytes
 get-step buf at w i p q r =
     let e : w - (i - 1) ≡ suc (w - i) = omega arith in
     let f : suc (at + (i - 1)) ≡ at + i = omega arith in
@@ -51,7 +51,7 @@ pub get-fits : (x w i : ℕ) → 0 < i → w ≤ 8 → x < 256 ^ (w - i) → x <
 get-fits x w i p q h = lt-of-lt-of-le h (pow-le-pow-right {n = 256} (omega arith) {i = w - i} {j = 7} (omega arith))
 
 -- get: no byte left
-pub get-done : (buf : List ℕ) (at w i x : ℕ) → i ≤ 0 → x < 256 ^ (w - i) → x ≡ un (take (w - i) (drop (at + i) buf)) → (x ≡ un (take w (drop at buf))) × (x < 256 ^ w)
+pub get-done : (buf : List ℕ) (at w i x : ℕ) → i ≤ 0 → x < 256 ^ (w - i) → x ≡ fromBytes (take (w - i) (drop (at + i) buf)) → (x ≡ fromBytes (take w (drop at buf))) × (x < 256 ^ w)
 get-done buf at w i x z h e =
     let p : w - i ≡ w = omega arith in
     let q : at + i ≡ at = omega arith in

@@ -6,18 +6,18 @@ ghost use mathlib.Core.Path.{_≡_};
 ghost use Prim.Native.Nat.{_+_, _^_, _≤_, _<_};
 ghost use lib.ListN.{length, take, drop};
 ghost use lib.Seq.{sets};
-ghost use Rattle.fields.specs.LittleEndian.{un, le};
+ghost use Rattle.fields.specs.LittleEndian.{fromBytes, toBytes};
 
 // Stores the `w` low bytes of `v`, the low byte first.
 pub fn put(buf: &mut [u8], at: usize, w: usize, v: u64)
     requires { ⌜ at + w ≤ length (now buf) ⌝ }
-    ensures { λ _. ⌜ now (buf .exit) ≡ sets (now (buf .entry)) at (le w v) ⌝ }
+    ensures { λ _. ⌜ now (buf .exit) ≡ sets (now (buf .entry)) at (toBytes w v) ⌝ }
 {
     let mut x = v;
     let mut i: usize = 0;
-    let mut left = w;
-    while 0 < left {
-        left -= 1;
+    let mut rest = w;
+    while 0 < rest {
+        rest -= 1;
         buf[at + i] = (x % 256) as u8;
         x = x / 256;
         i += 1;
@@ -27,7 +27,7 @@ pub fn put(buf: &mut [u8], at: usize, w: usize, v: u64)
 // The number that `w` bytes stand for, read from the top byte down.
 pub fn get(buf: &[u8], at: usize, w: usize) -> u64
     requires { ⌜ (at + w ≤ length (now buf)) × (w ≤ 8) ⌝ }
-    ensures { λ r. ⌜ (r ≡ un (take w (drop at (now (buf .entry))))) × (r < 256 ^ w) ⌝ }
+    ensures { λ r. ⌜ (r ≡ fromBytes (take w (drop at (now (buf .entry))))) × (r < 256 ^ w) ⌝ }
 {
     let mut x = 0;
     let mut i = w;

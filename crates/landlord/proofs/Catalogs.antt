@@ -141,25 +141,25 @@ next-length cat (Retire i) = omega (arith, retired-length cat i)
 -- ## The items after a step, and after steps
 
 -- what a catalog keeps from one step to the next: it gets no shorter, each item keeps its three values, and one that has left stays so
-pub record Follows (cat next : Catalog) : Type 0 where
+pub record KeepsItems (cat next : Catalog) : Type 0 where
   pub longer : length cat ≤ length next
   pub each : (i : ℕ) → i < length cat → Alike (itemAt next i) (itemAt cat i)
   pub left : (i : ℕ) → i < length cat → itemAt cat i .left ≡ true → itemAt next i .left ≡ true
 
-pub follows-same : (cat : Catalog) → Follows cat cat
-follows-same cat = record { longer = omega arith; each = λ i l. alike (itemAt cat i) (itemAt cat i) refl; left = λ i l e. e }
+pub keeps-same : (cat : Catalog) → KeepsItems cat cat
+keeps-same cat = record { longer = omega arith; each = λ i l. alike (itemAt cat i) (itemAt cat i) refl; left = λ i l e. e }
 
-pub next-follows : (cat : Catalog) (s : Step) → Follows cat (catalogNext cat s)
-next-follows cat (Read i) = follows-same cat
-next-follows cat (Write i minutes) = follows-same cat
-next-follows cat Flush = follows-same cat
-next-follows cat (Arrive i b l w) =
+pub next-keeps : (cat : Catalog) (s : Step) → KeepsItems cat (catalogNext cat s)
+next-keeps cat (Read i) = keeps-same cat
+next-keeps cat (Write i minutes) = keeps-same cat
+next-keeps cat Flush = keeps-same cat
+next-keeps cat (Arrive i b l w) =
     record {
       longer = omega (arith, one-longer cat (listed b l w));
       each = λ j q. alike (itemAt (cat ++ (listed b l w ∷ [])) j) (itemAt cat j) (arrived-other cat (listed b l w) j q);
       left = λ j q e. ap (λ (x : Item). x .left) (arrived-other cat (listed b l w) j q) ∙ e;
     }
-next-follows cat (Retire i) =
+next-keeps cat (Retire i) =
     record {
       longer = omega (arith, retired-length cat i);
       each = λ j q. same j q (ℕ-discrete j i);
@@ -177,8 +177,8 @@ next-follows cat (Retire i) =
     gone j q e (yes f) = ap (λ (z : ℕ). itemAt next z .left) f ∙ ap (λ (x : Item). x .left) (retired-here cat i (omega arith))
     gone j q e (no f) = ap (λ (x : Item). x .left) (retired-other cat i j f) ∙ e
 
-pub follows-on : (a b c : Catalog) → Follows a b → Follows b c → Follows a c
-follows-on a b c f g =
+pub keeps-on : (a b c : Catalog) → KeepsItems a b → KeepsItems b c → KeepsItems a c
+keeps-on a b c f g =
     record {
       longer = omega (arith, f .longer, g .longer);
       each = λ i l. let m : i < length b = omega (arith, f .longer) in alike-on (g .each i m) (f .each i l);
@@ -188,11 +188,11 @@ follows-on a b c f g =
     alike-on : {x y z : Item} → Alike x y → Alike y z → Alike x z
     alike-on u v = record { blocks = u .blocks ∙ v .blocks; load = u .load ∙ v .load; write = u .write ∙ v .write }
 
-pub after-follows : (cat : Catalog) (steps : List Step) → Follows cat (catalogAfter cat steps)
+pub after-keeps : (cat : Catalog) (steps : List Step) → KeepsItems cat (catalogAfter cat steps)
 unfolding fold
-after-follows cat [] = follows-same cat
-after-follows cat (s ∷ steps) =
-    follows-on cat (catalogNext cat s) (catalogAfter (catalogNext cat s) steps) (next-follows cat s) (after-follows (catalogNext cat s) steps)
+after-keeps cat [] = keeps-same cat
+after-keeps cat (s ∷ steps) =
+    keeps-on cat (catalogNext cat s) (catalogAfter (catalogNext cat s) steps) (next-keeps cat s) (after-keeps (catalogNext cat s) steps)
 
 -- the catalog after two lists of steps
 pub after-append : (cat : Catalog) (xs ys : List Step) → catalogAfter cat (xs ++ ys) ≡ catalogAfter (catalogAfter cat xs) ys

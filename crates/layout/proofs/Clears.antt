@@ -9,9 +9,9 @@ use native.Mathlib.Omega.{arith}
 use lib.Dec.{eqb}
 use lib.ListN.{length, take, drop, set, replicate, length-set}
 use lib.Seq.{sets, length-sets, sets-eq, take-all, take-suc-set, getD-drop}
-use Rattle.fields.specs.LittleEndian.{unflags, le}
+use Rattle.fields.specs.LittleEndian.{flagsFromBytes, toBytes}
 use Rattle.fields.specs.Inner.{Below}
-use Rattle.fields.proofs.Laws.{length-le, un-front, below-append, below-drop, past, un-blank, unrun-blank, unflags-blank}
+use Rattle.fields.proofs.Laws.{length-to, from-front, below-append, below-drop, past, from-blank, run-from-blank, flags-from-blank}
 use Rattle.types.specs.Types.{deductionOf}
 use Rattle.layout.specs.Layout.{stateBytes, format, numberAt, numberFar, numbersAt, AllowedBytes}
 use Rattle.layout.specs.InnerRows.{atFormat, atCapacity, atCount, atClosed, atSteps, atHits, atLoads, atEvictions, atDirtyEvictions, atWritebacks, atFlushes, atLoadCost, atWriteCost, atDirty, atLoadCredits, atWriteCredits, atMinutes, atItemLoads, atItemWritebacks, atItemLoadCosts, atItemWriteCosts, atBlocks, atHeld, atRule, atLeft, atArrivals, atRetirements}
@@ -38,29 +38,29 @@ clear-one {b} {i} s l =
 
 -- ---- behind the number of the layout
 
-module _ (left rest : List ℕ) (n : length left ≡ stateBytes) (e : left ≡ le 4 format ++ rest) (z : Below 1 rest) where
+module _ (after rest : List ℕ) (n : length after ≡ stateBytes) (e : after ≡ toBytes 4 format ++ rest) (z : Below 1 rest) where
   -- what stands there is 0
-  blank : (at : ℕ) → 4 ≤ at → Below 1 (drop at left)
-  blank at l = rw (e, past (le 4 format) rest at (at - 4) (omega (arith, length-le 4 format))) (below-drop 1 (at - 4) rest z)
+  blank : (at : ℕ) → 4 ≤ at → Below 1 (drop at after)
+  blank at l = rw (e, past (toBytes 4 format) rest at (at - 4) (omega (arith, length-to 4 format))) (below-drop 1 (at - 4) rest z)
 
-  number-0 : (w at : ℕ) → 4 ≤ at → numberAt left at w ≡ 0
-  number-0 w at l = un-blank w (drop at left) (blank at l)
+  number-0 : (w at : ℕ) → 4 ≤ at → numberAt after at w ≡ 0
+  number-0 w at l = from-blank w (drop at after) (blank at l)
 
-  numbers-0 : (w k at : ℕ) → 4 ≤ at → numbersAt left at k w ≡ replicate k 0
-  numbers-0 w k at l = unrun-blank w k (drop at left) (blank at l)
+  numbers-0 : (w k at : ℕ) → 4 ≤ at → numbersAt after at k w ≡ replicate k 0
+  numbers-0 w k at l = run-from-blank w k (drop at after) (blank at l)
 
-  flags-0 : (k at : ℕ) → 4 ≤ at → unflags k (drop at left) ≡ replicate k false
-  flags-0 k at l = unflags-blank k (drop at left) (blank at l)
+  flags-0 : (k at : ℕ) → 4 ≤ at → flagsFromBytes k (drop at after) ≡ replicate k false
+  flags-0 k at l = flags-from-blank k (drop at after) (blank at l)
 
-  allowed-0 : AllowedBytes left
+  allowed-0 : AllowedBytes after
   allowed-0 = record {
-    format = rw e (un-front 4 format rest (omega arith));
+    format = rw e (from-front 4 format rest (omega arith));
     closed = omega (arith, number-0 2 atClosed (omega arith));
-    held = λ i l. rw (← getD-drop atHeld left i 0) (omega (arith, blank atHeld (omega arith) i));
+    held = λ i l. rw (← getD-drop atHeld after i 0) (omega (arith, blank atHeld (omega arith) i));
     rule = omega (arith, number-0 4 atRule (omega arith));
   }
 
-  pub cleared-0 : Stands left cleared
+  pub cleared-0 : Stands after cleared
   unfolding numberFar
   cleared-0 = record {
     size = n;
@@ -97,8 +97,8 @@ module _ (left rest : List ℕ) (n : length left ≡ stateBytes) (e : left ≡ l
   }
 
 -- the number of the layout, stored over bytes that are all 0
-pub all-cleared : {b : List ℕ} {i : ℕ} (left : List ℕ) → Clearing b i → length b ≤ i → left ≡ sets b atFormat (le 4 format) → Stands left cleared
-unfolding le
-all-cleared {b} {i} left s l is =
-    cleared-0 left (drop 4 b) (ap length is ∙ length-sets b atFormat (le 4 format) ∙ s .size) (is ∙ sets-eq (le 4 format) b 0 (omega (arith, s .size)))
+pub all-cleared : {b : List ℕ} {i : ℕ} (after : List ℕ) → Clearing b i → length b ≤ i → after ≡ sets b atFormat (toBytes 4 format) → Stands after cleared
+unfolding toBytes
+all-cleared {b} {i} after s l is =
+    cleared-0 after (drop 4 b) (ap length is ∙ length-sets b atFormat (toBytes 4 format) ∙ s .size) (is ∙ sets-eq (toBytes 4 format) b 0 (omega (arith, s .size)))
     (below-drop 1 4 b (rw (take-all i b l) at (s .zeros)))

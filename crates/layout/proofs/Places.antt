@@ -8,7 +8,7 @@ use native.Mathlib.Omega.{arith}
 use lib.Dec.{eqb}
 use lib.ListN.{length, take, drop, getD}
 use lib.Seq.{drop-drop, getD-drop}
-use Rattle.fields.specs.LittleEndian.{un, unrun, unflags}
+use Rattle.fields.specs.LittleEndian.{fromBytes, runFromBytes, flagsFromBytes}
 use Rattle.fields.specs.Inner.{Below}
 use Rattle.landlord.specs.Figures.{Standing}
 use Rattle.landlord.specs.Valid.{StandingOk}
@@ -23,33 +23,33 @@ use Rattle.layout.proofs.Rounds.{round, back, fits, length-bytesOf, all
 -- ---- reads
 
 -- one number of a run, or one flag of several, is the number at its place
-pub unrun-at : (w n : ℕ) (bs : List ℕ) (i : ℕ) → i < n → getD (unrun w n bs) i 0 ≡ un (take w (drop (i * w) bs))
-unfolding unrun
-unrun-at w zero bs i l = absurd (omega arith)
-unrun-at w (suc n) bs zero l =
+pub run-from-at : (w n : ℕ) (bs : List ℕ) (i : ℕ) → i < n → getD (runFromBytes w n bs) i 0 ≡ fromBytes (take w (drop (i * w) bs))
+unfolding runFromBytes
+run-from-at w zero bs i l = absurd (omega arith)
+run-from-at w (suc n) bs zero l =
     let e : 0 * w ≡ 0 = omega arith in
     rw e
-unrun-at w (suc n) bs (suc i) l =
+run-from-at w (suc n) bs (suc i) l =
     let e : suc i * w ≡ w + i * w = omega arith in
-    rw (e, ← drop-drop (i * w) w bs) (unrun-at w n (drop w bs) i (omega arith))
+    rw (e, ← drop-drop (i * w) w bs) (run-from-at w n (drop w bs) i (omega arith))
 
 pub number-at : (w n at : ℕ) (b : List ℕ) (i r : ℕ) → i < n → r ≡ numberAt b (at + i * w) w → r ≡ getD (numbersAt b at n w) i 0
-number-at w n at b i r l e = e ∙ rw (unrun-at w n (drop at b) i l, drop-drop)
+number-at w n at b i r l e = e ∙ rw (run-from-at w n (drop at b) i l, drop-drop)
 
-pub unflags-at : (n : ℕ) (bs : List ℕ) (i : ℕ) → i < n → getD (unflags n bs) i false ≡ not (eqb (getD bs i 0) 0)
-unfolding unflags
-unflags-at zero bs i l = absurd (omega arith)
-unflags-at (suc n) bs zero l = refl
-unflags-at (suc n) bs (suc i) l =
+pub flags-from-at : (n : ℕ) (bs : List ℕ) (i : ℕ) → i < n → getD (flagsFromBytes n bs) i false ≡ not (eqb (getD bs i 0) 0)
+unfolding flagsFromBytes
+flags-from-at zero bs i l = absurd (omega arith)
+flags-from-at (suc n) bs zero l = refl
+flags-from-at (suc n) bs (suc i) l =
     let e : 1 + i ≡ suc i = omega arith in
-    unflags-at n (drop 1 bs) i (omega arith) ∙ rw (getD-drop 1 bs i 0, e)
+    flags-from-at n (drop 1 bs) i (omega arith) ∙ rw (getD-drop 1 bs i 0, e)
 
-pub flag-at : (n at : ℕ) (b : List ℕ) (i : ℕ) → i < n → getD (unflags n (drop at b)) i false ≡ not (eqb (getD b (at + i) 0) 0)
-flag-at n at b i l = unflags-at n (drop at b) i l ∙ rw (getD-drop at b i 0)
+pub flag-at : (n at : ℕ) (b : List ℕ) (i : ℕ) → i < n → getD (flagsFromBytes n (drop at b)) i false ≡ not (eqb (getD b (at + i) 0) 0)
+flag-at n at b i l = flags-from-at n (drop at b) i l ∙ rw (getD-drop at b i 0)
 
 -- four numbers read one by one
 pub read-four : (b : List ℕ) (at : ℕ) → numbersAt b at 4 8 ≡ numberAt b at 8 ∷ numberAt b (at + 8) 8 ∷ numberAt b (at + 16) 8 ∷ numberAt b (at + 24) 8 ∷ []
-unfolding unrun
+unfolding runFromBytes
 read-four b at =
     let p : at + 8 + 8 ≡ at + 16 = omega arith in
     let q : at + 16 + 8 ≡ at + 24 = omega arith in
@@ -66,7 +66,7 @@ pub stands-as : {b : List ℕ} {c d : Cache} → Stands b c → c ≡ d → Stan
 stands-as s e = record { size = s .size; allowed = s .allowed; cache = s .cache ∙ e }
 
 -- a store told of what the bytes stood for, told of the cache that it was
-pub stands-on : {b left : List ℕ} {c : Cache} {A : Type 0} {v : A} (f : Cache → A → Cache) → Stands left (f (cacheOf b) v) → Stands b c → Stands left (f c v)
+pub stands-on : {b after : List ℕ} {c : Cache} {A : Type 0} {v : A} (f : Cache → A → Cache) → Stands after (f (cacheOf b) v) → Stands b c → Stands after (f c v)
 stands-on {v = v} f t s = stands-as t (ap (λ (d : Cache). f d v) (s .cache))
 
 pub valid-reads : {b : List ℕ} → ValidBytes b → Readable b
@@ -82,11 +82,11 @@ becomes-valid ok h =
     record {
       size = h .reads .size;
       allowed = h .reads .allowed;
-      cache = record { fields = h .cache .fields; rule = subst StandingOk (sym (h .cache .stands)) ok };
+      cache = record { fields = h .cache .fields; standing = subst StandingOk (sym (h .cache .stands)) ok };
     }
 
 -- the bytes of a cache that fits stand for it
-pub stands : {left : List ℕ} {c : Cache} → left ≡ bytesOf c → Fits c → Stands left c
+pub stands : {after : List ℕ} {c : Cache} → after ≡ bytesOf c → Fits c → Stands after c
 stands {c = c} e f =
     record {
       size = ap length e ∙ length-bytesOf c f;

@@ -8,9 +8,9 @@ use native.Mathlib.Omega.{arith}
 use lib.Dec.{eqb}
 use lib.ListN.{length, drop, getD, length-drop, List·getD-append}
 use lib.Seq.{take-all, getD-drop}
-use Rattle.fields.specs.LittleEndian.{unflags, le}
+use Rattle.fields.specs.LittleEndian.{flagsFromBytes, toBytes}
 use Rattle.fields.specs.Inner.{Below, runOf, flags}
-use Rattle.fields.proofs.Laws.{length-unrun, length-unflags, un-front, un-take-lt, below-drop, rejoin, le-back, unrun-lt, unrun-run, run-back, flags-lt, length-flags, unflags-flags, flag-byte, flags-back}
+use Rattle.fields.proofs.Laws.{length-run-from, length-flags-from, from-front, from-take-lt, below-drop, rejoin, to-back, run-from-lt, run-from-to, run-back, flags-lt, length-flags, flags-from-to, flag-byte, flags-back}
 use Rattle.types.specs.Types.{deductionNumber, deductionOf}
 use Rattle.types.proofs.Deductions.{deduction-number, number-deduction, deduction-lt}
 use Rattle.cache_state.specs.Cache.{Cache}
@@ -56,14 +56,14 @@ length-bytesOf c f = omega (arith, packed-length (packed c (f .whole)))
 -- ---- stored and read back
 
 -- what the reader finds where a number, numbers or flags stand
-number-found : (w v at : ℕ) (b rest : List ℕ) → v < 256 ^ w → drop at b ≡ le w v ++ rest → numberAt b at w ≡ v
-number-found w v at b rest h e = rw e (un-front w v rest h)
+number-found : (w v at : ℕ) (b rest : List ℕ) → v < 256 ^ w → drop at b ≡ toBytes w v ++ rest → numberAt b at w ≡ v
+number-found w v at b rest h e = rw e (from-front w v rest h)
 
 numbers-found : (w n at : ℕ) (vs b rest : List ℕ) → length vs ≡ n → Below (256 ^ w) vs → drop at b ≡ runOf w vs ++ rest → numbersAt b at n w ≡ vs
-numbers-found w n at vs b rest l h e = rw e (unrun-run w n vs rest l h)
+numbers-found w n at vs b rest l h e = rw e (run-from-to w n vs rest l h)
 
-flags-found : (n at : ℕ) (fs : List Bool) (b rest : List ℕ) → length fs ≡ n → drop at b ≡ flags fs ++ rest → unflags n (drop at b) ≡ fs
-flags-found n at fs b rest l e = rw e (unflags-flags n fs rest l)
+flags-found : (n at : ℕ) (fs : List Bool) (b rest : List ℕ) → length fs ≡ n → drop at b ≡ flags fs ++ rest → flagsFromBytes n (drop at b) ≡ fs
+flags-found n at fs b rest l e = rw e (flags-from-to n fs rest l)
 
 -- a flag is the number 0 or 1, and is told by it
 flag-lt : (f : Bool) → flag f < 2
@@ -138,26 +138,26 @@ module _ (c : Cache) (f : Fits c) where
 -- whatever the bytes, each list that is read has all its places
 pub whole : (b : List ℕ) → WholeArrays (cacheOf b)
 whole b = record {
-  dirty = length-unrun 8 4 (drop atDirty b);
-  loadcredit = length-unrun 8 256 (drop atLoadCredits b);
-  writecredit = length-unrun 8 256 (drop atWriteCredits b);
-  minutes = length-unrun 4 256 (drop atMinutes b);
-  itemloads = length-unrun 4 256 (drop atItemLoads b);
-  itemwritebacks = length-unrun 4 256 (drop atItemWritebacks b);
-  load = length-unrun 2 256 (drop atItemLoadCosts b);
-  write = length-unrun 2 256 (drop atItemWriteCosts b);
-  blocks = length-unrun 1 256 (drop atBlocks b);
-  held = length-unflags 256 (drop atHeld b);
-  left = length-unrun 8 4 (drop atLeft b);
+  dirty = length-run-from 8 4 (drop atDirty b);
+  loadcredit = length-run-from 8 256 (drop atLoadCredits b);
+  writecredit = length-run-from 8 256 (drop atWriteCredits b);
+  minutes = length-run-from 4 256 (drop atMinutes b);
+  itemloads = length-run-from 4 256 (drop atItemLoads b);
+  itemwritebacks = length-run-from 4 256 (drop atItemWritebacks b);
+  load = length-run-from 2 256 (drop atItemLoadCosts b);
+  write = length-run-from 2 256 (drop atItemWriteCosts b);
+  blocks = length-run-from 1 256 (drop atBlocks b);
+  held = length-flags-from 256 (drop atHeld b);
+  left = length-run-from 8 4 (drop atLeft b);
 }
 
 module _ (b : List ℕ) (h : Below 256 b) where
   -- a number, or each of several, that is read has room in the bytes that it was read from
   number-fits : (w at : ℕ) → numberAt b at w < 256 ^ w
-  number-fits w at = un-take-lt w (drop at b) (below-drop 256 at b h)
+  number-fits w at = from-take-lt w (drop at b) (below-drop 256 at b h)
 
   numbers-fit : (w n at : ℕ) → Below (256 ^ w) (numbersAt b at n w)
-  numbers-fit w n at = unrun-lt w n (drop at b) (below-drop 256 at b h)
+  numbers-fit w n at = run-from-lt w n (drop at b) (below-drop 256 at b h)
 
   -- what bytes stand for has room in the layout
   pub fits : Fits (cacheOf b)
@@ -191,30 +191,30 @@ module _ (b : List ℕ) (h : Below 256 b) where
 
 module _ (b : List ℕ) (e : length b ≡ stateBytes) (h : Below 256 b) where
   -- a number, or numbers, and the bytes that follow
-  number-back : (w at : ℕ) (rest : List ℕ) → at + w ≤ stateBytes → rest ≡ drop (at + w) b → le w (numberAt b at w) ++ rest ≡ drop at b
-  number-back w at rest l r = rw (r, le-back w at b (omega arith) h) (rejoin b at w (at + w) refl)
+  number-back : (w at : ℕ) (rest : List ℕ) → at + w ≤ stateBytes → rest ≡ drop (at + w) b → toBytes w (numberAt b at w) ++ rest ≡ drop at b
+  number-back w at rest l r = rw (r, to-back w at b (omega arith) h) (rejoin b at w (at + w) refl)
 
   numbers-back : (w n at : ℕ) (rest : List ℕ) → at + n * w ≤ stateBytes → rest ≡ drop (at + n * w) b → runOf w (numbersAt b at n w) ++ rest ≡ drop at b
   numbers-back w n at rest l r = rw (r, run-back w n at b (omega arith) h) (rejoin b at (n * w) (at + n * w) refl)
 
   module _ (g : AllowedBytes b) where
     -- the number of the layout, and the two kinds of flags
-    format-back : (rest : List ℕ) → rest ≡ drop atCapacity b → le 4 format ++ rest ≡ b
-    format-back rest r = ap (λ (v : ℕ). le 4 v ++ rest) (sym (g .format)) ∙ number-back 4 atFormat rest (omega arith) r
+    format-back : (rest : List ℕ) → rest ≡ drop atCapacity b → toBytes 4 format ++ rest ≡ b
+    format-back rest r = ap (λ (v : ℕ). toBytes 4 v ++ rest) (sym (g .format)) ∙ number-back 4 atFormat rest (omega arith) r
 
-    closed-back : (rest : List ℕ) → rest ≡ drop atSteps b → le 2 (flag (not (eqb (numberAt b atClosed 2) 0))) ++ rest ≡ drop atClosed b
+    closed-back : (rest : List ℕ) → rest ≡ drop atSteps b → toBytes 2 (flag (not (eqb (numberAt b atClosed 2) 0))) ++ rest ≡ drop atClosed b
     closed-back rest r = rw (flag-byte (numberAt b atClosed 2) (g .closed)) (number-back 2 atClosed rest (omega arith) r)
 
-    held-back : (rest : List ℕ) → rest ≡ drop atRule b → flags (unflags 256 (drop atHeld b)) ++ rest ≡ drop atHeld b
+    held-back : (rest : List ℕ) → rest ≡ drop atRule b → flags (flagsFromBytes 256 (drop atHeld b)) ++ rest ≡ drop atHeld b
     held-back rest r = rw (r, flags-back 256 atHeld b (omega arith) (g .held)) (rejoin b atHeld 256 atRule refl)
 
-    rule-back : (rest : List ℕ) → rest ≡ drop atLeft b → le 4 (deductionNumber (deductionOf (numberAt b atRule 4))) ++ rest ≡ drop atRule b
+    rule-back : (rest : List ℕ) → rest ≡ drop atLeft b → toBytes 4 (deductionNumber (deductionOf (numberAt b atRule 4))) ++ rest ≡ drop atRule b
     rule-back rest r = rw (number-deduction (numberAt b atRule 4) (g .rule)) (number-back 4 atRule rest (omega arith) r)
 
     -- behind the last field there is nothing
-    last-back : le 4 (numberAt b atRetirements 4) ++ [] ≡ drop atRetirements b
+    last-back : toBytes 4 (numberAt b atRetirements 4) ++ [] ≡ drop atRetirements b
     last-back =
-        rw (append-nil, le-back 4 atRetirements b (omega arith) h)
+        rw (append-nil, to-back 4 atRetirements b (omega arith) h)
         (take-all 4 (drop atRetirements b) (omega (arith, length-drop atRetirements b)))
 
     -- bytes that the layout allows, read and stored again, are those bytes

@@ -7,9 +7,9 @@ use Prim.Native.Nat.{ℕ, zero, suc, _+_, _*_, _-_, _≤_, _<_}
 use native.Mathlib.Omega.{arith}
 use lib.ListN.{length, drop, getD, length-append}
 use lib.Seq.{sets}
-use Rattle.fields.specs.LittleEndian.{le}
+use Rattle.fields.specs.LittleEndian.{toBytes}
 use Rattle.fields.specs.Inner.{runOf, flags}
-use Rattle.fields.proofs.Laws.{length-le, length-run, length-flags, past, sets-append, sets-past, sets-within}
+use Rattle.fields.proofs.Laws.{length-to, length-run, length-flags, past, sets-append, sets-past, sets-within}
 use Rattle.layout.specs.InnerRows.{FieldRow, rowBytes}
 
 -- rows stored into bytes, each at its place
@@ -23,8 +23,8 @@ pub data Packed : ℕ → List FieldRow → ℕ → Type 0 where
   row : {at to : ℕ} {x : List ℕ} {rs : List FieldRow} (w : ℕ) → length x ≡ w → Packed (at + w) rs to → Packed at ((at, x) ∷ rs) to
 
 -- a number of `w` bytes, `n` numbers of `w` bytes each, and `n` flags
-pub number-row : {at to : ℕ} {rs : List FieldRow} (w v : ℕ) → Packed (at + w) rs to → Packed at ((at, le w v) ∷ rs) to
-number-row w v p = row w (length-le w v) p
+pub number-row : {at to : ℕ} {rs : List FieldRow} (w v : ℕ) → Packed (at + w) rs to → Packed at ((at, toBytes w v) ∷ rs) to
+number-row w v p = row w (length-to w v) p
 
 pub numbers-row : {at to : ℕ} {rs : List FieldRow} (w n : ℕ) (vs : List ℕ) → length vs ≡ n → Packed (at + n * w) rs to → Packed at ((at, runOf w vs) ∷ rs) to
 numbers-row w n vs e p = row {x = runOf w vs} (n * w) (rw (length-run, e)) p

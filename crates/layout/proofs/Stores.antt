@@ -11,9 +11,9 @@ use borrow.Author.Needs.{needs}
 use mir.Val.{boolByte}
 use lib.ListN.{length, getD, set, length-set}
 use lib.Seq.{sets, getD-set-same, getD-set-other}
-use Rattle.fields.specs.LittleEndian.{le}
+use Rattle.fields.specs.LittleEndian.{toBytes}
 use Rattle.fields.specs.Inner.{Below, runOf, flags}
-use Rattle.fields.proofs.Laws.{length-le, length-run, length-flags, sets-all, run-set, flags-set}
+use Rattle.fields.proofs.Laws.{length-to, length-run, length-flags, sets-all, run-set, flags-set}
 use Rattle.types.specs.declared.Deduction.{Deduction}
 use Rattle.types.specs.Types.{deductionNumber}
 use Rattle.cache_state.specs.Cache.{Cache}
@@ -43,13 +43,13 @@ pub as-flag : (f : Bool) → boolByte f ≡ flag f
 as-flag true = refl
 as-flag false = refl
 
-as-byte : (f : Bool) → le 1 (boolByte f) ≡ flag f ∷ []
-unfolding le
+as-byte : (f : Bool) → toBytes 1 (boolByte f) ≡ flag f ∷ []
+unfolding toBytes
 as-byte true = refl
 as-byte false = refl
 
 -- four numbers are the four that stand at its places
-run-four : (xs : List ℕ) → length xs ≡ 4 → le 8 (getD xs 0 0) ++ (le 8 (getD xs 1 0) ++ (le 8 (getD xs 2 0) ++ (le 8 (getD xs 3 0) ++ []))) ≡ runOf 8 xs
+run-four : (xs : List ℕ) → length xs ≡ 4 → toBytes 8 (getD xs 0 0) ++ (toBytes 8 (getD xs 1 0) ++ (toBytes 8 (getD xs 2 0) ++ (toBytes 8 (getD xs 3 0) ++ []))) ≡ runOf 8 xs
 unfolding runOf
 run-four [] e = absurd (omega arith)
 run-four (x ∷ []) e = absurd (omega arith)
@@ -59,10 +59,10 @@ run-four (x ∷ y ∷ z ∷ v ∷ []) e = refl
 run-four (x ∷ y ∷ z ∷ v ∷ u ∷ us) e = absurd (omega arith)
 
 -- the words of marks, stored one by one
-pub store-four : (at : ℕ) (b xs : List ℕ) → length xs ≡ 4 → stored b ((at, le 8 (getD xs 0 0)) ∷ (at + 8, le 8 (getD xs 1 0)) ∷ (at + 16, le 8 (getD xs 2 0)) ∷ (at + 24, le 8 (getD xs 3 0)) ∷ []) ≡ sets b at (runOf 8 xs)
+pub store-four : (at : ℕ) (b xs : List ℕ) → length xs ≡ 4 → stored b ((at, toBytes 8 (getD xs 0 0)) ∷ (at + 8, toBytes 8 (getD xs 1 0)) ∷ (at + 16, toBytes 8 (getD xs 2 0)) ∷ (at + 24, toBytes 8 (getD xs 3 0)) ∷ []) ≡ sets b at (runOf 8 xs)
 store-four at b xs e = packed-stored (four (getD xs 0 0) (getD xs 1 0) (getD xs 2 0) (getD xs 3 0)) b ∙ rw (run-four xs e)
   where
-    four : (x y z v : ℕ) → Packed at ((at, le 8 x) ∷ (at + 8, le 8 y) ∷ (at + 16, le 8 z) ∷ (at + 24, le 8 v) ∷ []) (at + 24 + 8)
+    four : (x y z v : ℕ) → Packed at ((at, toBytes 8 x) ∷ (at + 8, toBytes 8 y) ∷ (at + 16, toBytes 8 z) ∷ (at + 24, toBytes 8 v) ∷ []) (at + 24 + 8)
     four x y z v =
         let p : at + 8 + 8 ≡ at + 16 = omega arith in
         let q : at + 16 + 8 ≡ at + 24 = omega arith in
@@ -89,7 +89,7 @@ module _ {b : List ℕ} {c : Cache} (s : Coded b c) where
       sets (getD (fieldRows c) n (0, []) .1) off x ≡ y →
       rowBytes (replaced (fieldRows c) n y) ≡ bytesOf d →
       Fits d →
-      {left : List ℕ} → left ≡ sets b (at + off) x → Stands left d
+      {after : List ℕ} → after ≡ sets b (at + off) x → Stands after d
   unfolding bytesOf fieldRows
   row-stored n at off x y d l place k e z f is =
       stands
@@ -104,15 +104,15 @@ module _ {b : List ℕ} {c : Cache} (s : Coded b c) where
   number-stored :
       (n at w u v : ℕ) (d : Cache) →
       n < 27 →
-      getD (fieldRows c) n (0, []) ≡ (at, le w u) →
-      rowBytes (replaced (fieldRows c) n (le w v)) ≡ bytesOf d →
+      getD (fieldRows c) n (0, []) ≡ (at, toBytes w u) →
+      rowBytes (replaced (fieldRows c) n (toBytes w v)) ≡ bytesOf d →
       Fits d →
-      {left : List ℕ} → left ≡ sets b at (le w v) → Stands left d
+      {after : List ℕ} → after ≡ sets b at (toBytes w v) → Stands after d
   number-stored n at w u v d l e z f is =
-      row-stored n at 0 (le w v) (le w v) d l (ap (λ (r : FieldRow). r .0) e)
-      (rw e (omega (arith, length-le w v, length-le w u)))
-      (rw e (sets-all (le w u) (le w v) (length-le w v ∙ sym (length-le w u)))) z f
-      (is ∙ (let a : at ≡ at + 0 = omega arith in ap (λ (p : ℕ). sets b p (le w v)) a))
+      row-stored n at 0 (toBytes w v) (toBytes w v) d l (ap (λ (r : FieldRow). r .0) e)
+      (rw e (omega (arith, length-to w v, length-to w u)))
+      (rw e (sets-all (toBytes w u) (toBytes w v) (length-to w v ∙ sym (length-to w u)))) z f
+      (is ∙ (let a : at ≡ at + 0 = omega arith in ap (λ (p : ℕ). sets b p (toBytes w v)) a))
 
   entry-stored :
       (n at w : ℕ) (xs : List ℕ) (i v : ℕ) (d : Cache) →
@@ -121,141 +121,141 @@ module _ {b : List ℕ} {c : Cache} (s : Coded b c) where
       i < length xs →
       rowBytes (replaced (fieldRows c) n (runOf w (set xs i v))) ≡ bytesOf d →
       Fits d →
-      {left : List ℕ} → left ≡ sets b (at + i * w) (le w v) → Stands left d
+      {after : List ℕ} → after ≡ sets b (at + i * w) (toBytes w v) → Stands after d
   entry-stored n at w xs i v d l e k z f is =
-      row-stored n at (i * w) (le w v) (runOf w (set xs i v)) d l (ap (λ (r : FieldRow). r .0) e)
-      (rw e (omega (arith, length-le w v, length-run w xs, mul-le-mul-right w k)))
+      row-stored n at (i * w) (toBytes w v) (runOf w (set xs i v)) d l (ap (λ (r : FieldRow). r .0) e)
+      (rw e (omega (arith, length-to w v, length-run w xs, mul-le-mul-right w k)))
       (rw e (run-set w xs i v k)) z f is
 
   -- ---- each field: which row it is, and that the cache with the field so still fits, of which `search` looks up what is unchanged
 
-  pub capacity-stored : (v : ℕ) → v < 2 ^ 32 → {left : List ℕ} → left ≡ sets b atCapacity (le 4 v) → Stands left (withCapacity c v)
+  pub capacity-stored : (v : ℕ) → v < 2 ^ 32 → {after : List ℕ} → after ≡ sets b atCapacity (toBytes 4 v) → Stands after (withCapacity c v)
   unfolding bytesOf fieldRows
   capacity-stored v z is = number-stored 1 atCapacity 4 (c .k) v (withCapacity c v) (omega arith) refl refl (search needs) is
 
-  pub count-stored : (v : ℕ) → v < 2 ^ 16 → {left : List ℕ} → left ≡ sets b atCount (le 2 v) → Stands left (withCount c v)
+  pub count-stored : (v : ℕ) → v < 2 ^ 16 → {after : List ℕ} → after ≡ sets b atCount (toBytes 2 v) → Stands after (withCount c v)
   unfolding bytesOf fieldRows
   count-stored v z is = number-stored 2 atCount 2 (c .n) v (withCount c v) (omega arith) refl refl (search needs) is
 
-  pub closed-stored : (f : Bool) → {left : List ℕ} → left ≡ sets b atClosed (le 2 (boolByte f)) → Stands left (withClosed c f)
+  pub closed-stored : (f : Bool) → {after : List ℕ} → after ≡ sets b atClosed (toBytes 2 (boolByte f)) → Stands after (withClosed c f)
   unfolding bytesOf fieldRows
   closed-stored f is =
       number-stored 3 atClosed 2 (flag (c .closed)) (flag f) (withClosed c f) (omega arith) refl refl (search needs)
-      (is ∙ ap (λ (v : ℕ). sets b atClosed (le 2 v)) (as-flag f))
+      (is ∙ ap (λ (v : ℕ). sets b atClosed (toBytes 2 v)) (as-flag f))
 
-  pub steps-stored : (v : ℕ) → v < 2 ^ 32 → {left : List ℕ} → left ≡ sets b atSteps (le 4 v) → Stands left (withSteps c v)
+  pub steps-stored : (v : ℕ) → v < 2 ^ 32 → {after : List ℕ} → after ≡ sets b atSteps (toBytes 4 v) → Stands after (withSteps c v)
   unfolding bytesOf fieldRows
   steps-stored v z is = number-stored 4 atSteps 4 (c .steps) v (withSteps c v) (omega arith) refl refl (search needs) is
 
-  pub hits-stored : (v : ℕ) → v < 2 ^ 32 → {left : List ℕ} → left ≡ sets b atHits (le 4 v) → Stands left (withHits c v)
+  pub hits-stored : (v : ℕ) → v < 2 ^ 32 → {after : List ℕ} → after ≡ sets b atHits (toBytes 4 v) → Stands after (withHits c v)
   unfolding bytesOf fieldRows
   hits-stored v z is = number-stored 5 atHits 4 (c .hits) v (withHits c v) (omega arith) refl refl (search needs) is
 
-  pub loads-stored : (v : ℕ) → v < 2 ^ 32 → {left : List ℕ} → left ≡ sets b atLoads (le 4 v) → Stands left (withLoads c v)
+  pub loads-stored : (v : ℕ) → v < 2 ^ 32 → {after : List ℕ} → after ≡ sets b atLoads (toBytes 4 v) → Stands after (withLoads c v)
   unfolding bytesOf fieldRows
   loads-stored v z is = number-stored 6 atLoads 4 (c .loads) v (withLoads c v) (omega arith) refl refl (search needs) is
 
-  pub evictions-stored : (v : ℕ) → v < 2 ^ 32 → {left : List ℕ} → left ≡ sets b atEvictions (le 4 v) → Stands left (withEvictions c v)
+  pub evictions-stored : (v : ℕ) → v < 2 ^ 32 → {after : List ℕ} → after ≡ sets b atEvictions (toBytes 4 v) → Stands after (withEvictions c v)
   unfolding bytesOf fieldRows
   evictions-stored v z is = number-stored 7 atEvictions 4 (c .evictions) v (withEvictions c v) (omega arith) refl refl (search needs) is
 
-  pub dirty-evictions-stored : (v : ℕ) → v < 2 ^ 32 → {left : List ℕ} → left ≡ sets b atDirtyEvictions (le 4 v) → Stands left (withDirtyEvictions c v)
+  pub dirty-evictions-stored : (v : ℕ) → v < 2 ^ 32 → {after : List ℕ} → after ≡ sets b atDirtyEvictions (toBytes 4 v) → Stands after (withDirtyEvictions c v)
   unfolding bytesOf fieldRows
   dirty-evictions-stored v z is = number-stored 8 atDirtyEvictions 4 (c .dirtyevictions) v (withDirtyEvictions c v) (omega arith) refl refl (search needs) is
 
-  pub writebacks-stored : (v : ℕ) → v < 2 ^ 32 → {left : List ℕ} → left ≡ sets b atWritebacks (le 4 v) → Stands left (withWritebacks c v)
+  pub writebacks-stored : (v : ℕ) → v < 2 ^ 32 → {after : List ℕ} → after ≡ sets b atWritebacks (toBytes 4 v) → Stands after (withWritebacks c v)
   unfolding bytesOf fieldRows
   writebacks-stored v z is = number-stored 9 atWritebacks 4 (c .writebacks) v (withWritebacks c v) (omega arith) refl refl (search needs) is
 
-  pub flushes-stored : (v : ℕ) → v < 2 ^ 32 → {left : List ℕ} → left ≡ sets b atFlushes (le 4 v) → Stands left (withFlushes c v)
+  pub flushes-stored : (v : ℕ) → v < 2 ^ 32 → {after : List ℕ} → after ≡ sets b atFlushes (toBytes 4 v) → Stands after (withFlushes c v)
   unfolding bytesOf fieldRows
   flushes-stored v z is = number-stored 10 atFlushes 4 (c .flushes) v (withFlushes c v) (omega arith) refl refl (search needs) is
 
-  pub load-cost-stored : (v : ℕ) → v < 2 ^ 64 → {left : List ℕ} → left ≡ sets b atLoadCost (le 8 v) → Stands left (withLoadCost c v)
+  pub load-cost-stored : (v : ℕ) → v < 2 ^ 64 → {after : List ℕ} → after ≡ sets b atLoadCost (toBytes 8 v) → Stands after (withLoadCost c v)
   unfolding bytesOf fieldRows
   load-cost-stored v z is = number-stored 11 atLoadCost 8 (c .loadcost) v (withLoadCost c v) (omega arith) refl refl (search needs) is
 
-  pub write-cost-stored : (v : ℕ) → v < 2 ^ 64 → {left : List ℕ} → left ≡ sets b atWriteCost (le 8 v) → Stands left (withWriteCost c v)
+  pub write-cost-stored : (v : ℕ) → v < 2 ^ 64 → {after : List ℕ} → after ≡ sets b atWriteCost (toBytes 8 v) → Stands after (withWriteCost c v)
   unfolding bytesOf fieldRows
   write-cost-stored v z is = number-stored 12 atWriteCost 8 (c .writecost) v (withWriteCost c v) (omega arith) refl refl (search needs) is
 
-  pub dirty-stored : (ws : List ℕ) → length ws ≡ 4 → Below (2 ^ 64) ws → {left : List ℕ} → left ≡ sets b atDirty (runOf 8 ws) → Stands left (withDirty c ws)
+  pub dirty-stored : (ws : List ℕ) → length ws ≡ 4 → Below (2 ^ 64) ws → {after : List ℕ} → after ≡ sets b atDirty (runOf 8 ws) → Stands after (withDirty c ws)
   unfolding bytesOf fieldRows
   dirty-stored ws l z is =
       let e : length (runOf 8 ws) ≡ length (runOf 8 (c .dirty)) = omega (arith, length-run 8 ws, length-run 8 (c .dirty), s .fits .whole .dirty) in
       row-stored 13 atDirty 0 (runOf 8 ws) (runOf 8 ws) (withDirty c ws) (omega arith) refl (omega arith) (sets-all (runOf 8 (c .dirty)) (runOf 8 ws) e) refl (search needs) is
 
-  pub load-credit-stored : (i v : ℕ) → i < 256 → v < 2 ^ 64 → {left : List ℕ} → left ≡ sets b (atLoadCredits + i * 8) (le 8 v) → Stands left (withLoadCredit c i v)
+  pub load-credit-stored : (i v : ℕ) → i < 256 → v < 2 ^ 64 → {after : List ℕ} → after ≡ sets b (atLoadCredits + i * 8) (toBytes 8 v) → Stands after (withLoadCredit c i v)
   unfolding bytesOf fieldRows
   load-credit-stored i v l z is =
       let u : Numbers (2 ^ 64) (set (c .loadcredit) i v) = with-one (2 ^ 64) (c .loadcredit) i v (s .fits .whole .loadcredit) (s .fits .loadcredit) l z in
       entry-stored 14 atLoadCredits 8 (c .loadcredit) i v (withLoadCredit c i v) (omega arith) refl (omega (arith, s .fits .whole .loadcredit)) refl (search needs) is
 
-  pub write-credit-stored : (i v : ℕ) → i < 256 → v < 2 ^ 64 → {left : List ℕ} → left ≡ sets b (atWriteCredits + i * 8) (le 8 v) → Stands left (withWriteCredit c i v)
+  pub write-credit-stored : (i v : ℕ) → i < 256 → v < 2 ^ 64 → {after : List ℕ} → after ≡ sets b (atWriteCredits + i * 8) (toBytes 8 v) → Stands after (withWriteCredit c i v)
   unfolding bytesOf fieldRows
   write-credit-stored i v l z is =
       let u : Numbers (2 ^ 64) (set (c .writecredit) i v) = with-one (2 ^ 64) (c .writecredit) i v (s .fits .whole .writecredit) (s .fits .writecredit) l z in
       entry-stored 15 atWriteCredits 8 (c .writecredit) i v (withWriteCredit c i v) (omega arith) refl (omega (arith, s .fits .whole .writecredit)) refl (search needs) is
 
-  pub minutes-stored : (i v : ℕ) → i < 256 → v < 2 ^ 32 → {left : List ℕ} → left ≡ sets b (atMinutes + i * 4) (le 4 v) → Stands left (withMinutes c i v)
+  pub minutes-stored : (i v : ℕ) → i < 256 → v < 2 ^ 32 → {after : List ℕ} → after ≡ sets b (atMinutes + i * 4) (toBytes 4 v) → Stands after (withMinutes c i v)
   unfolding bytesOf fieldRows
   minutes-stored i v l z is =
       let u : Numbers (2 ^ 32) (set (c .minutes) i v) = with-one (2 ^ 32) (c .minutes) i v (s .fits .whole .minutes) (s .fits .minutes) l z in
       entry-stored 16 atMinutes 4 (c .minutes) i v (withMinutes c i v) (omega arith) refl (omega (arith, s .fits .whole .minutes)) refl (search needs) is
 
-  pub item-loads-stored : (i v : ℕ) → i < 256 → v < 2 ^ 32 → {left : List ℕ} → left ≡ sets b (atItemLoads + i * 4) (le 4 v) → Stands left (withItemLoads c i v)
+  pub item-loads-stored : (i v : ℕ) → i < 256 → v < 2 ^ 32 → {after : List ℕ} → after ≡ sets b (atItemLoads + i * 4) (toBytes 4 v) → Stands after (withItemLoads c i v)
   unfolding bytesOf fieldRows
   item-loads-stored i v l z is =
       let u : Numbers (2 ^ 32) (set (c .itemloads) i v) = with-one (2 ^ 32) (c .itemloads) i v (s .fits .whole .itemloads) (s .fits .itemloads) l z in
       entry-stored 17 atItemLoads 4 (c .itemloads) i v (withItemLoads c i v) (omega arith) refl (omega (arith, s .fits .whole .itemloads)) refl (search needs) is
 
-  pub item-writebacks-stored : (i v : ℕ) → i < 256 → v < 2 ^ 32 → {left : List ℕ} → left ≡ sets b (atItemWritebacks + i * 4) (le 4 v) → Stands left (withItemWritebacks c i v)
+  pub item-writebacks-stored : (i v : ℕ) → i < 256 → v < 2 ^ 32 → {after : List ℕ} → after ≡ sets b (atItemWritebacks + i * 4) (toBytes 4 v) → Stands after (withItemWritebacks c i v)
   unfolding bytesOf fieldRows
   item-writebacks-stored i v l z is =
       let u : Numbers (2 ^ 32) (set (c .itemwritebacks) i v) = with-one (2 ^ 32) (c .itemwritebacks) i v (s .fits .whole .itemwritebacks) (s .fits .itemwritebacks) l z in
       entry-stored 18 atItemWritebacks 4 (c .itemwritebacks) i v (withItemWritebacks c i v) (omega arith) refl (omega (arith, s .fits .whole .itemwritebacks)) refl (search needs) is
 
-  pub item-load-cost-stored : (i v : ℕ) → i < 256 → v < 2 ^ 16 → {left : List ℕ} → left ≡ sets b (atItemLoadCosts + i * 2) (le 2 v) → Stands left (withItemLoadCost c i v)
+  pub item-load-cost-stored : (i v : ℕ) → i < 256 → v < 2 ^ 16 → {after : List ℕ} → after ≡ sets b (atItemLoadCosts + i * 2) (toBytes 2 v) → Stands after (withItemLoadCost c i v)
   unfolding bytesOf fieldRows
   item-load-cost-stored i v l z is =
       let u : Numbers (2 ^ 16) (set (c .load) i v) = with-one (2 ^ 16) (c .load) i v (s .fits .whole .load) (s .fits .load) l z in
       entry-stored 19 atItemLoadCosts 2 (c .load) i v (withItemLoadCost c i v) (omega arith) refl (omega (arith, s .fits .whole .load)) refl (search needs) is
 
-  pub item-write-cost-stored : (i v : ℕ) → i < 256 → v < 2 ^ 16 → {left : List ℕ} → left ≡ sets b (atItemWriteCosts + i * 2) (le 2 v) → Stands left (withItemWriteCost c i v)
+  pub item-write-cost-stored : (i v : ℕ) → i < 256 → v < 2 ^ 16 → {after : List ℕ} → after ≡ sets b (atItemWriteCosts + i * 2) (toBytes 2 v) → Stands after (withItemWriteCost c i v)
   unfolding bytesOf fieldRows
   item-write-cost-stored i v l z is =
       let u : Numbers (2 ^ 16) (set (c .write) i v) = with-one (2 ^ 16) (c .write) i v (s .fits .whole .write) (s .fits .write) l z in
       entry-stored 20 atItemWriteCosts 2 (c .write) i v (withItemWriteCost c i v) (omega arith) refl (omega (arith, s .fits .whole .write)) refl (search needs) is
 
-  pub blocks-stored : (i v : ℕ) → i < 256 → v < 2 ^ 8 → {left : List ℕ} → left ≡ sets b (atBlocks + i) (le 1 v) → Stands left (withBlocks c i v)
+  pub blocks-stored : (i v : ℕ) → i < 256 → v < 2 ^ 8 → {after : List ℕ} → after ≡ sets b (atBlocks + i) (toBytes 1 v) → Stands after (withBlocks c i v)
   unfolding bytesOf fieldRows
   blocks-stored i v l z is =
       let u : Numbers (2 ^ 8) (set (c .blocks) i v) = with-one (2 ^ 8) (c .blocks) i v (s .fits .whole .blocks) (s .fits .blocks) l z in
-      entry-stored 21 atBlocks 1 (c .blocks) i v (withBlocks c i v) (omega arith) refl (omega (arith, s .fits .whole .blocks)) refl (search needs) (is ∙ (let e : i ≡ i * 1 = omega arith in ap (λ (p : ℕ). sets b (atBlocks + p) (le 1 v)) e))
+      entry-stored 21 atBlocks 1 (c .blocks) i v (withBlocks c i v) (omega arith) refl (omega (arith, s .fits .whole .blocks)) refl (search needs) (is ∙ (let e : i ≡ i * 1 = omega arith in ap (λ (p : ℕ). sets b (atBlocks + p) (toBytes 1 v)) e))
 
-  pub held-stored : (i : ℕ) (f : Bool) → i < 256 → {left : List ℕ} → left ≡ sets b (atHeld + i) (le 1 (boolByte f)) → Stands left (withHeld c i f)
+  pub held-stored : (i : ℕ) (f : Bool) → i < 256 → {after : List ℕ} → after ≡ sets b (atHeld + i) (toBytes 1 (boolByte f)) → Stands after (withHeld c i f)
   unfolding bytesOf fieldRows
   held-stored i f l is =
       let e : length (set (c .held) i f) ≡ 256 = length-set (c .held) i f ∙ s .fits .whole .held in
       row-stored 22 atHeld i (flag f ∷ []) (flags (set (c .held) i f)) (withHeld c i f) (omega arith) refl (omega (arith, length-flags (c .held), s .fits .whole .held))
       (flags-set (c .held) i f) refl (search needs) (is ∙ ap (sets b (atHeld + i)) (as-byte f))
 
-  pub rule-stored : (r : Deduction) {v : ℕ} → v ≡ deductionNumber r → {left : List ℕ} → left ≡ sets b atRule (le 4 v) → Stands left (withRule c r)
+  pub rule-stored : (r : Deduction) {v : ℕ} → v ≡ deductionNumber r → {after : List ℕ} → after ≡ sets b atRule (toBytes 4 v) → Stands after (withRule c r)
   unfolding bytesOf fieldRows
   rule-stored r e is =
       number-stored 23 atRule 4 (deductionNumber (c .rule)) (deductionNumber r) (withRule c r) (omega arith) refl refl (search needs)
-      (is ∙ ap (λ (v : ℕ). sets b atRule (le 4 v)) e)
+      (is ∙ ap (λ (v : ℕ). sets b atRule (toBytes 4 v)) e)
 
-  pub left-stored : (ws : List ℕ) → length ws ≡ 4 → Below (2 ^ 64) ws → {left : List ℕ} → left ≡ sets b atLeft (runOf 8 ws) → Stands left (withLeft c ws)
+  pub left-stored : (ws : List ℕ) → length ws ≡ 4 → Below (2 ^ 64) ws → {after : List ℕ} → after ≡ sets b atLeft (runOf 8 ws) → Stands after (withLeft c ws)
   unfolding bytesOf fieldRows
   left-stored ws l z is =
       let e : length (runOf 8 ws) ≡ length (runOf 8 (c .left)) = omega (arith, length-run 8 ws, length-run 8 (c .left), s .fits .whole .left) in
       row-stored 24 atLeft 0 (runOf 8 ws) (runOf 8 ws) (withLeft c ws) (omega arith) refl (omega arith) (sets-all (runOf 8 (c .left)) (runOf 8 ws) e) refl (search needs) is
 
-  pub arrivals-stored : (v : ℕ) → v < 2 ^ 32 → {left : List ℕ} → left ≡ sets b atArrivals (le 4 v) → Stands left (withArrivals c v)
+  pub arrivals-stored : (v : ℕ) → v < 2 ^ 32 → {after : List ℕ} → after ≡ sets b atArrivals (toBytes 4 v) → Stands after (withArrivals c v)
   unfolding bytesOf fieldRows
   arrivals-stored v z is = number-stored 25 atArrivals 4 (c .arrivals) v (withArrivals c v) (omega arith) refl refl (search needs) is
 
-  pub retirements-stored : (v : ℕ) → v < 2 ^ 32 → {left : List ℕ} → left ≡ sets b atRetirements (le 4 v) → Stands left (withRetirements c v)
+  pub retirements-stored : (v : ℕ) → v < 2 ^ 32 → {after : List ℕ} → after ≡ sets b atRetirements (toBytes 4 v) → Stands after (withRetirements c v)
   unfolding bytesOf fieldRows
   retirements-stored v z is = number-stored 26 atRetirements 4 (c .retirements) v (withRetirements c v) (omega arith) refl refl (search needs) is

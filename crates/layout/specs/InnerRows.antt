@@ -3,7 +3,7 @@
 use mathlib.Core.{Path._≡_, Bool.{Bool, cond}, List.{List, [], _∷_, _++_}}
 use Prim.Native.Nat.{ℕ, _^_, _<_}
 use lib.ListN.{length}
-use Rattle.fields.specs.LittleEndian.{le}
+use Rattle.fields.specs.LittleEndian.{toBytes}
 use Rattle.fields.specs.Inner.{runOf, flags, Below}
 use Rattle.types.specs.Types.{deductionNumber}
 use Rattle.cache_state.specs.Cache.{Cache}
@@ -109,19 +109,19 @@ rowBytes (r ∷ rs) = r .1 ++ rowBytes rs
 
 unfoldable pub fieldRows : Cache → List FieldRow
 fieldRows c =
-    (atFormat, le 4 format)
-    ∷ (atCapacity, le 4 (c .k))
-    ∷ (atCount, le 2 (c .n))
-    ∷ (atClosed, le 2 (flag (c .closed)))
-    ∷ (atSteps, le 4 (c .steps))
-    ∷ (atHits, le 4 (c .hits))
-    ∷ (atLoads, le 4 (c .loads))
-    ∷ (atEvictions, le 4 (c .evictions))
-    ∷ (atDirtyEvictions, le 4 (c .dirtyevictions))
-    ∷ (atWritebacks, le 4 (c .writebacks))
-    ∷ (atFlushes, le 4 (c .flushes))
-    ∷ (atLoadCost, le 8 (c .loadcost))
-    ∷ (atWriteCost, le 8 (c .writecost))
+    (atFormat, toBytes 4 format)
+    ∷ (atCapacity, toBytes 4 (c .k))
+    ∷ (atCount, toBytes 2 (c .n))
+    ∷ (atClosed, toBytes 2 (flag (c .closed)))
+    ∷ (atSteps, toBytes 4 (c .steps))
+    ∷ (atHits, toBytes 4 (c .hits))
+    ∷ (atLoads, toBytes 4 (c .loads))
+    ∷ (atEvictions, toBytes 4 (c .evictions))
+    ∷ (atDirtyEvictions, toBytes 4 (c .dirtyevictions))
+    ∷ (atWritebacks, toBytes 4 (c .writebacks))
+    ∷ (atFlushes, toBytes 4 (c .flushes))
+    ∷ (atLoadCost, toBytes 8 (c .loadcost))
+    ∷ (atWriteCost, toBytes 8 (c .writecost))
     ∷ (atDirty, runOf 8 (c .dirty))
     ∷ (atLoadCredits, runOf 8 (c .loadcredit))
     ∷ (atWriteCredits, runOf 8 (c .writecredit))
@@ -132,10 +132,10 @@ fieldRows c =
     ∷ (atItemWriteCosts, runOf 2 (c .write))
     ∷ (atBlocks, runOf 1 (c .blocks))
     ∷ (atHeld, flags (c .held))
-    ∷ (atRule, le 4 (deductionNumber (c .rule)))
+    ∷ (atRule, toBytes 4 (deductionNumber (c .rule)))
     ∷ (atLeft, runOf 8 (c .left))
-    ∷ (atArrivals, le 4 (c .arrivals))
-    ∷ (atRetirements, le 4 (c .retirements))
+    ∷ (atArrivals, toBytes 4 (c .arrivals))
+    ∷ (atRetirements, toBytes 4 (c .retirements))
     ∷ []
 
 -- the bytes of a cache

@@ -4,7 +4,7 @@
 use mathlib.Core.{Path._≡_, List.List, Bool.not}
 use Prim.Native.Nat.{ℕ, _+_, _<_}
 use lib.{Dec.eqb, ListN.{take, drop, getD, length}}
-use Rattle.fields.specs.LittleEndian.{un, unrun, unflags}
+use Rattle.fields.specs.LittleEndian.{fromBytes, runFromBytes, flagsFromBytes}
 use Rattle.types.specs.Types.{deductionOf}
 use Rattle.cache_state.specs.Cache.{Cache, Valid}
 
@@ -17,7 +17,7 @@ format = 4
 
 -- the number of `w` bytes at the place `at`
 abbrev pub numberAt : List ℕ → ℕ → ℕ → ℕ
-numberAt b at w = un (take w (drop at b))
+numberAt b at w = fromBytes (take w (drop at b))
 
 -- The same, behind the items' fields. It has a name of its own for the prover's sake: two such numbers are then told apart by their
 -- places, and nothing counts up to them.
@@ -26,7 +26,7 @@ numberFar b at w = numberAt b at w
 
 -- `n` numbers of `w` bytes each, from the place `at` on
 abbrev pub numbersAt : List ℕ → ℕ → ℕ → ℕ → List ℕ
-numbersAt b at n w = unrun w n (drop at b)
+numbersAt b at n w = runFromBytes w n (drop at b)
 
 -- the cache that bytes stand for, each field read at its place
 abbrev pub cacheOf : List ℕ → Cache
@@ -52,7 +52,7 @@ cacheOf b = record {
   load = numbersAt b 7256 256 2;
   write = numbersAt b 7768 256 2;
   blocks = numbersAt b 8280 256 1;
-  held = unflags 256 (drop 8536 b);
+  held = flagsFromBytes 256 (drop 8536 b);
   rule = deductionOf (numberAt b 8792 4);
   left = numbersAt b 8796 4 8;
   arrivals = numberFar b 8828 4;

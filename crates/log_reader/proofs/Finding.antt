@@ -23,7 +23,7 @@ use Rattle.season_log.specs.Log.{noValues, stepText}
 use Rattle.season_log.proofs.Lines.{under-same}
 use Rattle.season_log.proofs.Writing.{old-kind, end-new, end-old}
 use Rattle.log_reader.specs.declared.Found.{Found}
-use Rattle.log_reader.specs.Inner.{part, DigitsAt, NumberAt, Stands, EndAt, Begins, FoundStep, FoundIn}
+use Rattle.log_reader.specs.Inner.{part, DigitsAt, NumberAt, TextAt, EndAt, Begins, FoundStep, FoundIn}
 
 -- ## Digits found
 
@@ -121,7 +121,7 @@ module _ {text : List ℕ} {from v end : ℕ} (d : DigitsAt text from v end) whe
 
 -- the text t stands at a place, and u behind it
 stands-then :
-    (text : List ℕ) (at next : ℕ) (t u : List ℕ) → Stands text at t → at + length t ≡ next → Stands text next u → Stands text at (t ++ u)
+    (text : List ℕ) (at next : ℕ) (t u : List ℕ) → TextAt text at t → at + length t ≡ next → TextAt text next u → TextAt text at (t ++ u)
 stands-then text at next t u h e k =
     ap (λ (n : ℕ). take n (drop at text)) (length-append t u)
     ∙ take-add (length t) (length u) (drop at text)
@@ -129,15 +129,15 @@ stands-then text at next t u h e k =
     ∙ ap (λ (n : ℕ). t ++ take (length u) (drop n text)) e
     ∙ ap (λ (s : List ℕ). t ++ s) k
 
-pub stands-within : (text : List ℕ) (at : ℕ) (t : List ℕ) → Stands text at t → length t ≤ length text - at
+pub stands-within : (text : List ℕ) (at : ℕ) (t : List ℕ) → TextAt text at t → length t ≤ length text - at
 stands-within text at t h = omega (arith, ap length h, length-take (length t) (drop at text), length-drop at text)
 
 -- a byte stands where it was found
 pub stands-byte :
-    (text : List ℕ) (at b : ℕ) (found : Bool) → found ≡ cond (ltb at (length text)) (eqb (getD text at 0) b) false → not found ≡ false → Stands text at (b ∷ [])
+    (text : List ℕ) (at b : ℕ) (found : Bool) → found ≡ cond (ltb at (length text)) (eqb (getD text at 0) b) false → not found ≡ false → TextAt text at (b ∷ [])
 stands-byte text at b found e k = go (ltb at (length text)) refl (sym e ∙ not-false found k)
   where
-    go : (t : Bool) → ltb at (length text) ≡ t → cond t (eqb (getD text at 0) b) false ≡ true → Stands text at (b ∷ [])
+    go : (t : Bool) → ltb at (length text) ≡ t → cond t (eqb (getD text at 0) b) false ≡ true → TextAt text at (b ∷ [])
     go true e h =
         ap (λ (s : List ℕ). take 1 s) (drop-cons text at 0 (ltb-true at (length text) e))
         ∙ ap (λ (x : ℕ). x ∷ []) (eqb-true (getD text at 0) b h)
@@ -148,7 +148,7 @@ module _ {text : List ℕ} {from v end : ℕ} (n : NumberAt text from v end) (so
   digits-count =
       omega (arith, n .onward, ap length (n .number some), part-length text from end (n .onward) (n .within))
 
-  stands-number : Stands text from (digitsOf v)
+  stands-number : TextAt text from (digitsOf v)
   stands-number =
       let e : length (digitsOf v) ≡ end - from = omega (arith, digits-count) in
       ap (λ (k : ℕ). take k (drop from text)) e ∙ n .number some
@@ -158,11 +158,11 @@ module _ {text : List ℕ} {from v end : ℕ} (n : NumberAt text from v end) (so
 pub no-end : (heading : ℕ) (text : List ℕ) (at : ℕ) → EndAt heading text at 0
 no-end heading text at = λ some. absurd (omega arith)
 
-pub end-feed : (heading : ℕ) (text : List ℕ) (at : ℕ) → (heading ≡ 1 → ⊥) → Stands text at (textOf "\n") → EndAt heading text at (at + 1)
+pub end-feed : (heading : ℕ) (text : List ℕ) (at : ℕ) → (heading ≡ 1 → ⊥) → TextAt text at (textOf "\n") → EndAt heading text at (at + 1)
 end-feed heading text at n h =
     λ some.
     let e = sym (end-old heading n) in
-    (ap (λ (t : List ℕ). at + length t) e, subst (Stands text at) e h)
+    (ap (λ (t : List ℕ). at + length t) e, subst (TextAt text at) e h)
 
 pub end-dashes :
     (heading : ℕ) (text : List ℕ) (at : ℕ) → heading ≡ 1 → sameText (part at (at + 7) text) (textOf " - - -\n") ≡ true → EndAt heading text at (at + 7)
@@ -170,9 +170,9 @@ end-dashes heading text at f h =
     λ some.
     let e = sym (end-new heading f) in
     let seven : at + 7 - at ≡ 7 = omega arith in
-    let here : Stands text at (textOf " - - -\n") =
+    let here : TextAt text at (textOf " - - -\n") =
     ap (λ (n : ℕ). take n (drop at text)) (sym seven) ∙ same-true (part at (at + 7) text) (textOf " - - -\n") h in
-    (ap (λ (t : List ℕ). at + length t) e, subst (Stands text at) e here)
+    (ap (λ (t : List ℕ). at + length t) e, subst (TextAt text at) e here)
 
 -- ## A line found
 
@@ -190,8 +190,8 @@ module _ (heading : ℕ) (text : List ℕ) where
       NumberAt text 2 v end →
       2 < end →
       v ≤ 255 →
-      Stands text end (32 ∷ []) →
-      Stands text (end + 1) (45 ∷ []) →
+      TextAt text end (32 ∷ []) →
+      TextAt text (end + 1) (45 ∷ []) →
       EndAt heading text (end + 2) bytes →
       0 < bytes →
       Begins heading text (Read v) bytes
@@ -199,10 +199,10 @@ module _ (heading : ℕ) (text : List ℕ) where
   read-begins v end bytes kind item some small space dash ends more =
       let feed = ends more in
       let last : List ℕ = textOf " -" ++ noValues heading in
-      let close : Stands text end last =
+      let close : TextAt text end last =
       stands-then text end (end + 1) (32 ∷ []) (45 ∷ noValues heading) space refl
       (stands-then text (end + 1) (end + 2) (45 ∷ []) (noValues heading) dash (omega arith) (feed .1)) in
-      let line : Stands text 0 (stepText heading (Read v)) =
+      let line : TextAt text 0 (stepText heading (Read v)) =
       stands-then text 0 2 (textOf "R ") (digitsOf v ++ last) kind refl
       (stands-then text 2 end (digitsOf v) last (stands-number item some) (digits-count item some) close) in
       let count : bytes ≡ length (stepText heading (Read v)) =
@@ -219,7 +219,7 @@ module _ (heading : ℕ) (text : List ℕ) where
       NumberAt text 2 v space →
       2 < space →
       v ≤ 255 →
-      Stands text space (32 ∷ []) →
+      TextAt text space (32 ∷ []) →
       NumberAt text (space + 1) m end →
       space + 1 < end →
       m ≤ 1440 →
@@ -230,9 +230,9 @@ module _ (heading : ℕ) (text : List ℕ) where
   write-begins v space m end bytes kind item some small between minutes more few ends all =
       let feed = ends all in
       let last : List ℕ = digitsOf m ++ noValues heading in
-      let close : Stands text (space + 1) last =
+      let close : TextAt text (space + 1) last =
       stands-then text (space + 1) end (digitsOf m) (noValues heading) (stands-number minutes more) (digits-count minutes more) (feed .1) in
-      let line : Stands text 0 (stepText heading (Write v m)) =
+      let line : TextAt text 0 (stepText heading (Write v m)) =
       stands-then text 0 2 (textOf "W ") (digitsOf v ++ (textOf " " ++ last)) kind refl
       (stands-then text 2 space (digitsOf v) (textOf " " ++ last) (stands-number item some) (digits-count item some)
       (stands-then text space (space + 1) (textOf " ") last between refl close)) in
@@ -248,7 +248,7 @@ module _ (heading : ℕ) (text : List ℕ) where
   unfolding stepText
   flush-begins bytes h ends all =
       let feed = ends all in
-      let line : Stands text 0 (stepText heading Flush) =
+      let line : TextAt text 0 (stepText heading Flush) =
       stands-then text 0 5 (textOf "L - -") (noValues heading) (same-true (take 5 text) (textOf "L - -") h) refl (feed .1) in
       let count : bytes ≡ length (stepText heading Flush) = omega (arith, feed .0) in
       record {

@@ -14,8 +14,8 @@ use Rattle.decimal.specs.Decimal.{textOf, digitsOf}
 use Rattle.decimal.specs.InnerPages.{textOver}
 use Rattle.decimal.proofs.Laws.{digits-some, page-all, page-none}
 use Rattle.decimal.proofs.Pages.{overAt, over-start, over-join}
-use Rattle.fields.specs.LittleEndian.{le}
-use Rattle.fields.proofs.Laws.{length-le, sets-then}
+use Rattle.fields.specs.LittleEndian.{toBytes}
+use Rattle.fields.proofs.Laws.{length-to, sets-then}
 use Rattle.types.specs.declared.Refusal.{Refusal}
 use Rattle.types.specs.declared.Refusal.the-variants.{Malformed, Heading, ShortBuffer, InputTooLong}
 use Rattle.types.specs.declared.Step.{Step}
@@ -188,13 +188,13 @@ list-join (s ∷ xs) ys = rw (list-join xs ys) (simp append-assoc)
 -- three numbers, stored one after another
 pub three-put :
     (x y z at : ℕ) (l a b c : List ℕ) →
-    a ≡ sets l at (le 4 x) →
-    b ≡ sets a (at + 4) (le 4 y) →
-    c ≡ sets b (at + 8) (le 4 z) →
+    a ≡ sets l at (toBytes 4 x) →
+    b ≡ sets a (at + 4) (toBytes 4 y) →
+    c ≡ sets b (at + 8) (toBytes 4 z) →
     c ≡ sets l at (threeNumbers x y z)
 three-put x y z at l a b c ea eb ec =
-    sets-then l a c (le 4 x) (le 4 y ++ le 4 z) at (at + 4) ea (omega (arith, length-le 4 x))
-    (sets-then a b c (le 4 y) (le 4 z) (at + 4) (at + 8) eb (omega (arith, length-le 4 y)) ec)
+    sets-then l a c (toBytes 4 x) (toBytes 4 y ++ toBytes 4 z) at (at + 4) ea (omega (arith, length-to 4 x))
+    (sets-then a b c (toBytes 4 y) (toBytes 4 z) (at + 4) (at + 8) eb (omega (arith, length-to 4 y)) ec)
 
 -- and the six of a step
 pub numbers-put :
@@ -205,7 +205,7 @@ pub numbers-put :
 numbers-put n at l a b ea eb =
     let first = threeNumbers (n .kind) (n .item) (n .minutes) in
     let second = threeNumbers (n .blocks) (n .load) (n .write) in
-    let twelve : length first ≡ 12 = simp (length-append, length-le) (omega arith) in
+    let twelve : length first ≡ 12 = simp (length-append, length-to) (omega arith) in
     let all : first ++ second ≡ numbersOnto n [] = simp (append-assoc, append-nil) in
     sets-then l a b first second at (at + 12) ea (omega (arith, twelve)) eb ∙ ap (sets l at) all
 
@@ -443,10 +443,10 @@ read-steps (steps f ss) old after heading n h = (ss, ap (λ (g : ℕ). steps g s
 read-steps (fault q) old after heading n h = absurd h
 
 -- the answer, and the list then
-abbrev pub Answered : List ℕ → List ℕ → ReadAnswer → List ℕ → Type 0
-Answered text list answer after = (answer ≡ readAnswer (readLog text) list) × (after ≡ readList (readLog text) list)
+abbrev pub ReadAs : List ℕ → List ℕ → ReadAnswer → List ℕ → Type 0
+ReadAs text list answer after = (answer ≡ readAnswer (readLog text) list) × (after ≡ readList (readLog text) list)
 
-pub answer-long : (text list : List ℕ) → 65536 < length text → Answered text list (Not (InputTooLong 0)) list
+pub answer-long : (text list : List ℕ) → 65536 < length text → ReadAs text list (Not (InputTooLong 0)) list
 unfolding readLog
 answer-long text list h = rw (lt-leb (length text) 65536 h) (refl, refl)
 
@@ -461,7 +461,7 @@ module _
     unfolding readLog
     log-is = rw (le-leb (length text) 65536 short)
 
-    pub answer-refused : (r : Refusal) → got ≡ Not r → Answered text list (Not r) list
+    pub answer-refused : (r : Refusal) → got ≡ Not r → ReadAs text list (Not r) list
     answer-refused r e =
         let is : readLog text ≡ fault r = log-is ∙ read-fault (readTable (split 10 text)) old after r (rw e at read) in
         rw is (refl, refl)
@@ -479,13 +479,13 @@ module _
       pub answer-few : n ≤ 10922
       answer-few = found .2 .few
 
-      pub answer-short : length list < 24 * n → Answered text list (Not (ShortBuffer 0)) list
+      pub answer-short : length list < 24 * n → ReadAs text list (Not (ShortBuffer 0)) list
       answer-short h =
           let less : length list < length (listOf (found .0)) = omega (arith, size) in
           rw (found .1) (rw (lt-leb (length (listOf (found .0))) (length list) less), sym (page-none (listOf (found .0)) list less))
 
       pub answer-stored :
-          (new : List ℕ) → 24 * n ≤ length list → new ≡ textOver (take (24 * n) after) list → Answered text list (Steps heading n) new
+          (new : List ℕ) → 24 * n ≤ length list → new ≡ textOver (take (24 * n) after) list → ReadAs text list (Steps heading n) new
       answer-stored new h put =
           let ss = found .0 in
           let fit : length (listOf ss) ≤ length list = omega (arith, size) in

@@ -3,7 +3,7 @@ use mathlib.Core.{Path._≡_, Bool.{true, cond}, List.{List, _++_}}
 use Prim.Native.Nat.{ℕ, _+_, _*_, _-_, _≤_, _<_}
 use lib.{ListN.{length, take, drop}, Dec.ltb}
 use Rattle.decimal.specs.{Decimal.{allDigits, valueOf, digitsOf}, InnerPages.textOver}
-use Rattle.fields.specs.LittleEndian.{le}
+use Rattle.fields.specs.LittleEndian.{toBytes}
 use Rattle.types.specs.declared.{Step.Step, Refusal.{Refusal, the-variants.Malformed}}
 use Rattle.types.specs.Types.{numbersFrom, numbersOf}
 use Rattle.line_fields.specs.{Fields.{split, fieldsOf}, Inner.before}
@@ -32,12 +32,12 @@ pub record NumberAt (text : List ℕ) (from value end : ℕ) : Type 0 where
   pub number : from < end → part from end text ≡ digitsOf value
 
 -- the text t stands at a place
-abbrev pub Stands : List ℕ → ℕ → List ℕ → Type 0
-Stands text at t = take (length t) (drop at text) ≡ t
+abbrev pub TextAt : List ℕ → ℕ → List ℕ → Type 0
+TextAt text at t = take (length t) (drop at text) ≡ t
 
 -- the end of a line that has none of the three last values, up to a place, unless that is 0
 abbrev pub EndAt : ℕ → List ℕ → ℕ → ℕ → Type 0
-EndAt heading text at end = 0 < end → (end ≡ at + length (noValues heading)) × Stands text at (noValues heading)
+EndAt heading text at end = 0 < end → (end ≡ at + length (noValues heading)) × TextAt text at (noValues heading)
 
 -- a text begins with the line that the writer writes of a step in range
 pub record Begins (heading : ℕ) (text : List ℕ) (s : Step) (bytes : ℕ) : Type 0 where
@@ -75,7 +75,7 @@ FirstIs line s (NextRefused r) = (rest : Logged) → lineAhead line rest ≡ fau
 
 -- three numbers as bytes
 abbrev pub threeNumbers : ℕ → ℕ → ℕ → List ℕ
-threeNumbers a b c = le 4 a ++ (le 4 b ++ le 4 c)
+threeNumbers a b c = toBytes 4 a ++ (toBytes 4 b ++ toBytes 4 c)
 
 -- Where a line begins: so many steps that were read stand at the start of the list, which was `old`, and what is left of the text follows
 -- them. A step took at least six bytes.

@@ -22,7 +22,7 @@ use Rattle.log_reader.proofs.Reading.{step-long}
 use Rattle.report.specs.declared.Written.{Written, the-variants.{Text, Refused}}
 use Rattle.report.specs.Report.{Put}
 use Rattle.report.proofs.Laws.{put-short, put-whole}
-use Rattle.printed.specs.Printed.{Answered}
+use Rattle.printed.specs.Printed.{Yields}
 use Rattle.printed.specs.Inner.{OutcomeFits}
 use Rattle.log_text.specs.Answer.{readOutcome, logOutcome}
 
@@ -78,14 +78,14 @@ pub not-read :
     (s list page : List ℕ) (r : Refusal) →
     length list ≡ 262128 →
     NotRead r ≡ readAnswer (readLog s) list →
-    Answered (logOutcome s) page (Refused r) page
+    Yields (logOutcome s) page (Refused r) page
 unfolding logOutcome
 not-read s list page r size e = go (readLog s) refl e
   where
-    go : (l : Logged) → readLog s ≡ l → NotRead r ≡ readAnswer l list → Answered (readOutcome s l) page (Refused r) page
+    go : (l : Logged) → readLog s ≡ l → NotRead r ≡ readAnswer l list → Yields (readOutcome s l) page (Refused r) page
     go (fault q) h e2 =
         let same : r ≡ q = ap (reasonTold r) e2 in
-        subst (λ (x : Refusal). Answered (readOutcome s (fault x)) page (Refused r) page) same (refl, refl)
+        subst (λ (x : Refusal). Yields (readOutcome s (fault x)) page (Refused r) page) same (refl, refl)
     go (steps g ss) h e2 =
         let room : fits (listOf ss) list ≡ true = le-leb (length (listOf ss)) (length list) (omega (arith, list-few s g ss h)) in
         let is : NotRead r ≡ Steps g (length ss) = e2 ∙ rw room refl in
@@ -137,7 +137,7 @@ pub log-again :
     a ≡ writeAnswer (lentLog heading (take (24 * n) after)) page →
     p ≡ writtenPage (lentLog heading (take (24 * n) after)) page →
     written a ≡ w →
-    Answered (logOutcome s) page w p
+    Yields (logOutcome s) page w p
 unfolding logOutcome
 log-again s list after page p heading n a w e f is at told =
     let r = list-read s list after heading n e f in
@@ -147,7 +147,7 @@ log-again s list after page p heading n a w e f is at told =
     let then : writtenPage (steps heading (r .ss)) page ≡ pageOf s page = rw (text, small) refl in
     let given : a ≡ cond (fits s page) (Count (length s)) (NotWritten (ShortBuffer 0)) = is ∙ ap (λ (l : Logged). writeAnswer l page) (r .log) ∙ answer in
     let left : p ≡ pageOf s page = at ∙ ap (λ (l : Logged). writtenPage l page) (r .log) ∙ then in
-    subst (λ (l : Logged). Answered (readOutcome s l) page w p) (sym (r .reads)) (subst (λ (z : Written). Put s page z p) told (go (fits s page) refl given left))
+    subst (λ (l : Logged). Yields (readOutcome s l) page w p) (sym (r .reads)) (subst (λ (z : Written). Put s page z p) told (go (fits s page) refl given left))
   where
     go :
         (t : Bool) → fits s page ≡ t →

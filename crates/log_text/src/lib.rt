@@ -1,7 +1,7 @@
 // A log alone to what is printed for it: it is read, and what the writer makes of its steps is put on the page.
 ghost use Prim.Native.Nat.{_≤_};
 ghost use lib.ListN.{length};
-ghost use Rattle.printed.specs.Printed.{Answered, Printed};
+ghost use Rattle.printed.specs.Printed.{Yields, Printed};
 ghost use Rattle.log_text.specs.Answer.{logOutcome};
 use log_reader::ReadAnswer;
 use report::Written;
@@ -9,7 +9,7 @@ use season_log::LogAnswer;
 
 // The answer to a log: refused, with every byte of the page as before; or read, with the log at the start of the page.
 pub fn answer(text: &[u8], page: &mut [u8]) -> Written
-    ensures { λ r. ⌜ Answered (logOutcome (now (text .entry))) (now (page .entry)) r (now (page .exit)) ⌝ }
+    ensures { λ r. ⌜ Yields (logOutcome (now (text .entry))) (now (page .entry)) r (now (page .exit)) ⌝ }
 {
     // Room for the steps of any log.
     let mut list = [0u8; log_reader::ROOM];

@@ -15,7 +15,7 @@ use Rattle.decimal.proofs.Laws.{wrote-all, wrote-fits, page-all, page-length}
 use Rattle.report.specs.declared.Written.{Written}
 use Rattle.report.specs.declared.Written.the-variants.{Text, Refused}
 use Rattle.report.specs.Report.{refusalText, writtenLength, Put, longest}
-use Rattle.printed.specs.Printed.{Outcome, refused, prints, Answered, printedOn, outputOf, Printed, printedBytes, printedPage}
+use Rattle.printed.specs.Printed.{Outcome, refused, prints, Yields, printedOn, outputOf, Printed, printedBytes, printedPage}
 use Rattle.printed.specs.Inner.{OutcomeFits, RefusalFits}
 
 -- what `print` ensures
@@ -80,7 +80,7 @@ pub answer-printed :
     (most : ℕ) (o : Outcome) (before : List ℕ) (w : Written) (middle : List ℕ) (n : ℕ) (after : List ℕ) →
     longest ≤ most →
     OutcomeFits most o →
-    Answered o before w middle →
+    Yields o before w middle →
     RefusalFits w →
     n ≡ printedBytes w middle →
     after ≡ printedPage w middle →

@@ -13,9 +13,9 @@ pub data Outcome : Type 0 where
   prints : List ℕ → Outcome
 
 -- The answer to an input: the refusal is told, with every byte of the page as before; or the text is put on the page, where "15 is last".
-abbrev pub Answered : Outcome → List ℕ → Written → List ℕ → Type 0
-Answered (refused x) before r after = (writtenTold r ≡ told x) × (after ≡ before)
-Answered (prints t) before r after = Put t before r after
+abbrev pub Yields : Outcome → List ℕ → Written → List ℕ → Type 0
+Yields (refused x) before r after = (writtenTold r ≡ told x) × (after ≡ before)
+Yields (prints t) before r after = Put t before r after
 
 -- what is printed: the text, or the refusal's numbers and sentence; of a text that the page has no room for, 15
 abbrev pub printedOn : Outcome → List ℕ → List ℕ

@@ -51,17 +51,17 @@ module _ (c : Cache) (v : Valid c) (i : ℕ) (l : i < c .n) where
   few-tenths : tenthsOf (usageOf c i .minutes) ≤ 240000000
   few-tenths =
       let e : useAt (figuresOf c) i .minutes ≡ usageOf c i .minutes = ap (λ (u : Use). u .minutes) (use-is c i l) in
-      omega (arith, v .rule .minutes i here, v .rule .taken)
+      omega (arith, v .standing .minutes i here, v .standing .taken)
 
   few-loads : usageOf c i .loads ≤ 1000000
   few-loads =
       let e : useAt (figuresOf c) i .loads ≡ usageOf c i .loads = ap (λ (u : Use). u .loads) (use-is c i l) in
-      omega (arith, sum-term (size (stateOf c)) i (λ j. useAt (figuresOf c) j .loads) here, v .rule .loadsAdd, v .rule .steps, v .rule .taken)
+      omega (arith, sum-term (size (stateOf c)) i (λ j. useAt (figuresOf c) j .loads) here, v .standing .loadsAdd, v .standing .steps, v .standing .taken)
 
   few-writebacks : usageOf c i .writebacks ≤ 1000000
   few-writebacks =
       let e : useAt (figuresOf c) i .writebacks ≡ usageOf c i .writebacks = ap (λ (u : Use). u .writebacks) (use-is c i l) in
-      omega (arith, sum-term (size (stateOf c)) i (λ j. useAt (figuresOf c) j .writebacks) here, v .rule .writebacksAdd, v .rule .writebacks, v .rule .taken)
+      omega (arith, sum-term (size (stateOf c)) i (λ j. useAt (figuresOf c) j .writebacks) here, v .standing .writebacksAdd, v .standing .writebacks, v .standing .taken)
 
   item-longest : length (lineOf (itemNumbers i (usageOf c i))) ≤ 30
   item-longest =
@@ -100,7 +100,7 @@ rival-longest c (Against h cost) v f =
 totals-longest :
     (c : Cache) (rival : Rival) → Valid c → length (lineOf (totalNumbers (view c) rival)) ≤ 77 + length (lineOf (rivalNumbers (view c) rival))
 totals-longest c rival v =
-    let r = v .rule in
+    let r = v .standing in
     let m = length (lineOf (rivalNumbers (view c) rival)) in
     cons-longest (c .hits) 7 (69 + m) _ (omega arith) (omega arith)
     (cons-longest (c .loads) 7 (61 + m) _ (omega arith) (omega arith)

@@ -10,12 +10,12 @@ use Rattle.cache_state.specs.InnerView.{figuresOf}
 
 -- "k blocks, 1 to 4,096"
 pub few-blocks : (c : Cache) → Valid c → c .k ≤ 4096
-few-blocks c v = capacity-facts (c .k) (v .rule .capacity) .high
+few-blocks c v = capacity-facts (c .k) (v .standing .capacity) .high
 
 -- left, for each factor that a plan can have
 pub left-fits : (c : Cache) → Valid c → (factor : ℕ) → factor ≤ 4096 → factor * totalCost (figuresOf c) < 2 ^ 64
 left-fits c v factor few =
-    let r = v .rule in
+    let r = v .standing in
     let most : factor * (c .loadcost + c .writecost) ≤ 4096 * 131070000000 =
     mul-le-mul {n₂ = 4096} {m₂ = 131070000000} few
     (omega (arith, r .loadCost, r .writeCost, r .steps, r .taken, r .writebacks)) in

@@ -21,7 +21,7 @@ use Rattle.types.proofs.Steps.{same-step, step-read, step-write, step-arrive, s
 use Rattle.landlord.specs.Catalog.{Catalog, Item, itemAt, listed, itemInRange, catalogNext, catalogAfter}
 use Rattle.landlord.proofs.Ranges.{and-left, and-right, item-facts}
 use Rattle.landlord.specs.Steps.{inRange, itemRefusal}
-use Rattle.landlord.proofs.Catalogs.{Follows, one-longer, arrived-other, arrived-here, below-more, retired-here, retired-other, retired-length, next-follows, after-follows, after-append, after-more}
+use Rattle.landlord.proofs.Catalogs.{KeepsItems, one-longer, arrived-other, arrived-here, below-more, retired-here, retired-other, retired-length, next-keeps, after-keeps, after-append, after-more}
 use Rattle.marks.specs.Marks.{bit, marked}
 use Rattle.marks.specs.Inner.{marks}
 use Rattle.marks.proofs.Laws.{marked-at, marked-set-same, marked-set-other}
@@ -166,11 +166,11 @@ module _ (p : Present) (n : Numbers) where
 -- ## The catalog before a step
 
 -- what the catalog after all steps keeps of the catalog after the first s of them
-pub before-follows : (cat : Catalog) (steps : List Step) (s : ℕ) → Follows (catalogAfter cat (take s steps)) (catalogAfter cat steps)
-before-follows cat steps s =
-    subst (λ (z : Catalog). Follows (catalogAfter cat (take s steps)) z)
+pub before-keeps : (cat : Catalog) (steps : List Step) (s : ℕ) → KeepsItems (catalogAfter cat (take s steps)) (catalogAfter cat steps)
+before-keeps cat steps s =
+    subst (λ (z : Catalog). KeepsItems (catalogAfter cat (take s steps)) z)
     (sym (after-append cat (take s steps) (drop s steps)) ∙ ap (catalogAfter cat) (take-append-drop s steps))
-    (after-follows (catalogAfter cat (take s steps)) (drop s steps))
+    (after-keeps (catalogAfter cat (take s steps)) (drop s steps))
 
 -- one step further
 pub before-next :
@@ -194,7 +194,7 @@ pub walk-few :
     q .n ≤ 256
 walk-few p q calls from to s cat steps c l w =
     let known = c cat steps (record { few = w .few; noted = w .noted; reach = omega (arith, w .reach); tells = w .tells }) in
-    omega (arith, known .count, before-follows cat steps s .longer, w .few)
+    omega (arith, known .count, before-keeps cat steps s .longer, w .few)
 
 pub walk-ends : (p q : Present) (calls : List ℕ) (from to s : ℕ) → s ≡ to → CatchesUp p calls from s q → CatchesUp p calls from to q
 walk-ends p q calls from to s e c = subst (λ (z : ℕ). CatchesUp p calls from z q) e c
@@ -209,7 +209,7 @@ walk-on p q r calls from s n c e a cat steps w =
     let l : s < length steps = omega (arith, w .reach) in
     let before = catalogAfter cat (take s steps) in
     let known : Tells before q = c cat steps (record { few = w .few; noted = w .noted; reach = omega (arith, w .reach); tells = w .tells }) in
-    let short : length before ≤ 256 = omega (arith, before-follows cat steps s .longer, w .few) in
+    let short : length before ≤ 256 = omega (arith, before-keeps cat steps s .longer, w .few) in
     let same : stepOf n ≡ getD steps s Flush =
     ap stepOf (e ∙ noted-step calls steps s (w .noted) l) ∙ same-step (getD steps s Flush) in
     subst (λ (z : Catalog). Tells z r) (ap (catalogNext before) same ∙ sym (before-next cat steps s l)) (a before short known)
@@ -217,14 +217,14 @@ walk-on p q r calls from s n c e a cat steps w =
 -- ## The bytes of the items
 
 -- a catalog that keeps the values of another has its bytes too
-follows-items : (cat next : Catalog) (bytes : List ℕ) → Follows cat next → HasItems next bytes → HasItems cat bytes
-follows-items cat next bytes f h i l =
+keeps-items : (cat next : Catalog) (bytes : List ℕ) → KeepsItems cat next → HasItems next bytes → HasItems cat bytes
+keeps-items cat next bytes f h i l =
     let a = f .each i l in
     h i (omega (arith, f .longer)) ∙ (λ j. listed (a .blocks j) (a .load j) (a .write j))
 
 -- the bytes have the items as they were before any step
 pub items-before : (cat : Catalog) (steps : List Step) (bytes : List ℕ) → HasItems (catalogAfter cat steps) bytes → (s : ℕ) → HasItems (catalogAfter cat (take s steps)) bytes
-items-before cat steps bytes h s = follows-items (catalogAfter cat (take s steps)) (catalogAfter cat steps) bytes (before-follows cat steps s) h
+items-before cat steps bytes h s = keeps-items (catalogAfter cat (take s steps)) (catalogAfter cat steps) bytes (before-keeps cat steps s) h
 
 -- one more item, stored at its number
 module _ (bytes : List ℕ) (i b l w : ℕ) (room : 5 * i + 5 ≤ length bytes) where
@@ -348,5 +348,5 @@ module _ (k : ℕ) (cat : Catalog) (bytes : List ℕ) (room : itemRoom ≤ lengt
     where
       retired : HasItems cat bytes → HasItems (catalogNext cat (Retire i)) bytes
       retired h j l =
-          let a = next-follows cat (Retire i) .each j (omega (arith, retired-length cat i)) in
+          let a = next-keeps cat (Retire i) .each j (omega (arith, retired-length cat i)) in
           h j (omega (arith, retired-length cat i)) ∙ sym (λ z. listed (a .blocks z) (a .load z) (a .write z))

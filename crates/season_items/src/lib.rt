@@ -108,7 +108,7 @@ pub fn advanced(p: Present, step: Numbers) -> Present
 }
 
 // The numbers of a step, noted as a call from place `i` on.
-fn numbers_at(calls: &[u32], i: usize) -> Numbers
+fn numbers_behind(calls: &[u32], i: usize) -> Numbers
     requires { ⌜ (i + callWidth ≤ length (now calls)) × (i ≤ callWidth * mostNoted) ⌝ }
     ensures { λ r. ⌜ r ≡ numbersBehind (now (calls .entry)) i ⌝ }
 {
@@ -130,7 +130,7 @@ pub fn caught_up(p: Present, calls: &[u32], from: usize, to: usize) -> Present
     let mut q = p;
     let mut s = from;
     while s < to {
-        let step = numbers_at(calls, CALL_NUMBERS * s);
+        let step = numbers_behind(calls, CALL_NUMBERS * s);
         q = advanced(q, step);
         s += 1;
     }

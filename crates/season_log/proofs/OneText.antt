@@ -12,8 +12,8 @@ use lib.ListN.{length, take, drop, length-append}
 use lib.Seq.{append-snoc}
 use Rattle.decimal.specs.Decimal.{sameText}
 use Rattle.decimal.proofs.Texts.{same-true}
-use Rattle.fields.specs.LittleEndian.{un, le}
-use Rattle.fields.proofs.Laws.{length-le, un-front, past}
+use Rattle.fields.specs.LittleEndian.{fromBytes, toBytes}
+use Rattle.fields.proofs.Laws.{length-to, from-front, past}
 use Rattle.types.specs.declared.Refusal.{Refusal}
 use Rattle.types.specs.declared.Refusal.the-variants.{Malformed, Heading, OutOfRange, InputTooLong}
 use Rattle.types.specs.declared.Step.{Step}
@@ -304,34 +304,34 @@ step-small heading s r = go s (sym (ap inRange (under-kept heading s r)) ∙ ran
         record { kind = omega arith; item = leb-true i 255 r; minutes = omega arith; blocks = omega arith; load = omega arith; write = omega arith }
 
 -- a number in front of others, and behind it
-number-first : (v : ℕ) (rest : List ℕ) → v ≤ 65535 → listNumber 0 (le 4 v ++ rest) ≡ v
-number-first v rest h = un-front 4 v rest (omega arith)
+number-first : (v : ℕ) (rest : List ℕ) → v ≤ 65535 → listNumber 0 (toBytes 4 v ++ rest) ≡ v
+number-first v rest h = from-front 4 v rest (omega arith)
 
-past-four : (k v : ℕ) (rest : List ℕ) → drop (4 + k) (le 4 v ++ rest) ≡ drop k rest
-past-four k v rest = past (le 4 v) rest (4 + k) k (omega (arith, length-le 4 v))
+past-four : (k v : ℕ) (rest : List ℕ) → drop (4 + k) (toBytes 4 v ++ rest) ≡ drop k rest
+past-four k v rest = past (toBytes 4 v) rest (4 + k) k (omega (arith, length-to 4 v))
 
-number-next : (k v : ℕ) (rest : List ℕ) → listNumber (4 + k) (le 4 v ++ rest) ≡ listNumber k rest
-number-next k v rest = ap (λ (l : List ℕ). un (take 4 l)) (past-four k v rest)
+number-next : (k v : ℕ) (rest : List ℕ) → listNumber (4 + k) (toBytes 4 v ++ rest) ≡ listNumber k rest
+number-next k v rest = ap (λ (l : List ℕ). fromBytes (take 4 l)) (past-four k v rest)
 
 -- a step's bytes at the start of a list, from each of its numbers on
 module _ (n : Numbers) (rest : List ℕ) where
   abbrev fromWrite : List ℕ
-  fromWrite = le 4 (n .write) ++ rest
+  fromWrite = toBytes 4 (n .write) ++ rest
 
   abbrev fromLoad : List ℕ
-  fromLoad = le 4 (n .load) ++ fromWrite
+  fromLoad = toBytes 4 (n .load) ++ fromWrite
 
   abbrev fromBlocks : List ℕ
-  fromBlocks = le 4 (n .blocks) ++ fromLoad
+  fromBlocks = toBytes 4 (n .blocks) ++ fromLoad
 
   abbrev fromMinutes : List ℕ
-  fromMinutes = le 4 (n .minutes) ++ fromBlocks
+  fromMinutes = toBytes 4 (n .minutes) ++ fromBlocks
 
   abbrev fromItem : List ℕ
-  fromItem = le 4 (n .item) ++ fromMinutes
+  fromItem = toBytes 4 (n .item) ++ fromMinutes
 
   pub onto-length : length (numbersOnto n rest) ≡ 24 + length rest
-  onto-length = simp (length-append, length-le) (omega arith)
+  onto-length = simp (length-append, length-to) (omega arith)
 
   past-numbers : drop 24 (numbersOnto n rest) ≡ rest
   past-numbers =
@@ -340,8 +340,8 @@ module _ (n : Numbers) (rest : List ℕ) where
       ∙ past-four 4 (n .load) fromWrite
       ∙ past-four 0 (n .write) rest
 
-  numbers-at : Small n → listNumbers 0 (numbersOnto n rest) ≡ n
-  numbers-at s =
+  list-numbers : Small n → listNumbers 0 (numbersOnto n rest) ≡ n
+  list-numbers s =
       let write : listNumber 0 fromWrite ≡ n .write = number-first (n .write) rest (s .write) in
       let load : listNumber 0 fromLoad ≡ n .load = number-first (n .load) fromWrite (s .load) in
       let blocks : listNumber 0 fromBlocks ≡ n .blocks = number-first (n .blocks) fromLoad (omega (arith, s .blocks)) in
@@ -369,7 +369,7 @@ list-read heading n (s ∷ ss) h =
     let r = both .0 in
     let rest = listOf ss in
     let x = numbersOf s in
-    let here : listNumbers 0 (numbersOnto x rest) ≡ x = numbers-at x rest (step-small heading s r) in
+    let here : listNumbers 0 (numbersOnto x rest) ≡ x = list-numbers x rest (step-small heading s r) in
     let means : stepOf (numbersUnder heading x) ≡ s = ap stepOf (under-kept heading s r) ∙ same-step s in
     (λ i. next (here i) (past-numbers x rest i)) ∙ (rw (r, means, list-read heading (suc n) ss (both .1)))
   where

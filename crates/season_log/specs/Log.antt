@@ -3,7 +3,7 @@ use mathlib.Core.{Path._≡_, Bool.{Bool, true, cond, _&&_}, List.{List, [], _�
 use Prim.Native.Nat.{ℕ, zero, suc, _+_, _/_, _≤_}
 use lib.{ListN.{length, take, drop}, Dec.{leb, eqb}}
 use Rattle.decimal.specs.Decimal.{textOf, digitsOf, fits, pageOf}
-use Rattle.fields.specs.LittleEndian.{un, le}
+use Rattle.fields.specs.LittleEndian.{fromBytes, toBytes}
 use Rattle.types.specs.declared.{Step.{Step, the-variants.{Read, Write, Flush, Arrive, Retire}}, Numbers.Numbers, Refusal.{Refusal, the-variants.{Malformed, Heading, OutOfRange, ShortBuffer, InputTooLong}}}
 use Rattle.types.specs.Types.{numbersFrom, numbersOf, stepOf, Told, telling, nothingTold, told, refusalFrom}
 use Rattle.season_lines.specs.declared.{Names.{Names, the-variants.{Known, Unknown}}, Line.{Line, the-variants.{Sizes, Item as ItemLine, Step as StepLine, Act as ActLine, Refused}}}
@@ -53,7 +53,7 @@ logText heading ss = headingText 2 heading ++ (10 ∷ stepLines heading ss)
 
 -- the number at a place of a list
 abbrev pub listNumber : ℕ → List ℕ → ℕ
-listNumber at list = un (take 4 (drop at list))
+listNumber at list = fromBytes (take 4 (drop at list))
 
 -- the numbers of the step at a place
 abbrev pub listNumbers : ℕ → List ℕ → Numbers
@@ -85,7 +85,7 @@ lentLog heading list = cond (isHeading heading) (lentUnder heading list) (fault 
 -- a step's numbers as bytes, in front of others
 abbrev pub numbersOnto : Numbers → List ℕ → List ℕ
 numbersOnto n rest =
-    le 4 (n .kind) ++ (le 4 (n .item) ++ (le 4 (n .minutes) ++ (le 4 (n .blocks) ++ (le 4 (n .load) ++ (le 4 (n .write) ++ rest)))))
+    toBytes 4 (n .kind) ++ (toBytes 4 (n .item) ++ (toBytes 4 (n .minutes) ++ (toBytes 4 (n .blocks) ++ (toBytes 4 (n .load) ++ (toBytes 4 (n .write) ++ rest)))))
 
 -- steps as a list; what a step lacks is 0
 unfoldable pub listOf : List Step → List ℕ

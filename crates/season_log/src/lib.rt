@@ -49,7 +49,7 @@ fn number_at(list: &[u8], at: usize) -> u32
 }
 
 // The numbers of the step at a place of a list.
-fn numbers_at(list: &[u8], at: usize) -> Numbers
+fn list_numbers(list: &[u8], at: usize) -> Numbers
     requires { ⌜ at + 24 ≤ length (now list) ⌝ }
     ensures { λ r. ⌜ r ≡ listNumbers at (now (list .entry)) ⌝ }
 {
@@ -150,7 +150,7 @@ fn text_size(heading: u32, list: &[u8]) -> LogAnswer
     let mut bytes = names_bytes(heading);
     let mut at = 0;
     while at < whole {
-        let step = numbers_at(list, at);
+        let step = list_numbers(list, at);
         let number = range_under(heading, step);
         if number != 0 {
             return LogAnswer::Refused(types::refusal_of(number, line_of(at), 0));
@@ -266,7 +266,7 @@ fn put_step(heading: u32, list: &[u8], at: usize, page: &mut [u8]) -> usize
         return put_write(heading, item, number_at(list, at + 8), page);
     }
     if kind == types::ARRIVE {
-        return put_arrival(numbers_at(list, at), page);
+        return put_arrival(list_numbers(list, at), page);
     }
     put_named(heading, kind as u8, item, page)
 }

@@ -20,7 +20,7 @@ use Rattle.season_plan.specs.declared.Copies.{Copies}
 use Rattle.season_plan.specs.declared.Did.{Did}
 use Rattle.season_plan.specs.declared.Acted.{Acted}
 use Rattle.season_plan.specs.Plans.{actsAt, actsBefore}
-use Rattle.season_plan.specs.Inner.{copiesIn, HoldsCopies, Stands, Does, PlanReady, Known, Acts, ofAct, ActsDone, most, Actable, Before, RunsActs}
+use Rattle.season_plan.specs.Inner.{copiesIn, HoldsCopies, PlanStands, Does, PlanReady, Known, Acts, ofAct, ActsDone, most, Actable, Before, RunsActs}
 use Rattle.season_plan.proofs.Places.{items-before, before-ok, noted-act, act-again, sound-ordered, parted, parted-is, at-skip, at-here, at-none}
 use Rattle.season_plan.proofs.Deeds.{stands-there}
 use Rattle.season_plan.proofs.Costs.{Cheap, Faults, fault-some, act-cheap, act-faults}
@@ -36,7 +36,7 @@ pub record Acting (x : Seen) (xs acts : List ℕ) (p : Copies) (first s : ℕ) (
   pub within : a ≤ x .acts
   pub low : q .paid ≤ most a s
   pub here : (i : ℕ) → first ≤ i → i < a → getD acts (3 * i) 0 ≡ s
-  pub stands : (calls : List ℕ) (v : Tables) → Before x xs p acts first s calls v → Stands (catalogBefore v s) q
+  pub stands : (calls : List ℕ) (v : Tables) → Before x xs p acts first s calls v → PlanStands (catalogBefore v s) q
   pub leads :
       (calls : List ℕ) (v : Tables) (r : Acted) →
       Before x xs p acts first s calls v →
@@ -79,7 +79,7 @@ pub did-ready :
     Does cat d before r →
     Cheap m d →
     r .number ≡ 0 →
-    Stands cat (r .copies) × (r .copies .paid ≤ before + m)
+    PlanStands cat (r .copies) × (r .copies .paid ≤ before + m)
 did-ready cat (done q c) m before r did cheap e =
     (stands-there cat (r .copies) q (before + c) (did .1), omega (arith, did .1 .sum, cheap))
 did-ready cat (faulty f) m before r did cheap e = absurd (fault-some f (sym did ∙ e))
@@ -196,7 +196,7 @@ module _ (x : Seen) (xs acts : List ℕ) (p : Copies) (first s : ℕ) (pre : Act
             Before x xs p acts first s calls v →
             CatalogOk (catalogBefore v s) →
             r .number ≡ 0 →
-            Stands (catalogBefore v s) (r .copies) × (r .copies .paid ≤ q .paid + 65535)
+            PlanStands (catalogBefore v s) (r .copies) × (r .copies .paid ≤ q .paid + 65535)
         after calls v h ok e =
             did-ready (catalogBefore v s) (planActs (catalogBefore v s) s 0 (placedAt (v .acts) a .act) (copiesIn q)) 65535 (q .paid) r (does calls v h 0)
             (act-cheap (catalogBefore v s) ok s 0 (placedAt (v .acts) a .act) (copiesIn q)) e

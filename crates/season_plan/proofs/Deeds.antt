@@ -17,7 +17,7 @@ use Rattle.landlord.proofs.Ranges.{catalog-facts}
 use Rattle.catalog_bytes.specs.Catalogs.{itemIn}
 use Rattle.season_plan.specs.declared.Copies.{Copies}
 use Rattle.season_plan.specs.declared.Did.{Did}
-use Rattle.season_plan.specs.Inner.{copyFrom, copiesOf, copiesIn, HoldsCopies, Stands, Does, PlanReady, Loses, Evicts, Fetches, Acts}
+use Rattle.season_plan.specs.Inner.{copyFrom, copiesOf, copiesIn, HoldsCopies, PlanStands, Does, PlanReady, Loses, Evicts, Fetches, Acts}
 use Rattle.season_plan.proofs.Marks.{blocks-at, load-at, write-at, copy-none, copy-clean, copy-dirty, copy-at, copies-length, copies-set, used-set, cond-most, sum-most}
 
 -- the copy of an item whose mark is not 0 is held
@@ -29,7 +29,7 @@ held-mark m e = by-mark (ℕ-discrete m 1)
     by-mark (no more) = ap has (copy-dirty m (omega arith))
 
 -- what holds these copies and this sum stands there
-pub stands-there : (cat : Catalog) (p : Copies) (q : List Copy) (paid : ℕ) → HoldsCopies cat p q paid → Stands cat p
+pub stands-there : (cat : Catalog) (p : Copies) (q : List Copy) (paid : ℕ) → HoldsCopies cat p q paid → PlanStands cat p
 stands-there cat p q paid st =
     record {
       count = st .count;

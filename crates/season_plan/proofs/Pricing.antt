@@ -31,7 +31,7 @@ use Rattle.season_plan.specs.declared.Did.{Did}
 use Rattle.season_plan.specs.declared.Acted.{Acted}
 use Rattle.season_plan.specs.declared.Price.the-variants.{Cost, Refused}
 use Rattle.season_plan.specs.Plans.{actsBefore, lineOfStep, lineOfAct, faultLine, priceOf, PricedBy}
-use Rattle.season_plan.specs.Inner.{planOf, copyFrom, copiesOf, copiesIn, HoldsCopies, Stands, Does, PlanReady, PlanServable, Serves, ofAct, ActsDone, Priceable, most, Actable, RunsActs, ActsWithin, PricedAs}
+use Rattle.season_plan.specs.Inner.{planOf, copyFrom, copiesOf, copiesIn, HoldsCopies, PlanStands, Does, PlanReady, PlanServable, Serves, ofAct, ActsDone, Priceable, most, Actable, RunsActs, ActsWithin, PricedAs}
 use Rattle.landlord.proofs.Ranges.{catalog-facts}
 use Rattle.season_plan.proofs.Marks.{copy-at, copy-none}
 use Rattle.season_plan.proofs.Places.{stepAt, items-before, before-next, before-ok, step-served, noted-act, noted-step, parted-is}
@@ -55,7 +55,7 @@ pub record Pricing (x : Seen) (xs calls acts : List ℕ) (p : Copies) (a s : ℕ
   pub next : a ≤ x .acts
   pub low : p .paid ≤ most a s
   pub begins : (v : Tables) → Holds x xs calls acts v → Sound v → a ≡ actsBefore s (v .acts)
-  pub stands : (v : Tables) → Holds x xs calls acts v → Sound v → Stands (catalogBefore v s) p
+  pub stands : (v : Tables) → Holds x xs calls acts v → Sound v → PlanStands (catalogBefore v s) p
   pub leads :
       (v : Tables) →
       Holds x xs calls acts v →
@@ -157,7 +157,7 @@ acts-next : (v : Tables) (s : ℕ) (d : Done) (paid : ℕ) (b : Acted) → ActsD
 acts-next v s (done q c) paid b did e = did .2
 acts-next v s (faulty f) paid b did e = absurd (fault-some f (sym (did .0) ∙ e))
 
-acts-stand : (v : Tables) (s : ℕ) (d : Done) (paid : ℕ) (b : Acted) → ActsDone v s d paid b → b .number ≡ 0 → Stands (catalogBefore v s) (b .copies)
+acts-stand : (v : Tables) (s : ℕ) (d : Done) (paid : ℕ) (b : Acted) → ActsDone v s d paid b → b .number ≡ 0 → PlanStands (catalogBefore v s) (b .copies)
 acts-stand v s (done q c) paid b did e = stands-there (catalogBefore v s) (b .copies) q (paid + c) (did .1)
 acts-stand v s (faulty f) paid b did e = absurd (fault-some f (sym (did .0) ∙ e))
 
@@ -231,7 +231,7 @@ module _ (x : Seen) (xs calls acts : List ℕ) (pre : Priceable x xs calls acts)
     cat-ok : CatalogOk cat
     cat-ok = before-ok (pre .text) (pre .sound) s (omega (arith, so .within, pre .holds .stepCount))
 
-    ready-at : (q : Copies) → Stands cat q → q .paid ≤ 1000000000000 → PlanReady xs q
+    ready-at : (q : Copies) → PlanStands cat q → q .paid ≤ 1000000000000 → PlanReady xs q
     ready-at q stands low =
         record { room = pre .roomy .forItems; catalog = cat; items = items-before x xs calls acts (pre .text) (pre .holds) s; ok = cat-ok; stands = stands; low = low }
 
@@ -283,7 +283,7 @@ module _ (x : Seen) (xs calls acts : List ℕ) (pre : Priceable x xs calls acts)
 
         module _ (e : b .number ≡ 0) where
           -- where the program stands before the step
-          ready : (v : Tables) → Holds x xs calls acts v → Sound v → Stands (catalogBefore v s) (b .copies)
+          ready : (v : Tables) → Holds x xs calls acts v → Sound v → PlanStands (catalogBefore v s) (b .copies)
           ready v h sound = acts-stand v s (actsOf v s (copiesIn p)) (p .paid) b (did v h sound) e
 
           pub pricing-serves : PlanServable xs (b .copies) (getD calls (7 * s + 1) 0) (getD calls (7 * s + 2) 0)
@@ -338,7 +338,7 @@ module _ (x : Seen) (xs calls acts : List ℕ) (pre : Priceable x xs calls acts)
                 Holds x xs calls acts v →
                 Sound v →
                 r .number ≡ 0 →
-                Stands (catalogBefore v (suc s)) (r .copies) × (r .copies .paid ≤ b .copies .paid + 16776960)
+                PlanStands (catalogBefore v (suc s)) (r .copies) × (r .copies .paid ≤ b .copies .paid + 16776960)
             after v h sound f =
                 did-ready (catalogBefore v (suc s)) (stepOn v s (copiesIn (b .copies))) 16776960 (b .copies .paid) r
                 (serves v h (copiesIn (b .copies)) (b .copies .paid) (ready v h sound))

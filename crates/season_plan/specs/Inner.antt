@@ -33,8 +33,8 @@ pub record HoldsCopies (cat : Catalog) (p : Copies) (q : List Copy) (paid : ℕ)
   pub sum : p .paid ≡ paid
 
 -- the program stands where its marks say
-abbrev pub Stands : Catalog → Copies → Type 0
-Stands cat p = HoldsCopies cat p (copiesIn p) (p .paid)
+abbrev pub PlanStands : Catalog → Copies → Type 0
+PlanStands cat p = HoldsCopies cat p (copiesIn p) (p .paid)
 
 -- a part of the plan was done at a cost, or ended in the fault's number
 abbrev pub Does : Catalog → Done → ℕ → Did → Type 0
@@ -47,7 +47,7 @@ pub record PlanReady (xs : List ℕ) (p : Copies) : Type 0 where
   pub catalog : Catalog
   pub items : HasItems catalog xs
   pub ok : CatalogOk catalog
-  pub stands : Stands catalog p
+  pub stands : PlanStands catalog p
   pub low : p .paid ≤ 1000000000000
 
 -- and that the item is known
@@ -154,7 +154,7 @@ pub record Actable (x : Seen) (xs : List ℕ) (p : Copies) (acts : List ℕ) (fi
   pub calls : List ℕ
   pub priceable : Priceable x xs calls acts
   pub begins : first ≡ actsBefore s (priceable .text .acts)
-  pub stands : Stands (catalogBefore (priceable .text) s) p
+  pub stands : PlanStands (catalogBefore (priceable .text) s) p
   pub inside : s < x .steps
   pub paid : p .paid ≤ most first s
 
@@ -163,7 +163,7 @@ pub record Before (x : Seen) (xs : List ℕ) (p : Copies) (acts : List ℕ) (fir
   pub holds : Holds x xs calls acts v
   pub sound : Sound v
   pub begins : first ≡ actsBefore s (v .acts)
-  pub stands : Stands (catalogBefore v s) p
+  pub stands : PlanStands (catalogBefore v s) p
 
 -- for every such text, its acts before step s are done, or the first fault among them is told
 abbrev pub RunsActs : Seen → List ℕ → Copies → List ℕ → ℕ → ℕ → Acted → Type 0

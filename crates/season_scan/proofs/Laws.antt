@@ -19,7 +19,7 @@ use Rattle.types.specs.Types.{stepItem, actItem}
 use Rattle.landlord.specs.Fold.{fold}
 use Rattle.landlord.specs.Catalog.{Catalog, listed, catalogNext, catalogAfter}
 use Rattle.landlord.specs.Steps.{ifKnown, itemRefusal}
-use Rattle.landlord.proofs.Catalogs.{next-length, next-follows, after-more}
+use Rattle.landlord.proofs.Catalogs.{next-length, next-keeps, after-more}
 use Rattle.line_fields.specs.declared.Field.{Field}
 use Rattle.season_lines.specs.declared.Names.{Names}
 use Rattle.season_lines.specs.declared.Names.the-variants.{Known, Unknown}
@@ -157,7 +157,7 @@ grown-by v w table heading fs n e = go (lineIn table heading fs n) (line-says ta
         let number = itemRefusal (v .k) (itemsNow v) s in
         to (withStep v s) (if-gives (eqb number 0) (withStep v s) w (itemRefused number n (stepItem s)) e)
         (record {
-          items = rw (after-more (v .catalog) (v .steps) s) (next-follows (itemsNow v) s .longer);
+          items = rw (after-more (v .catalog) (v .steps) s) (next-keeps (itemsNow v) s .longer);
           steps = inr (length-append (v .steps) (s ∷ []), refl, l .1);
           acts = inl refl;
           early = λ k. absurd (omega (arith, l .0));

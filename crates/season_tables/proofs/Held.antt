@@ -21,7 +21,7 @@ use Rattle.landlord.specs.Fold.{fold}
 use Rattle.landlord.specs.Catalog.{Catalog, listed, catalogNext, catalogAfter}
 use Rattle.landlord.specs.Steps.{inRange, ifKnown, itemRefusal}
 use Rattle.landlord.proofs.Folds.{fold-append}
-use Rattle.landlord.proofs.Catalogs.{after-follows, after-more}
+use Rattle.landlord.proofs.Catalogs.{after-keeps, after-more}
 use Rattle.types.proofs.Refusals.{refusal-one}
 use Rattle.types.proofs.Steps.{same-step}
 use Rattle.catalog_bytes.specs.Catalogs.{catalogIn}
@@ -40,7 +40,7 @@ use Rattle.season_tables.specs.InnerSound.{catalogBefore}
 use Rattle.landlord.specs.CallNumbers.{callNumbers}
 use Rattle.season_items.specs.Inner.{itemRoom, Tells, HasItems, actNoted, putAt, withArrival, TellsKnown, TellsRefusal, Advanced, Walks, CatchesUp, Lookable, Walkable}
 use Rattle.season_items.proofs.Notes.{noted-more, noted-past, calls-more}
-use Rattle.season_items.proofs.Presence.{tells-none, tells-more, advanced-tells, before-follows, stored-items, stored-past, Stored, stored-by}
+use Rattle.season_items.proofs.Presence.{tells-none, tells-more, advanced-tells, before-keeps, stored-items, stored-past, Stored, stored-by}
 use Rattle.season_tables.proofs.Told.{step-range, step-told, act-range, act-told}
 use Rattle.season_tables.proofs.Keeps.{taken-past}
 
@@ -286,7 +286,7 @@ module _ (q : Seen) (catalog calls : List ℕ) (s : Step) (line number : ℕ) (e
             h = h .h;
             few = omega (arith, known .count, after .few);
             items =
-                ap catalogIn (ap (take (5 * q .n)) items ∙ after .front (q .n) (omega (arith, h .itemCount, after-follows (v .catalog) (v .steps) .longer)))
+                ap catalogIn (ap (take (5 * q .n)) items ∙ after .front (q .n) (omega (arith, h .itemCount, after-keeps (v .catalog) (v .steps) .longer)))
                 ∙ h .items;
             itemCount = h .itemCount;
             stepCount = one-longer (q .steps) (v .steps) s (h .stepCount);
@@ -382,12 +382,12 @@ module _ (q : Seen) (calls acts : List ℕ) (place : ℕ) (act : Act) (some : pl
   act-few t =
       let h = t .line .holds in
       let v = t .line .read in
-      omega (arith, act-tells (t .catalog) v h .count, h .few, h .present .count, before-follows (v .catalog) (v .steps) place .longer)
+      omega (arith, act-tells (t .catalog) v h .count, h .few, h .present .count, before-keeps (v .catalog) (v .steps) place .longer)
 
   module _ (number : ℕ) (k : TellsKnown p (actItem act) number) where
     act-number : (catalog : List ℕ) (v : Tables) → Holds q catalog calls acts v → number ≡ ifKnown (catalogBefore v place) (actItem act) 0
     act-number catalog v h =
-        k (catalogBefore v place) (omega (arith, h .few, h .present .count, before-follows (v .catalog) (v .steps) place .longer)) (act-tells catalog v h)
+        k (catalogBefore v place) (omega (arith, h .few, h .present .count, before-keeps (v .catalog) (v .steps) place .longer)) (act-tells catalog v h)
 
     pub act-in-range : ActTakeable q place act calls acts → number ≢ 0 → (1 ≤ number) × (number ≤ 20)
     act-in-range t f =

@@ -31,7 +31,7 @@ use Rattle.season_plan.specs.declared.Price.{Price}
 use Rattle.season_plan.specs.declared.Price.the-variants.{Cost, Refused as Faulty}
 use Rattle.season_plan.specs.Plans.{faultLine, priceOf, PricedBy}
 use Rattle.season_plan.specs.Inner.{Priceable, PricedAs}
-use Rattle.printed.specs.Printed.{Outcome, refused, prints, Answered}
+use Rattle.printed.specs.Printed.{Outcome, refused, prints, Yields}
 use Rattle.printed.specs.Inner.{OutcomeFits}
 use Rattle.season_text.specs.Answer.{closedSeason, reportAgainst, priced, readingOutcome, outcomeOf}
 use Rattle.season_text.specs.Inner.{ClosedAt, Closes, Reportable, Reports}
@@ -96,11 +96,11 @@ reportable {acts = acts} r small =
 
 -- what `answer` ensures
 abbrev Tells : List ℕ → List ℕ → Written → List ℕ → Type 0
-Tells s page r after = Answered (outcomeOf s) page r after × OutcomeFits longest (outcomeOf s)
+Tells s page r after = Yields (outcomeOf s) page r after × OutcomeFits longest (outcomeOf s)
 
 -- it follows from the outcome: a refusal that leaves the page as it was, or a report put on it
-tells-as : (s before after : List ℕ) (w : Written) {o : Outcome} → outcomeOf s ≡ o → Answered o before w after × OutcomeFits longest o → Tells s before w after
-tells-as s before after w is h = subst (λ (o : Outcome). Answered o before w after × OutcomeFits longest o) (sym is) h
+tells-as : (s before after : List ℕ) (w : Written) {o : Outcome} → outcomeOf s ≡ o → Yields o before w after × OutcomeFits longest o → Tells s before w after
+tells-as s before after w is h = subst (λ (o : Outcome). Yields o before w after × OutcomeFits longest o) (sym is) h
 
 tells-refusal : (s page : List ℕ) (x y : Refusal) → outcomeOf s ≡ refused y → told x ≡ told y → Tells s page (Refused x) page
 tells-refusal s page x y is e = tells-as s page page (Refused x) is ((e, refl), tt)

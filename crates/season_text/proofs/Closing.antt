@@ -30,12 +30,12 @@ store-closes l n b =
 
 -- whatever accepted text the slices hold, the run of it and of the closing behind it is that of the text's calls
 pub season-closes :
-    (x : Seen) (xs calls state before after : List ℕ) (rule number : ℕ) (left : List ℕ) →
+    (x : Seen) (xs calls state before after : List ℕ) (rule number : ℕ) (last : List ℕ) →
     Closable x xs calls state →
     rule ≡ deductionNumber (x .rule) →
-    RanLent state (opening (x .k) rule (take (5 * x .n) xs)) (callsOf (take (7 * x .steps + 7) (set calls (7 * x .steps) 1))) before after number left →
-    Closes x xs calls left
-season-closes x xs calls state before after rule number left c is ran acts v h ok =
+    RanLent state (opening (x .k) rule (take (5 * x .n) xs)) (callsOf (take (7 * x .steps + 7) (set calls (7 * x .steps) 1))) before after number last →
+    Closes x xs calls last
+season-closes x xs calls state before after rule number last c is ran acts v h ok =
     let end : ℕ = 7 * x .steps in
     let room : end + 7 ≤ length calls = omega (arith, c .few .steps, c .roomy .forSteps) in
     let more : List ℕ = take 6 (drop (suc end) calls) in
@@ -50,6 +50,6 @@ season-closes x xs calls state before after rule number left c is ran acts v h o
     asks (length state) (opening (x .k) rule first) (record { state = c .room; whole = omega (arith, size); few = omega (arith, size, c .fewItems) })
     ∙ rw (h .k, own, h .items) (text-opens v ok)
     in
-    let run : SeasonLent (opening (x .k) rule (catalogIn first)) (callsOf (take (end + 7) (set calls end 1))) (ran .numbers) left = ran .season (ran .answer ∙ opens) .0 in
-    let so : Season lent (openingFor v (v .catalog)) (callsIn v) (ran .numbers) left = rw (h .k, own, h .items, same) at (run .season) in
-    record { valid = so .valid; stands = text-stands v ok (ran .numbers) left so }
+    let run : SeasonLent (opening (x .k) rule (catalogIn first)) (callsOf (take (end + 7) (set calls end 1))) (ran .numbers) last = ran .season (ran .answer ∙ opens) .0 in
+    let so : Season lent (openingFor v (v .catalog)) (callsIn v) (ran .numbers) last = rw (h .k, own, h .items, same) at (run .season) in
+    record { valid = so .valid; stands = text-stands v ok (ran .numbers) last so }

@@ -31,7 +31,7 @@ pub record Closable (x : Seen) (xs calls state : List ℕ) : Type 0 where
 
 -- whatever accepted text the slices hold, these are the bytes of its closed season
 abbrev pub Closes : Seen → List ℕ → List ℕ → List ℕ → Type 0
-Closes x xs calls left = (acts : List ℕ) (v : Tables) → Holds x xs calls acts v → Sound v → ClosedAt (closedSeason v) left
+Closes x xs calls last = (acts : List ℕ) (v : Tables) → Holds x xs calls acts v → Sound v → ClosedAt (closedSeason v) last
 
 -- what the report asks: an accepted text in the slices, and a plan's cost that fits
 pub record Reportable (x : Seen) (xs calls : List ℕ) (cost : ℕ) : Type 0 where

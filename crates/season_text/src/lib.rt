@@ -2,7 +2,7 @@
 ghost use Prim.Native.Nat.{_≤_};
 ghost use lib.ListN.{length};
 ghost use Rattle.report.specs.Report.{longest};
-ghost use Rattle.printed.specs.Printed.{Answered, Printed};
+ghost use Rattle.printed.specs.Printed.{Yields, Printed};
 ghost use Rattle.printed.specs.Inner.{OutcomeFits};
 ghost use Rattle.season_text.specs.Answer.{outcomeOf};
 ghost use Rattle.season_text.specs.Inner.{Closable, Closes, Reportable, Reports};
@@ -59,7 +59,7 @@ fn report_season(
 
 // The answer to a text: refused, with every byte of the page as before; or accepted, with its report at the start of the page.
 pub fn answer(text: &[u8], page: &mut [u8]) -> Written
-    ensures { λ r. ⌜ Answered (outcomeOf (now (text .entry))) (now (page .entry)) r (now (page .exit)) ⌝ }
+    ensures { λ r. ⌜ Yields (outcomeOf (now (text .entry))) (now (page .entry)) r (now (page .exit)) ⌝ }
     ensures { λ _. ⌜ OutcomeFits longest (outcomeOf (now (text .entry))) ⌝ }
 {
     if 65536 < text.len() {

@@ -5,7 +5,7 @@ use native.Mathlib.Omega.{arith}
 use borrow.Author.Needs.{needs}
 use lib.ListN.{drop}
 use Rattle.fields.specs.Inner.{Below}
-use Rattle.fields.proofs.Laws.{unrun-lt, below-drop}
+use Rattle.fields.proofs.Laws.{run-from-lt, below-drop}
 use Rattle.basis.proofs.Decides.{no, denied, granted}
 use Rattle.cache_state.proofs.Checks.{Costs, parts-of, valid-of}
 use Rattle.layout.specs.Layout.{cacheOf}
@@ -17,8 +17,8 @@ use Rattle.cache_check.proofs.cache_ok.Tie as tie
 costs : (b : List ℕ) → Below 256 b → Costs (cacheOf b)
 costs b h =
     record {
-      load = λ i. omega (arith, unrun-lt 2 256 (drop atItemLoadCosts b) (below-drop 256 atItemLoadCosts b h) i);
-      write = λ i. omega (arith, unrun-lt 2 256 (drop atItemWriteCosts b) (below-drop 256 atItemWriteCosts b h) i);
+      load = λ i. omega (arith, run-from-lt 2 256 (drop atItemLoadCosts b) (below-drop 256 atItemLoadCosts b h) i);
+      write = λ i. omega (arith, run-from-lt 2 256 (drop atItemWriteCosts b) (below-drop 256 atItemWriteCosts b h) i);
     }
 
 count-requires : tie.Need-count-requires

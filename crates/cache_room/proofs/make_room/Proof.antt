@@ -80,7 +80,7 @@ loop-holds c =
 add-loop : tie.Need-add-loop Inv-loop μ-loop
 add-loop c =
     let so = c .loop .inv .1 in
-    omega (arith, c .before .before .before .blocks2 .ok, so .taken, so .valid .rule .kept .room, capacity-facts (cacheOf (c .loop .b) .k) (so .valid .rule .capacity) .high)
+    omega (arith, c .before .before .before .blocks2 .ok, so .taken, so .valid .standing .kept .room, capacity-facts (cacheOf (c .loop .b) .k) (so .valid .standing .capacity) .high)
 
 evict-requires : tie.Need-evict-requires Inv-loop μ-loop
 evict-requires c κs =

@@ -35,7 +35,7 @@ add-put-item-loads c =
       arith,
       r1 .item-loads .ensures,
       item-loads (cacheOf (s .args .b .now)) (s .pre .valid .cache) (s .args .i) (s .pre .item),
-      s .pre .valid .cache .rule .steps,
+      s .pre .valid .cache .standing .steps,
       s .pre .room,
     )
 

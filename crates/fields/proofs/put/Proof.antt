@@ -5,22 +5,22 @@ use native.Mathlib.Nat.{add-zero}
 use native.Mathlib.Omega.{arith}
 use lib.ListN.{length, length-set}
 use lib.Seq.{sets}
-use Rattle.fields.specs.LittleEndian.{le}
+use Rattle.fields.specs.LittleEndian.{toBytes}
 use Rattle.fields.proofs.Turns.{put-step, put-done}
 use Rattle.fields.proofs.put.Statement.{statement}
 use Rattle.fields.proofs.put.Tie as tie
 
 abbrev Inv-loop : tie.InvT-loop
-Inv-loop buf₀ at w v x₀ i₀ left₀ buf x i left = (i + left ≡ w) × (length buf ≡ length buf₀) × (sets buf (at + i) (le left x) ≡ sets buf₀ at (le w v))
+Inv-loop buf₀ at w v x₀ i₀ rest₀ buf x i rest = (i + rest ≡ w) × (length buf ≡ length buf₀) × (sets buf (at + i) (toBytes rest x) ≡ sets buf₀ at (toBytes w v))
 
 abbrev μ-loop : tie.MeasureT-loop
-μ-loop buf₀ at w v x₀ i₀ left₀ buf x i left = left
+μ-loop buf₀ at w v x₀ i₀ rest₀ buf x i rest = rest
 
 loop-holds : tie.Need-loop-holds Inv-loop μ-loop
 loop-holds c = (omega arith, refl, rw add-zero)
 
-sub-left : tie.Need-sub-left Inv-loop μ-loop
-sub-left c = omega arith
+sub-rest : tie.Need-sub-rest Inv-loop μ-loop
+sub-rest c = omega arith
 
 cast-buf : tie.Need-cast-buf Inv-loop μ-loop
 cast-buf c = omega arith
@@ -41,7 +41,7 @@ loop-again : tie.Need-loop-again Inv-loop μ-loop
 loop-again c = (
   omega arith,
   simp length-set (c .before .loop .inv .1),
-  put-step (c .before .loop .buf) (c .before .before .args .at) (c .before .loop .i) (c .before .loop .left) (c .before .loop .x) (omega arith) ∙ c .before .loop .inv .2,
+  put-step (c .before .loop .buf) (c .before .before .args .at) (c .before .loop .i) (c .before .loop .rest) (c .before .loop .x) (omega arith) ∙ c .before .loop .inv .2,
 )
 
 same-length : tie.Need-same-length Inv-loop μ-loop
@@ -49,7 +49,7 @@ same-length c = c .before .loop .inv .1
 
 returns : tie.Need-returns Inv-loop μ-loop
 returns c =
-    sym (put-done (c .before .loop .buf) (c .before .before .args .at + c .before .loop .i) (c .before .loop .left) (c .before .loop .x) (omega arith))
+    sym (put-done (c .before .loop .buf) (c .before .before .args .at + c .before .loop .i) (c .before .loop .rest) (c .before .loop .x) (omega arith))
     ∙ c .before .loop .inv .2
 
 pub put-spec : {M : Type 1} → statement M
@@ -59,7 +59,7 @@ put-spec =
     Inv-loop
     μ-loop
     loop-holds
-    sub-left
+    sub-rest
     cast-buf
     add-buf
     slice-write-buf

@@ -5,7 +5,7 @@ use Prim.Native.Nat.{ℕ, _+_}
 use lib.ListN.{length, getD}
 use lib.Seq.{sets}
 use borrow.Author.Needs.{needs}
-use Rattle.fields.specs.LittleEndian.{le}
+use Rattle.fields.specs.LittleEndian.{toBytes}
 use Rattle.layout.proofs.Stores.{store-four}
 use Rattle.layout.proofs.put_words.Statement.{statement}
 use Rattle.layout.proofs.put_words.Tie as tie
@@ -53,10 +53,10 @@ returns c =
     let ws = s .args .t3 in
     let l : length ws ≡ 4 = search needs in
     c .before .before .put4 .ensures
-    ∙ ap (λ (u : List ℕ). sets u (at + 24) (le 8 (getD ws 3 0)))
+    ∙ ap (λ (u : List ℕ). sets u (at + 24) (toBytes 8 (getD ws 3 0)))
     (c .before .before .before .before .before .before .put3 .ensures
-    ∙ ap (λ (u : List ℕ). sets u (at + 16) (le 8 (getD ws 2 0)))
-    (c .before .before .before .before .before .before .before .before .before .before .put2 .ensures ∙ ap (λ (u : List ℕ). sets u (at + 8) (le 8 (getD ws 1 0))) (c .before .before .before .before .before .before .before .before .before .before .before .before .before .before .put .ensures)))
+    ∙ ap (λ (u : List ℕ). sets u (at + 16) (toBytes 8 (getD ws 2 0)))
+    (c .before .before .before .before .before .before .before .before .before .before .put2 .ensures ∙ ap (λ (u : List ℕ). sets u (at + 8) (toBytes 8 (getD ws 1 0))) (c .before .before .before .before .before .before .before .before .before .before .before .before .before .before .put .ensures)))
     ∙ store-four at (s .args .b .now) ws l
 
 pub put-words-spec : {M : Type 1} → statement M

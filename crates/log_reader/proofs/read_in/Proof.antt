@@ -7,7 +7,7 @@ use borrow.Author.Tests.{ltb-false}
 use borrow.Author.Needs.{needs}
 use Rattle.decimal.specs.Decimal.{textOf}
 use Rattle.types.specs.declared.Step.the-variants.{Read}
-use Rattle.log_reader.specs.Inner.{Stands}
+use Rattle.log_reader.specs.Inner.{TextAt}
 use Rattle.log_reader.proofs.Finding.{none-in, stands-within, stands-byte, read-begins}
 use Rattle.log_reader.proofs.read_in.Statement.{statement}
 use Rattle.log_reader.proofs.read_in.Tie as tie
@@ -40,7 +40,7 @@ add-end-at : tie.Need-add-end-at
 add-end-at c = search needs
 
 -- `-` stands behind the item
-dash : (c : tie.Else4) → Stands (c .before .before .before .before .before .before .before .before .before .args .text .now) (c .before .before .before .before .before .before .before .short-number .result .end + 1) (45 ∷ [])
+dash : (c : tie.Else4) → TextAt (c .before .before .before .before .before .before .before .before .before .args .text .now) (c .before .before .before .before .before .before .before .short-number .result .end + 1) (45 ∷ [])
 dash c = stands-byte (c .before .before .before .before .before .before .before .before .before .args .text .now) (c .before .before .before .before .before .before .before .short-number .result .end + 1) 45 _ (c .before .is-byte2 .ensures) (c .if4 .left)
 
 end-at-requires : tie.Need-end-at-requires

@@ -11,7 +11,7 @@ use Rattle.season_items.proofs.caught_up.Tie as tie
 use Rattle.season_items.proofs.caught_up.Reads as reads
 use Rattle.season_items.proofs.caught_up.Lts as lts
 use Rattle.season_items.proofs.advanced.Reads as advanced-reads
-use Rattle.season_items.proofs.numbers_at.Reads as numbers-at-reads
+use Rattle.season_items.proofs.numbers_behind.Reads as numbers-behind-reads
 
 abbrev Inv-loop : tie.InvT-loop
 Inv-loop calls from to q₀ s₀ q s = CatchesUp q₀ calls from s q × (s ≤ to)
@@ -22,11 +22,11 @@ abbrev μ-loop : tie.MeasureT-loop
 loop-holds : tie.Need-loop-holds Inv-loop μ-loop
 loop-holds c = let a = c .before .args in (walk-starts (a .p) (a .calls .now) (a .from), c .before .pre .order)
 
-mul-numbers-at : tie.Need-mul-numbers-at Inv-loop μ-loop
-mul-numbers-at c = omega (arith, c .before .before .before .pre .short)
+mul-numbers-behind : tie.Need-mul-numbers-behind Inv-loop μ-loop
+mul-numbers-behind c = omega (arith, c .before .before .before .pre .short)
 
-numbers-at-requires : tie.Need-numbers-at-requires Inv-loop μ-loop
-numbers-at-requires c κs = (omega (arith, c .before .before .before .pre .short, c .before .before .before .pre .forSteps), omega (arith, c .before .before .before .pre .short))
+numbers-behind-requires : tie.Need-numbers-behind-requires Inv-loop μ-loop
+numbers-behind-requires c κs = (omega (arith, c .before .before .before .pre .short, c .before .before .before .pre .forSteps), omega (arith, c .before .before .before .pre .short))
 
 advanced-requires : tie.Need-advanced-requires Inv-loop μ-loop
 advanced-requires c κs =
@@ -43,7 +43,7 @@ loop-less c = omega arith
 loop-again : tie.Need-loop-again Inv-loop μ-loop
 loop-again c =
     let a = c .before .before .before .before .before .args in
-    (walk-on (a .p) (c .before .before .before .loop .q) (c .advanced .result) (a .calls .now) (a .from) (c .before .before .before .loop .s) (c .before .numbers-at .result) (c .before .before .before .loop .inv .0) (c .before .numbers-at .ensures) (advanced-tells (c .before .before .before .loop .q) (c .before .numbers-at .result) (c .advanced .result) (c .advanced .ensures)), omega arith)
+    (walk-on (a .p) (c .before .before .before .loop .q) (c .advanced .result) (a .calls .now) (a .from) (c .before .before .before .loop .s) (c .before .numbers-behind .result) (c .before .before .before .loop .inv .0) (c .before .numbers-behind .ensures) (advanced-tells (c .before .before .before .loop .q) (c .before .numbers-behind .result) (c .advanced .result) (c .advanced .ensures)), omega arith)
 
 returns : tie.Need-returns Inv-loop μ-loop
 returns c =
@@ -57,8 +57,8 @@ caught-up-spec =
     Inv-loop
     μ-loop
     loop-holds
-    mul-numbers-at
-    numbers-at-requires
+    mul-numbers-behind
+    numbers-behind-requires
     advanced-requires
     add-s
     loop-less

@@ -102,15 +102,15 @@ same-length-2 c = search needs
 returns-2 : tie.Need-returns-2
 returns-2 c = let p = c .before .before .put-write in on (c .before .before .before .before .before .before .before .before .before .before .before) _ (p .result) (p .last .1 .1 .1 .0) (written (c .before .before .before .before)) (p .ensures)
 
-numbers-at-requires : tie.Need-numbers-at-requires
-numbers-at-requires c κs = c .before .before .before .before .before .before .before .pre .whole
+list-numbers-requires : tie.Need-list-numbers-requires
+list-numbers-requires c κs = c .before .before .before .before .before .before .before .pre .whole
 
-arrived : (c : tie.After-numbers-at) → line (c .before .before .before .before .before .before .before .before) ≡ arrivalText (c .numbers-at .result)
+arrived : (c : tie.After-list-numbers) → line (c .before .before .before .before .before .before .before .before) ≡ arrivalText (c .list-numbers .result)
 unfolding stepText
 arrived c =
     let s = c .before .before .before .before .before .before .before .before in
     let e : numbers s .kind ≡ 65 = sym (c .before .before .before .before .before .number-at .ensures) ∙ c .before .if3 .taken in
-    line-is s _ (ap (stepText (s .args .heading)) (step-arrive (numbers s) e) ∙ ap arrivalText (sym (c .numbers-at .ensures)))
+    line-is s _ (ap (stepText (s .args .heading)) (step-arrive (numbers s) e) ∙ ap arrivalText (sym (c .list-numbers .ensures)))
 
 put-arrival-requires : tie.Need-put-arrival-requires
 put-arrival-requires c κs = fits (c .before .before .before .before .before .before .before .before .before) _ (arrived (c .before))
@@ -156,7 +156,7 @@ put-step-spec =
     put-write-requires
     same-length-2
     returns-2
-    numbers-at-requires
+    list-numbers-requires
     put-arrival-requires
     same-length-3
     returns-3

@@ -24,8 +24,8 @@ names-bytes-requires c κs = search needs
 loop-holds : tie.Need-loop-holds Inv-loop μ-loop
 loop-holds c = let names = (c .names-bytes) in counting (c .before .before .args .heading) (c .before .before .args .list .now) (names .result) (names .ensures .0) (names .ensures .1)
 
-numbers-at-requires : tie.Need-numbers-at-requires Inv-loop μ-loop
-numbers-at-requires c κs = counting-more (c .before .before .before .before .args .heading) (c .before .loop .inv) (c .loop-test .taken)
+list-numbers-requires : tie.Need-list-numbers-requires Inv-loop μ-loop
+list-numbers-requires c κs = counting-more (c .before .before .before .before .args .heading) (c .before .loop .inv) (c .loop-test .taken)
 
 range-under-requires : tie.Need-range-under-requires Inv-loop μ-loop
 range-under-requires c κs = search needs
@@ -34,14 +34,14 @@ line-of-requires : tie.Need-line-of-requires Inv-loop μ-loop
 line-of-requires c κs = search needs
 
 refusal-of-requires : tie.Need-refusal-of-requires Inv-loop μ-loop
-refusal-of-requires c κs = omega (arith, (c .before .before .range-under) .ensures, range-few (numbersUnder (c .before .before .before .before .before .before .before .before .args .heading) (c .before .before .before .numbers-at .result)), (c .before .if1) .taken)
+refusal-of-requires c κs = omega (arith, (c .before .before .range-under) .ensures, range-few (numbersUnder (c .before .before .before .before .before .before .before .before .args .heading) (c .before .before .before .list-numbers .result)), (c .before .if1) .taken)
 
 returns : tie.Need-returns Inv-loop μ-loop
 returns c =
-    counted-fault (c .before .before .before .before .before .before .before .before .before .args .heading) (c .before .before .before .before .before .before .loop .inv) (counting-more (c .before .before .before .before .before .before .before .before .before .args .heading) (c .before .before .before .before .before .before .loop .inv) (c .before .before .before .before .before .loop-test .taken)) (ap (numbersUnder (c .before .before .before .before .before .before .before .before .before .args .heading)) (c .before .before .before .before .numbers-at .ensures)) (c .before .before .before .range-under .ensures) (c .before .before .if1 .taken) (c .before .line-of .ensures) _ (c .refusal-of .ensures)
+    counted-fault (c .before .before .before .before .before .before .before .before .before .args .heading) (c .before .before .before .before .before .before .loop .inv) (counting-more (c .before .before .before .before .before .before .before .before .before .args .heading) (c .before .before .before .before .before .before .loop .inv) (c .before .before .before .before .before .loop-test .taken)) (ap (numbersUnder (c .before .before .before .before .before .before .before .before .before .args .heading)) (c .before .before .before .before .list-numbers .ensures)) (c .before .before .before .range-under .ensures) (c .before .before .if1 .taken) (c .before .line-of .ensures) _ (c .refusal-of .ensures)
 
 line-bytes-requires : tie.Need-line-bytes-requires Inv-loop μ-loop
-line-bytes-requires c κs = kept (c .before .before .before .before .before .before .before .args .heading) (c .before .before .numbers-at .result) (sym (c .before .range-under .ensures) ∙ (c .if1) .left) .1
+line-bytes-requires c κs = kept (c .before .before .before .before .before .before .before .args .heading) (c .before .before .list-numbers .result) (sym (c .before .range-under .ensures) ∙ (c .if1) .left) .1
 
 add-bytes : tie.Need-add-bytes Inv-loop μ-loop
 add-bytes c = omega (arith, counting-more (c .before .before .before .before .before .before .before .before .args .heading) (c .before .before .before .before .before .loop .inv) (c .before .before .before .before .loop-test .taken), (c .before .before .before .before .before .loop) .inv .small, (c .line-bytes) .ensures .1)
@@ -55,8 +55,8 @@ loop-less c = omega (arith, (c .before .before .before .before .loop-test) .take
 loop-again : tie.Need-loop-again Inv-loop μ-loop
 loop-again c =
     let line = (c .line-bytes) .ensures in
-    let same = kept (c .before .before .before .before .before .before .before .before .args .heading) (c .before .before .before .numbers-at .result) (sym (c .before .before .range-under .ensures) ∙ (c .before .if1) .left) in
-    counting-next (c .before .before .before .before .before .before .before .before .args .heading) (c .before .before .before .before .before .loop .inv) (counting-more (c .before .before .before .before .before .before .before .before .args .heading) (c .before .before .before .before .before .loop .inv) (c .before .before .before .before .loop-test .taken)) (sym (same .0) ∙ ap (numbersUnder (c .before .before .before .before .before .before .before .before .args .heading)) (c .before .before .before .numbers-at .ensures)) (range-free (c .before .before .before .numbers-at .result) (same .1)) (line .0) (line .1)
+    let same = kept (c .before .before .before .before .before .before .before .before .args .heading) (c .before .before .before .list-numbers .result) (sym (c .before .before .range-under .ensures) ∙ (c .before .if1) .left) in
+    counting-next (c .before .before .before .before .before .before .before .before .args .heading) (c .before .before .before .before .before .loop .inv) (counting-more (c .before .before .before .before .before .before .before .before .args .heading) (c .before .before .before .before .before .loop .inv) (c .before .before .before .before .loop-test .taken)) (sym (same .0) ∙ ap (numbersUnder (c .before .before .before .before .before .before .before .before .args .heading)) (c .before .before .before .list-numbers .ensures)) (range-free (c .before .before .before .list-numbers .result) (same .1)) (line .0) (line .1)
 
 line-of-requires-2 : tie.Need-line-of-requires-2 Inv-loop μ-loop
 line-of-requires-2 c κs = search needs
@@ -76,7 +76,7 @@ text-size-spec =
     sub-whole
     names-bytes-requires
     loop-holds
-    numbers-at-requires
+    list-numbers-requires
     range-under-requires
     line-of-requires
     refusal-of-requires

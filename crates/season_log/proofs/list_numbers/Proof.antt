@@ -1,8 +1,8 @@
--- `season_log::numbers_at` meets its contract: each number is read from its place. Assumes nothing.
+-- `season_log::list_numbers` meets its contract: each number is read from its place. Assumes nothing.
 use borrow.Author.Needs.{needs}
 use Rattle.types.specs.Types.{numbersFrom}
-use Rattle.season_log.proofs.numbers_at.Statement.{statement}
-use Rattle.season_log.proofs.numbers_at.Tie as tie
+use Rattle.season_log.proofs.list_numbers.Statement.{statement}
+use Rattle.season_log.proofs.list_numbers.Tie as tie
 
 number-at-requires : tie.Need-number-at-requires
 number-at-requires c κs = search needs
@@ -40,8 +40,8 @@ number-at-requires-6 c κs = search needs
 returns : tie.Need-returns
 returns c = λ i. numbersFrom (c .before .before .before .before .before .number-at .ensures i) (c .before .before .before .before .number-at2 .ensures i) (c .before .before .before .number-at3 .ensures i) (c .before .before .number-at4 .ensures i) (c .before .number-at5 .ensures i) (c .number-at6 .ensures i)
 
-pub numbers-at-spec : {M : Type 1} → statement M
-numbers-at-spec =
+pub list-numbers-spec : {M : Type 1} → statement M
+list-numbers-spec =
     tie.close
     (tie.spec
     number-at-requires
