@@ -1,9 +1,9 @@
-// The cache by value at work: paper 01's unmarked rows and its whole example, then paper 02's two rules of deduction and its arrivals and
-// retirements, through the methods, each with what it answers.
-ghost use Prim.Native.Nat.{_<_};
+// The cache by value at work: paper 01's unmarked rows and its whole example with its report, then paper 02's two rules of deduction and
+// its arrivals and retirements, through the methods, each with what it answers.
 use cache_value::Answer;
 use cache_value::Answered;
 use cache_value::Cache;
+use report::Written;
 use types::Step;
 
 // The paper's number for an answer: 0 if the call was taken.
@@ -55,27 +55,18 @@ fn write_row(minutes: u32) {
     io::write_all(1, b"\n");
 }
 
-// What the report says of item `i`: tenths of an hour, in place of the minutes.
-fn print_item(c: Cache, i: usize)
-    requires { ⌜ i < 256 ⌝ }
-{
-    print(b"", i as u64);
-    print_count(b" ", c.minutes[i] / 6);
-    print_count(b" ", c.itemloads[i]);
-    print_count(b" ", c.itemwritebacks[i]);
-    io::write_all(1, b"\n");
-}
-
-// And of the totals.
-fn print_totals(c: Cache) {
-    print_count(b"", c.hits);
-    print_count(b" ", c.loads);
-    print(b" ", c.loadcost);
-    print_count(b" ", c.evictions);
-    print_count(b" ", c.dirtyevictions);
-    print_count(b" ", c.writebacks);
-    print(b" ", c.writecost);
-    io::write_all(1, b"\n");
+// The report of a cache, on a page with room for every one; or the number that it is refused with.
+fn print_report(c: Cache) {
+    let mut page = report::longest_page();
+    match c.report(&mut page) {
+        Written::Text(n) => {
+            io::write_all(1, &page[..n]);
+        }
+        Written::Refused(r) => {
+            print_count(b"report: ", r.number());
+            io::write_all(1, b"\n");
+        }
+    }
 }
 
 // The whole example: five steps and the closing, the cache handed on from call to call.
@@ -111,10 +102,7 @@ fn whole_example() {
     print_count(b"close: ", number(answer));
     io::write_all(1, b"\n");
     let end = closed.cache;
-    print_item(end, 0);
-    print_item(end, 1);
-    print_item(end, 2);
-    print_totals(end);
+    print_report(end);
     let again = end.close();
     let refused = again.answer;
     print_count(b"close: ", number(refused));
@@ -200,9 +188,7 @@ fn arrivals() {
     let e = take(d, Step::Read { item: 1 }, b"R 1: ");
     let f = take(e, new, b"A 1: ");
     let end = take(f, Step::Read { item: 0 }, b"R 0: ").close().cache;
-    print_item(end, 0);
-    print_item(end, 1);
-    print_totals(end);
+    print_report(end);
     print_count(b"arrivals ", end.arrivals);
     print_count(b", retirements ", end.retirements);
     io::write_all(1, b"\n");

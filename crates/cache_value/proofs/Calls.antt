@@ -13,11 +13,16 @@ use Rattle.landlord.specs.Calls.{Call, stepCall, close, callOf, refusalNow, aft
 use Rattle.cache_state.specs.Cache.{view, Valid}
 use Rattle.layout.specs.Layout.{cacheOf, ValidBytes}
 use Rattle.layout.specs.Inner.{Stands}
+use Rattle.types.specs.declared.Refusal.the-variants.{InvalidState}
+use Rattle.report_lines.specs.declared.Rival.the-variants.{Absent}
+use Rattle.report.specs.declared.Written.{Written}
+use Rattle.report.specs.declared.Written.the-variants.{Refused}
+use Rattle.report.specs.Report.{reportOf, Put, Reported}
 use Rattle.cache.specs.Contract.{lent, Called}
 use Rattle.cache.proofs.Calls.{invalid-called, refused-answers}
 use Rattle.landlord.specs.CallNumbers.{callFrom}
 use Rattle.cache_value.specs.declared.Cache.{Cache}
-use Rattle.cache_value.specs.Contract.{recordOf, byValue}
+use Rattle.cache_value.specs.Contract.{recordOf, byValue, ReportedBy}
 
 -- a cache of more items than there are places is refused with 17
 pub many-called : (c : Cache) (call : Call) → 256 < c .n → Called byValue c call 17 c
@@ -56,6 +61,18 @@ module _ {b : List ℕ} (c : Cache) (s : Stands b (recordOf c)) where
             };
         invalid = λ bad. absurd (let y : _≡_ {A = ℕ} 17 0 = sym (h .invalid (λ ok. bad (valid-here ok)) .0) ∙ z in omega arith);
       }
+
+  -- the report of the bytes is that of the struct
+  pub reported-by : {page after : List ℕ} (r : Written) → Reported b Absent page r after → ReportedBy c page r after
+  reported-by {page} {after} r h =
+      record {
+        fine = λ ok. subst (λ (v : Standing). Put (reportOf v Absent) page r after) same-view (h .fine (valid-there ok));
+        invalid = λ bad. h .invalid (λ ok. bad (valid-here ok));
+      }
+
+-- a cache of more items than there are places has no report
+pub many-reported : (c : Cache) (page : List ℕ) → 256 < c .n → ReportedBy c page (Refused (InvalidState 0)) page
+many-reported c page many = record { fine = λ ok. absurd (omega (arith, ok .fields .few)); invalid = λ bad. (refl, refl) }
 
 -- a call of numbers
 pub call-takes : (b left : List ℕ) (which n : ℕ) (step : Numbers) → which ≡ 0 → Called lent b (stepCall step) n left → Called lent b (callFrom which step) n left

@@ -1,18 +1,27 @@
 -- The contracts of the methods leave no choice: there is exactly one valid struct that stands where the rule stands, and one answer
--- that tells so much. Assumes nothing.
-use mathlib.Core.Path.{_≡_, refl, sym, ap, _∙_}
-use Prim.Native.Nat.{ℕ}
-use Rattle.types.specs.Types.{telling}
+-- that tells so much. And a report's text is within its page. Assumes nothing.
+use mathlib.Core.Path.{_≡_, refl, sym, ap, subst, _∙_}
+use mathlib.Core.Logic.{⊎-elim}
+use mathlib.Core.List.{List}
+use Prim.Native.Nat.{ℕ, _≤_, _<_}
+use native.Mathlib.Omega.{arith}
+use lib.ListN.{length}
+use Rattle.types.specs.Types.{Told, telling}
 use Rattle.landlord.specs.Calls.{Call, callItem}
 use Rattle.types.proofs.Refusals.{refusal-one, refused-some}
 use Rattle.cache_state.proofs.Tells.{Sizes}
 use Rattle.cache_state.proofs.Tells as records
+use Rattle.decimal.proofs.Laws.{less-or-not, wrote-fits, page-length}
+use Rattle.report_lines.specs.declared.Rival.the-variants.{Absent}
+use Rattle.report.specs.declared.Written.{Written}
+use Rattle.report.specs.declared.Written.the-variants.{Text}
+use Rattle.report.specs.Report.{reportOf}
 use Rattle.cache.specs.Contract.{Answers}
 use Rattle.cache_value.specs.declared.Cache.{Cache}
 use Rattle.cache_value.specs.declared.Answer.{Answer}
 use Rattle.cache_value.specs.declared.Answer.the-variants.{Taken, Refused}
 use Rattle.cache_value.specs.declared.Answered.{Answered}
-use Rattle.cache_value.specs.Contract.{recordOf, byValue, answerTold, CalledBy}
+use Rattle.cache_value.specs.Contract.{recordOf, byValue, answerTold, CalledBy, ReportedBy}
 
 -- structs that are one record are one struct
 pub record-one : (c d : Cache) → recordOf c ≡ recordOf d → c ≡ d
@@ -79,3 +88,22 @@ pub method-one :
 method-one c call r s ok sr ss p q =
     let one = answers-one c (r .cache) (s .cache) call _ _ sr ss (p .called .fine ok) (q .called .fine ok) in
     (answer-one (r .answer) (s .answer) (p .tells ∙ ap (λ (n : ℕ). telling n 0 (callItem call)) (one .0) ∙ sym (q .tells)), one .1)
+
+-- ---- the report
+
+-- a text that was written is within the page as it is then: of a struct that is not valid none is
+text-within : (c : Cache) (page after : List ℕ) (n : ℕ) → ReportedBy c page (Text n) after → n ≤ length after
+text-within c page after n h = ⊎-elim (λ long. absurd (none long)) (λ few. few) (less-or-not (length after) n)
+  where
+    t : List ℕ
+    t = reportOf (byValue .view c) Absent
+
+    none : length after < n → ⊥
+    none long =
+        let bad = h .invalid (λ ok. let put = h .fine ok in omega (arith, long, put .size, wrote-fits t page, ap length (put .page), page-length t page)) in
+        let z : _≡_ {A = ℕ} 0 17 = ap (λ (x : Told). x .number) (bad .0) in
+        omega (arith, z)
+
+-- the same of an answer that is known to be a text
+pub report-within : (c : Cache) (page after : List ℕ) (w : Written) (n : ℕ) → w ≡ Text n → ReportedBy c page w after → n ≤ length after
+report-within c page after w n e h = text-within c page after n (subst (λ (z : Written). ReportedBy c page z after) e h)

@@ -1,10 +1,12 @@
--- The cache as a struct by value, its calls as methods: what each promises, and the season theorem by value. Assumes nothing.
+-- The cache as a struct, its calls and its report as methods: what each promises, and the season theorem by value. Assumes nothing.
 use mathlib.Core.{Path._≡_, Bool.{true, cond}, List.{List, [], _∷_, map}, Logic._≢_}
 use Prim.Native.Nat.{ℕ, _<_, _+_}
 use lib.{Dec.eqb, ListN.{getD, length, take}, Seq.sets}
 use Rattle.types.specs.Types.{telling, nothingTold, told, Told}
 use Rattle.landlord.specs.{Fold.tab, Catalog.{Catalog, listed}, Slot.writeFirst, Rule.emptied, Figures.{Standing, nothing, start, opened, changed}, Calls.{Opening, Call, callItem, openingRefusal, startsAt, close, refusal}}
 use Rattle.cache_state.specs.Cache.{Cache as Record, view, Valid, EmptyPlace}
+use Rattle.report_lines.specs.declared.Rival.the-variants.{Absent}
+use Rattle.report.specs.{declared.Written.Written, Report.{reportOf, writtenTold, Put}}
 use Rattle.cache.specs.Contract.{Kind, Called}
 use Rattle.cache_run.specs.Season.{Closing, Bounded, Season}
 use Rattle.cache_value.specs.declared.{Cache.Cache, Answer.{Answer, the-variants.{Taken, Refused}}, Answered.Answered}
@@ -74,6 +76,12 @@ pub record OpenedBy (o : Opening Catalog) (r : Answered) : Type 0 where
   pub stands : byValue .view (r .cache) ≡ cond (eqb (openingRefusal o) 0) (startsAt o) refusedOpening
   -- "It has 256 places, one for each sail number, empty at opening"
   pub empty : (i : ℕ) → i < 256 → EmptyPlace (recordOf (r .cache)) i
+
+-- the report of the struct alone, so with no rival's figures, on a lent page: "a report 17, 15"; a struct that is not valid leaves every
+-- byte of the page as before
+pub record ReportedBy (c : Cache) (before : List ℕ) (r : Written) (after : List ℕ) : Type 0 where
+  pub fine : byValue .Valid c → Put (reportOf (byValue .view c) Absent) before r after
+  pub invalid : (byValue .Valid c → ⊥) → (writtenTold r ≡ telling 17 0 0) × (after ≡ before)
 
 -- ---- the season: each call is handed the cache that the last one handed back
 

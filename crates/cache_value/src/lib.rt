@@ -1,6 +1,6 @@
-// The cache by value, in the form of paper 01: a struct whose calls are methods that take it and hand back the answer with the next one.
-// A method stores the struct in bytes, makes the call in place there, and reads it back, and an opening is made in bytes too; only this
-// form pays for that.
+// The cache by value, in the form of paper 01: a struct whose calls are methods that take it and hand back the answer with the next one,
+// and whose report is a method too. A method stores the struct in bytes, makes the call in place there, and reads it back; a report is
+// that of the bytes, and an opening is made in bytes; only this form pays for that.
 ghost use mathlib.Core.Path.{_≡_};
 ghost use Prim.Native.Nat.{_≤_};
 ghost use lib.ListN.{length};
@@ -9,8 +9,10 @@ ghost use Rattle.landlord.specs.Calls.{opening, close, callOf};
 ghost use Rattle.catalog_bytes.specs.Inner.{catalogOfFirst};
 ghost use Rattle.cache.specs.Contract.{lent, Called};
 ghost use Rattle.landlord.specs.CallNumbers.{callFrom, callsOf};
-ghost use Rattle.cache_value.specs.Contract.{recordOf, byValue, catalogFrom, answerTold, CalledBy, OpenedBy, Ran};
+ghost use Rattle.cache_value.specs.Contract.{recordOf, byValue, catalogFrom, answerTold, CalledBy, OpenedBy, ReportedBy, Ran};
 ghost use Rattle.cache_value.specs.Inner.{nothingOpened, Opened};
+use report::Written;
+use report_lines::Rival;
 use types::Deduction;
 use types::Numbers;
 use types::Refusal;
@@ -216,6 +218,19 @@ impl Cache {
         ensures { λ r. ⌜ CalledBy self close r ⌝ }
     {
         answer_with(call(self, 1, Step::Flush.numbers()), 0)
+    }
+
+    // Writes the report of the cache alone, with no rival's figures, at the start of the page: 17 if the cache is not valid, 15 if the
+    // page is too short. Refused, every byte of the page is as before. More items than there are places have no room in the bytes.
+    pub fn report(self, page: &mut [u8]) -> Written
+        ensures { λ r. ⌜ ReportedBy self (now (page .entry)) r (now (page .exit)) ⌝ }
+    {
+        if self.n > 256 {
+            return Written::Refused(Refusal::InvalidState { line: 0 });
+        }
+        let mut b = [0u8; layout::STATE_BYTES];
+        bytes::encode(self, &mut b);
+        report::report(&b, Rival::Absent, page)
     }
 }
 
