@@ -28,10 +28,6 @@ abbrev pub arrivalText : Numbers → List ℕ
 arrivalText n =
     textOf "A " ++ (digitsOf (n .item) ++ (textOf " - " ++ (digitsOf (n .blocks) ++ (textOf " " ++ (digitsOf (n .load) ++ (textOf " " ++ (digitsOf (n .write) ++ textOf "\n")))))))
 
--- a text and a number behind it
-abbrev pub valueText : List ℕ → ℕ → List ℕ
-valueText text v = text ++ digitsOf v
-
 -- what the table says by their ranges to the numbers of the step at a place of a list, and the step
 abbrev pub rangeAt : ℕ → ℕ → List ℕ → ℕ
 rangeAt heading at list = rangeUnder heading (listNumbers at list)

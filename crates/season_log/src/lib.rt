@@ -5,13 +5,13 @@ ghost use mathlib.Core.Path.{_≡_};
 ghost use mathlib.Core.Bool.{true};
 ghost use Prim.Native.Nat.{_+_, _/_, _≤_, _<_};
 ghost use lib.ListN.{length};
-ghost use Rattle.decimal.specs.InnerPages.{textOver};
+ghost use Rattle.decimal.specs.InnerPages.{labelled, textOver};
 ghost use Rattle.types.specs.declared.Step.the-variants.{Write, Flush};
 ghost use Rattle.types.specs.Types.{stepOf};
 ghost use Rattle.landlord.specs.Steps.{inRange};
 ghost use Rattle.season_lines.specs.Lines.{rangeUnder};
 ghost use Rattle.season_log.specs.Log.{noValues, stepText, listNumber, listNumbers, toldLine, lentUnder, lentLog, LogWritten};
-ghost use Rattle.season_log.specs.Inner.{namesText, namedText, arrivalText, valueText, stepAt, Arrives, textSize, LineFits, LinesFit, LinesOn};
+ghost use Rattle.season_log.specs.Inner.{namesText, namedText, arrivalText, stepAt, Arrives, textSize, LineFits, LinesFit, LinesOn};
 use types::Numbers;
 use types::Refusal;
 
@@ -228,14 +228,13 @@ fn put_write(heading: u32, item: u32, minutes: u32, page: &mut [u8]) -> usize
     at + put_end(heading, &mut page[at..])
 }
 
-// Writes a text and a number behind it at the start of the page, which has room for them.
-fn put_value(text: &[u8], v: u32, page: &mut [u8]) -> usize
-    requires { ⌜ length (valueText (now text) v) ≤ length (now page) ⌝ }
-    ensures { λ r. ⌜ r ≡ length (valueText (now (text .entry)) v) ⌝ }
-    ensures { λ _. ⌜ now (page .exit) ≡ textOver (valueText (now (text .entry)) v) (now (page .entry)) ⌝ }
+// Writes a value of a step behind its label at the start of the page, which has room for both.
+fn put_value(label: &[u8], v: u32, page: &mut [u8]) -> usize
+    requires { ⌜ length (labelled (now label) v) ≤ length (now page) ⌝ }
+    ensures { λ r. ⌜ r ≡ length (labelled (now (label .entry)) v) ⌝ }
+    ensures { λ _. ⌜ now (page .exit) ≡ textOver (labelled (now (label .entry)) v) (now (page .entry)) ⌝ }
 {
-    let at = decimal::put_text(text, page);
-    at + decimal::write(v as u64, &mut page[at..])
+    decimal::put_labelled(label, v as u64, page)
 }
 
 // Writes the line of an arrival at the start of the page, which has room for it.

@@ -6,9 +6,10 @@ use borrow.Author.Needs.{needs}
 use borrow.Rule.Slice.PartMut.{putMid}
 use lib.ListN.{length, length-append}
 use Rattle.decimal.specs.Decimal.{textOf, digitsOf}
+use Rattle.decimal.specs.InnerPages.{labelled}
 use Rattle.decimal.proofs.Pages.{TextGoing, go-first, go-room, go-next, go-end}
 use Rattle.types.specs.declared.Numbers.{Numbers}
-use Rattle.season_log.specs.Inner.{arrivalText, valueText}
+use Rattle.season_log.specs.Inner.{arrivalText}
 use Rattle.season_log.proofs.put_arrival.Statement.{statement}
 use Rattle.season_log.proofs.put_arrival.Tie as tie
 
@@ -35,7 +36,7 @@ named :
 named c =
     let s = c .before .before .before .before in
     let n = s .args .n in
-    go-first (valueText (textOf "A ") (n .item)) (behind-item n) (s .args .page .now) (s .pre) (c .put-value .ensures .0) (c .put-value .ensures .1)
+    go-first (labelled (textOf "A ") (n .item)) (behind-item n) (s .args .page .now) (s .pre) (c .put-value .ensures .0) (c .put-value .ensures .1)
 
 slice-aggregate-put-value-2 : tie.Need-slice-aggregate-put-value-2
 slice-aggregate-put-value-2 c = search needs
@@ -53,7 +54,7 @@ put-value-requires-2 : tie.Need-put-value-requires-2
 put-value-requires-2 c κs =
     let s = c .before .before .before .before .before .before .before .before in
     let n = s .args .n in
-    go-room (s .pre) _ (valueText (textOf " - ") (n .blocks)) (behind-blocks n) _ (named (c .before .before .before .before))
+    go-room (s .pre) _ (labelled (textOf " - ") (n .blocks)) (behind-blocks n) _ (named (c .before .before .before .before))
 
 -- the blocks: how far, and the page with them
 abbrev far-2 : (c : tie.After-put-value2) → ℕ
@@ -73,7 +74,7 @@ sized :
 sized c =
     let s = c .before .before .before .before .before .before .before .before .before in
     let n = s .args .n in
-    go-next (s .pre) (valueText (textOf " - ") (n .blocks)) (behind-blocks n) (named (c .before .before .before .before .before)) (c .put-value2 .ensures .0) (c .put-value2 .ensures .1)
+    go-next (s .pre) (labelled (textOf " - ") (n .blocks)) (behind-blocks n) (named (c .before .before .before .before .before)) (c .put-value2 .ensures .0) (c .put-value2 .ensures .1)
 
 add-at : tie.Need-add-at
 add-at c = omega (arith, c .before .before .before .before .before .before .before .before .before .before .before .pre, sized (c .before .before))
@@ -94,7 +95,7 @@ put-value-requires-3 : tie.Need-put-value-requires-3
 put-value-requires-3 c κs =
     let s = c .before .before .before .before .before .before .before .before .before .before .before .before .before in
     let n = s .args .n in
-    go-room (s .pre) _ (valueText (textOf " ") (n .load)) (behind-load n) _ (sized (c .before .before .before .before))
+    go-room (s .pre) _ (labelled (textOf " ") (n .load)) (behind-load n) _ (sized (c .before .before .before .before))
 
 -- the load cost: how far, and the page with it
 abbrev far-3 : (c : tie.After-put-value3) → ℕ
@@ -114,7 +115,7 @@ loaded :
 loaded c =
     let s = c .before .before .before .before .before .before .before .before .before .before .before .before .before .before in
     let n = s .args .n in
-    go-next (s .pre) (valueText (textOf " ") (n .load)) (behind-load n) (sized (c .before .before .before .before .before)) (c .put-value3 .ensures .0) (c .put-value3 .ensures .1)
+    go-next (s .pre) (labelled (textOf " ") (n .load)) (behind-load n) (sized (c .before .before .before .before .before)) (c .put-value3 .ensures .0) (c .put-value3 .ensures .1)
 
 add-at-2 : tie.Need-add-at-2
 add-at-2 c = omega (arith, c .before .before .before .before .before .before .before .before .before .before .before .before .before .before .before .before .pre, loaded (c .before .before))
@@ -135,7 +136,7 @@ put-value-requires-4 : tie.Need-put-value-requires-4
 put-value-requires-4 c κs =
     let s = c .before .before .before .before .before .before .before .before .before .before .before .before .before .before .before .before .before .before in
     let n = s .args .n in
-    go-room (s .pre) _ (valueText (textOf " ") (n .write)) (textOf "\n") _ (loaded (c .before .before .before .before))
+    go-room (s .pre) _ (labelled (textOf " ") (n .write)) (textOf "\n") _ (loaded (c .before .before .before .before))
 
 -- the write cost: how far, and the page with it
 abbrev far-4 : (c : tie.After-put-value4) → ℕ
@@ -155,7 +156,7 @@ costed :
 costed c =
     let s = c .before .before .before .before .before .before .before .before .before .before .before .before .before .before .before .before .before .before .before in
     let n = s .args .n in
-    go-next (s .pre) (valueText (textOf " ") (n .write)) (textOf "\n") (loaded (c .before .before .before .before .before)) (c .put-value4 .ensures .0) (c .put-value4 .ensures .1)
+    go-next (s .pre) (labelled (textOf " ") (n .write)) (textOf "\n") (loaded (c .before .before .before .before .before)) (c .put-value4 .ensures .0) (c .put-value4 .ensures .1)
 
 add-at-3 : tie.Need-add-at-3
 add-at-3 c = omega (arith, c .before .before .before .before .before .before .before .before .before .before .before .before .before .before .before .before .before .before .before .before .before .pre, costed (c .before .before))
