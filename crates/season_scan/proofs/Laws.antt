@@ -15,7 +15,7 @@ use lib.Seq.{drop-drop, take-take, length-take-le, take-nil, take-all}
 use Rattle.types.specs.declared.Refusal.{Refusal}
 use Rattle.types.specs.declared.Refusal.the-variants.{Malformed, Heading, OutOfSequence, PlanTooLarge, ActOutOfOrder}
 use Rattle.types.specs.declared.Step.{Step}
-use Rattle.types.specs.Types.{stepItem, actItem}
+use Rattle.types.specs.Types.{stepItem, actItem, telling, refusalFrom}
 use Rattle.landlord.specs.Fold.{fold}
 use Rattle.landlord.specs.Catalog.{Catalog, listed, catalogNext, catalogAfter}
 use Rattle.landlord.specs.Steps.{ifKnown, itemRefusal}
@@ -28,7 +28,7 @@ use Rattle.season_lines.specs.declared.Line.the-variants.{Sizes, Item as ItemLi
 use Rattle.line_fields.specs.Fields.{split, fieldOf, fieldsOf}
 use Rattle.season_lines.specs.Lines.{headingOf, lineIn}
 use Rattle.line_fields.specs.Inner.{before}
-use Rattle.season_tables.specs.Tables.{Tables, Sofar, OrRefusal, gives, stops, goesOn, mayEnd, mustEnd, namedBy, nextTable, withSizes, withItem, withStep, withAct, inTurn, itemRefused, takes, readLine, atEnd, readFrom}
+use Rattle.season_tables.specs.Tables.{Tables, Sofar, OrRefusal, gives, stops, goesOn, mayEnd, mustEnd, namedBy, nextTable, withSizes, withItem, withStep, withAct, inTurn, takes, readLine, atEnd, readFrom}
 use Rattle.season_tables.specs.Inner.{isBlank, isSized, wantsValues}
 use Rattle.season_scan.specs.Inner.{onward, readUntil}
 use Rattle.season_tables.proofs.Leads.{leads-values}
@@ -155,7 +155,7 @@ grown-by v w table heading fs n e = go (lineIn table heading fs n) (line-says ta
         (record { items = as-long (v .steps) (v .catalog) (v .catalog ++ (listed k l m ∷ [])) (omega (arith, length-append (v .catalog) (listed k l m ∷ []))); steps = inl refl; acts = inl refl; early = λ l. refl })
     go (StepLine s) l e =
         let number = itemRefusal (v .k) (itemsNow v) s in
-        to (withStep v s) (if-gives (eqb number 0) (withStep v s) w (itemRefused number n (stepItem s)) e)
+        to (withStep v s) (if-gives (eqb number 0) (withStep v s) w (refusalFrom (telling number n (stepItem s))) e)
         (record {
           items = rw (after-more (v .catalog) (v .steps) s) (next-keeps (itemsNow v) s .longer);
           steps = inr (length-append (v .steps) (s ∷ []), refl, l .1);
@@ -164,7 +164,7 @@ grown-by v w table heading fs n e = go (lineIn table heading fs n) (line-says ta
         })
     go (ActLine place act) l e =
         let number = ifKnown (catalogAfter (v .catalog) (take place (v .steps))) (actItem act) 0 in
-        to (withAct v place act) (if-both (inTurn v place) (eqb number 0) (withAct v place act) w (itemRefused number n (actItem act)) (ActOutOfOrder n) e)
+        to (withAct v place act) (if-both (inTurn v place) (eqb number 0) (withAct v place act) w (refusalFrom (telling number n (actItem act))) (ActOutOfOrder n) e)
         (record {
           items = omega arith;
           steps = inl refl;

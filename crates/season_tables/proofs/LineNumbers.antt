@@ -10,7 +10,8 @@ use lib.ListN.{length, take, length-append}
 use lib.Dec.{leb, eqb}
 use borrow.Author.Tests.{eqb-true}
 use Rattle.types.specs.declared.Refusal.{Refusal}
-use Rattle.types.specs.Types.{stepItem, actItem, refusalLine}
+use Rattle.types.specs.Types.{stepItem, actItem, telling, refusalLine}
+use Rattle.types.proofs.Refusals.{refusal-line}
 use Rattle.landlord.specs.Catalog.{listed, catalogAfter}
 use Rattle.landlord.specs.Steps.{ifKnown, itemRefusal}
 use Rattle.landlord.proofs.Folds.{either}
@@ -22,7 +23,7 @@ use Rattle.line_fields.specs.Fields.{split, fieldsOf}
 use Rattle.line_fields.proofs.Laws.{and-parts}
 use Rattle.season_lines.specs.Lines.{headingOf}
 use Rattle.season_lines.proofs.Pieces.{Says, line-says}
-use Rattle.season_tables.specs.Tables.{Placed, Tables, Sofar, OrRefusal, gives, stops, goesOn, atStart, inTurn, itemRefused, unlessRefused, takes, mayEnd, mustEnd, namedBy, readLine, atEnd, readFrom, readingTo, readingOf}
+use Rattle.season_tables.specs.Tables.{Placed, Tables, Sofar, OrRefusal, gives, stops, goesOn, atStart, inTurn, unlessRefused, takes, mayEnd, mustEnd, namedBy, readLine, atEnd, readFrom, readingTo, readingOf}
 use Rattle.season_tables.specs.Inner.{isBlank, isSized}
 use Rattle.season_tables.proofs.Sound.{split-few}
 
@@ -64,15 +65,7 @@ ByLine count n (stops r) = refusalLine r ≡ n
 
 -- a line that is refused by its item names itself
 unless-by : (count : Tables → ℕ) (n number item : ℕ) (w : Tables) → count w ≤ n → ByLine count n (unlessRefused number n item w)
-unless-by count n number item w l = either (ByLine count n) (eqb number 0) _ _ (λ e. l) (λ e. itself)
-  where
-    Q : Refusal → Type 0
-    Q r = refusalLine r ≡ n
-
-    itself : Q (itemRefused number n item)
-    itself =
-        either Q (eqb number 6) _ _ (λ f. refl)
-        (λ f. either Q (eqb number 7) _ _ (λ g. refl) (λ g. either Q (eqb number 19) _ _ (λ h. refl) (λ h. refl)))
+unless-by count n number item w l = either (ByLine count n) (eqb number 0) _ _ (λ e. l) (λ e. refusal-line (telling number n item))
 
 -- any value line, and any line
 module _ (n : ℕ) (v : Sofar) (few : linesRead v < n) where

@@ -3,8 +3,8 @@
 use mathlib.Core.{Bool.{Bool, true, false, cond, _&&_}, List.{List, [], _∷_, _++_}}
 use Prim.Native.Nat.{ℕ, suc}
 use lib.{ListN.{length, take}, Dec.{leb, ltb, eqb}}
-use Rattle.types.specs.declared.{Step.Step, Act.Act, Deduction.{Deduction, the-variants.WriteFirst}, Refusal.{Refusal, the-variants.{Malformed, Heading, OutOfSequence, PlanTooLarge, UnknownItem, ItemTooLarge, ActOutOfOrder, NotNextNumber, RetiredItem}}}
-use Rattle.types.specs.Types.{stepItem, actItem}
+use Rattle.types.specs.declared.{Step.Step, Act.Act, Deduction.{Deduction, the-variants.WriteFirst}, Refusal.{Refusal, the-variants.{Malformed, Heading, OutOfSequence, PlanTooLarge, ActOutOfOrder}}}
+use Rattle.types.specs.Types.{stepItem, actItem, telling, refusalFrom}
 use Rattle.landlord.specs.{Fold.fold, Catalog.{Catalog, listed, catalogAfter}, Steps.{ifKnown, itemRefusal}}
 use Rattle.season_lines.specs.declared.{Names.{Names, the-variants.{Known, Unknown}}, Line.{Line, the-variants.{Sizes, Item as ItemLine, Step as StepLine, Act as ActLine, Refused}}}
 use Rattle.line_fields.specs.Fields.{split, fieldsOf}
@@ -66,17 +66,9 @@ withAct v place act =
 abbrev pub inTurn : Tables → ℕ → Bool
 inTurn v place = leb (fold (λ (p : ℕ) (a : Placed). a .place) 0 (v .acts)) place && ltb place (length (v .steps))
 
--- 6, 7, 19 or else 20, told on line n of an item
-abbrev pub itemRefused : ℕ → ℕ → ℕ → Refusal
-itemRefused number n item =
-    cond (eqb number 6) (UnknownItem n item)
-    (cond (eqb number 7) (ItemTooLarge n item)
-    (cond (eqb number 19) (NotNextNumber n item)
-    (RetiredItem n item)))
-
--- 0 is no refusal
+-- 0 is no refusal; a number of an item (6, 7, 19, 20) is told on line n with it
 abbrev pub unlessRefused : ℕ → ℕ → ℕ → Tables → OrRefusal Tables
-unlessRefused number n item w = cond (eqb number 0) (gives w) (stops (itemRefused number n item))
+unlessRefused number n item w = cond (eqb number 0) (gives w) (stops (refusalFrom (telling number n item)))
 
 -- A value line that is shaped and in range, on line n: "then for `locker rival` 5, for sails 4, for steps 6, 7, for acts 10, 6", with 19
 -- for an arrival, and "20 when a step or act names a sail whose Q is at an earlier step, straight after 6". A step goes by the catalog as
