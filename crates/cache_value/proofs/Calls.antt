@@ -40,7 +40,7 @@ module _ {b : List ℕ} (c : Cache) (s : Stands b (recordOf c)) where
   same-view = ap view (s .cache)
 
   -- refused in place, the struct is handed back as it was
-  pub refused-called : {left : List ℕ} (call : Call) (n : ℕ) → Called lent b call n left → n ≢ 0 → Called byValue c call n c
+  pub refused-called : {next : List ℕ} (call : Call) (n : ℕ) → Called lent b call n next → n ≢ 0 → Called byValue c call n c
   refused-called call n h d =
       record {
         fine = λ ok. refused-answers byValue c call n ok (h .fine (valid-there ok) .answer ∙ ap (λ (v : Standing). refusalNow v call) same-view) d;
@@ -48,7 +48,7 @@ module _ {b : List ℕ} (c : Cache) (s : Stands b (recordOf c)) where
       }
 
   -- taken in place, the struct that the bytes stand for then is where the rule stands
-  pub taken-called : {left : List ℕ} (call : Call) (n : ℕ) (d : Cache) → Called lent b call n left → n ≡ 0 → recordOf d ≡ cacheOf left → Called byValue c call 0 d
+  pub taken-called : {next : List ℕ} (call : Call) (n : ℕ) (d : Cache) → Called lent b call n next → n ≡ 0 → recordOf d ≡ cacheOf next → Called byValue c call 0 d
   taken-called call n d h z e =
       record {
         fine = λ ok.
@@ -75,11 +75,11 @@ pub many-reported : (c : Cache) (page : List ℕ) → 256 < c .n → ReportedBy 
 many-reported c page many = record { fine = λ ok. absurd (omega (arith, ok .fields .few)); invalid = λ bad. (refl, refl) }
 
 -- a call of numbers
-pub call-takes : (b left : List ℕ) (which n : ℕ) (step : Numbers) → which ≡ 0 → Called lent b (stepCall step) n left → Called lent b (callFrom which step) n left
-call-takes b left which n step e h = rw (eq-eqb which 0 e) h
+pub call-takes : (b next : List ℕ) (which n : ℕ) (step : Numbers) → which ≡ 0 → Called lent b (stepCall step) n next → Called lent b (callFrom which step) n next
+call-takes b next which n step e h = rw (eq-eqb which 0 e) h
 
-pub call-closes : (b left : List ℕ) (which n : ℕ) (step : Numbers) → which ≢ 0 → Called lent b close n left → Called lent b (callFrom which step) n left
-call-closes b left which n step e h = rw (ne-eqb which 0 e) h
+pub call-closes : (b next : List ℕ) (which n : ℕ) (step : Numbers) → which ≢ 0 → Called lent b close n next → Called lent b (callFrom which step) n next
+call-closes b next which n step e h = rw (ne-eqb which 0 e) h
 
 -- a step's call is that of its numbers
 pub called-as : (c d : Cache) (s : Step) (n : ℕ) {step : Numbers} → step ≡ numbersOf s → Called byValue c (stepCall step) n d → Called byValue c (callOf s) n d

@@ -1,8 +1,8 @@
--- Laws of an opening by value: its arrays as a catalog in bytes, the opening in place of that, and the cache of a refused one.
+-- Laws of an opening by value: its arrays as a catalog in bytes, the opening in place of that, and the empty cache that is handed back.
 -- Assumes nothing.
 use mathlib.Core.Path.{_≡_, refl, sym, ap, subst, _∙_}
 use mathlib.Core.Logic.{_≢_}
-use mathlib.Core.Bool.{true, false, cond}
+use mathlib.Core.Bool.{Bool, true, false, cond}
 use mathlib.Core.List.{List, [], _∷_, _++_}
 use Prim.Native.Nat.{ℕ, _+_, _*_, _≤_, _<_}
 use native.Mathlib.Numerals.{add-one}
@@ -11,25 +11,29 @@ use lib.Dec.{eqb}
 use lib.ListN.{length, take, getD, replicate, getD-replicate}
 use lib.Seq.{sets, length-take-le}
 use borrow.Author.Tests.{ne-eqb}
+use Rattle.types.specs.declared.Deduction.{Deduction}
 use Rattle.types.specs.declared.Deduction.the-variants.{WriteFirst}
+use Rattle.types.specs.Types.{deductionOf}
 use Rattle.landlord.specs.Fold.{tabFrom, fold}
-use Rattle.landlord.specs.Catalog.{Catalog, Item, listed, noneLeft, CapacityOk, CatalogOk, allInRange, catalogInRange}
+use Rattle.landlord.specs.Catalog.{Catalog, Item, itemAt, noItem, listed, noneLeft, CapacityOk, CatalogOk, allInRange, catalogInRange}
 use Rattle.landlord.specs.Slot.{writeFirst}
 use Rattle.landlord.specs.Rule.{flush, writeBacks}
 use Rattle.landlord.specs.Figures.{Standing, start, opened, closes}
 use Rattle.landlord.specs.Calls.{Opening, opening, openingRefusal, startsAt}
 use Rattle.landlord.specs.Valid.{StandingOk}
-use Rattle.landlord.proofs.Folds.{tab-more}
+use Rattle.landlord.proofs.Folds.{tab-length, tab-at, tab-more}
 use Rattle.landlord.proofs.Valid.{ok-opened, ok-closes}
 use Rattle.landlord.proofs.Ranges.{range-refused}
 use Rattle.catalog_bytes.specs.Inner.{catalogOfFirst, itemBytes}
 use Rattle.catalog_bytes.proofs.Laws.{none-first, one-more}
-use Rattle.cache_state.specs.Cache.{view, Valid, EmptyPlace}
+use Rattle.cache_state.specs.Cache.{view, Valid, EmptyPlace, Blank}
+use Rattle.cache_state.specs.InnerView.{itemOf}
 use Rattle.cache_state.specs.InnerBecomes.{Becomes}
 use Rattle.cache_state.specs.Cache as records
+use Rattle.cache_state.proofs.Views.{size-is, item-is}
 use Rattle.layout.specs.Layout.{stateBytes, cacheOf}
 use Rattle.cache_open.specs.Opening.{OpenedLent}
-use Rattle.cache_open.specs.Inner.{Column}
+use Rattle.cache_open.specs.Inner.{Column, emptyWith}
 use Rattle.cache_open.proofs.Blocks.{catalog-few}
 use Rattle.cache_open.proofs.Empty.{empty-place, empty-becomes}
 use Rattle.cache_open.proofs.Openings.{asks}
@@ -40,6 +44,23 @@ use Rattle.cache_value.specs.Inner.{nothingOpened, Opened}
 -- where an opening stands, by the number of its answer
 abbrev pub atOpening : Opening Catalog → ℕ → Standing
 atOpening o number = cond (eqb number 0) (startsAt o) refusedOpening
+
+-- a struct that stands there in order, empty in all its places
+stood :
+    (o : Opening Catalog) (number : ℕ) (c : Cache) {k n : ℕ} {blocks load write : List ℕ} {isClosed : Bool} {r : Deduction} →
+    number ≡ openingRefusal o →
+    StandingOk (atOpening o number) →
+    Becomes (atOpening o number) (emptyWith k n blocks load write isClosed r) →
+    recordOf c ≡ emptyWith k n blocks load write isClosed r →
+    Opened o number c
+stood o number c {k = k} {n = n} {blocks = blocks} {load = load} {write = write} {isClosed = isClosed} {r = r} asked ok h e =
+    let so : Becomes (atOpening o number) (recordOf c) = subst (Becomes (atOpening o number)) (sym e) h in
+    record {
+      answer = asked;
+      valid = record { fields = so .fields; standing = subst StandingOk (sym (so .stands)) ok };
+      stands = so .stands;
+      empty = λ i l. subst (λ (z : records.Cache). EmptyPlace z i) (sym e) (empty-place k n blocks load write isClosed r i l);
+    }
 
 -- a closed cache of 1 block with no items is in order
 refused-ok : StandingOk refusedOpening
@@ -73,17 +94,10 @@ module _ (k rule n : ℕ) (blocks load write : List ℕ) where
       Opened asked number c
   unfolding tabFrom
   refused-with number c same some e =
-      record {
-        answer = same;
-        valid = record { fields = so .fields; standing = subst StandingOk (sym (so .stands)) refused-ok };
-        stands = rw some (so .stands);
-        empty = λ i l. subst (λ (z : records.Cache). EmptyPlace z i) (sym e) (empty-place 1 0 (replicate 256 0) (replicate 256 0) (replicate 256 0) true WriteFirst i l);
-      }
-    where
-      so : Becomes refusedOpening (recordOf c)
-      so =
-          subst (Becomes refusedOpening) (sym e)
-          (empty-becomes 1 0 item true WriteFirst (replicate 256 0) (replicate 256 0) (replicate 256 0) (omega arith) (no-column (λ i. item i .blocks)) (no-column (λ i. item i .load)) (no-column (λ i. item i .write)) (λ i. refl))
+      stood asked number c same (rw some refused-ok)
+      (rw some
+      (empty-becomes 1 0 item true WriteFirst (replicate 256 0) (replicate 256 0) (replicate 256 0) (omega arith) (no-column (λ i. item i .blocks)) (no-column (λ i. item i .load)) (no-column (λ i. item i .write)) (λ i. refl)))
+      e
 
   -- more items than there are places are out of range
   pub open-many : (number : ℕ) (c : Cache) → 256 < n → number ≡ 3 → recordOf c ≡ nothingOpened → Opened asked number c
@@ -92,7 +106,7 @@ module _ (k rule n : ℕ) (blocks load write : List ℕ) where
       refused-with number c (is ∙ range-refused asked (λ f. omega (arith, catalog-few n item (f .catalog)))) (rw is) e
 
   -- the opening in place, of the same catalog in bytes
-  module _ (b xs : List ℕ) {number : ℕ} {left : List ℕ} (few : n ≤ 256) (size : length b ≡ stateBytes) (long : length xs ≡ 1280) (same : catalogOfFirst n xs ≡ cat) (h : OpenedLent b (opening k rule (take (5 * n) xs)) number left) where
+  module _ (b xs : List ℕ) {number : ℕ} {after : List ℕ} (few : n ≤ 256) (size : length b ≡ stateBytes) (long : length xs ≡ 1280) (same : catalogOfFirst n xs ≡ cat) (h : OpenedLent b (opening k rule (take (5 * n) xs)) number after) where
     table : number ≡ openingRefusal asked
     table =
         let items : length (take (5 * n) xs) ≡ 5 * n = length-take-le (5 * n) xs (omega arith) in
@@ -103,14 +117,36 @@ module _ (k rule n : ℕ) (blocks load write : List ℕ) where
     pub open-refused : (r : ℕ) (c : Cache) → number ≢ 0 → r ≡ number → recordOf c ≡ nothingOpened → Opened asked r c
     open-refused r c some is e = refused-with r c (is ∙ table) (ne-eqb r 0 (λ z. some (sym is ∙ z))) e
 
-    pub open-taken : (c : Cache) → number ≡ 0 → recordOf c ≡ cacheOf left → Opened asked 0 c
-    open-taken c none e =
-        record {
-          answer = sym none ∙ table;
-          valid = subst Valid (sym e) (h .valid none .cache);
-          stands = ap view e ∙ h .stands none ∙ ap (λ (d : Catalog). startsAt (opening k rule d)) same;
-          empty = λ i l. subst (λ (z : records.Cache). EmptyPlace z i) (sym e) (h .empty none i l);
-        }
+    -- what the opening left in the bytes, read as a struct: its blocks and costs are those of the items, and 0 past them
+    module _ (d : Cache) (none : number ≡ 0) (read : recordOf d ≡ cacheOf after) where
+      starts : view (recordOf d) ≡ startsAt asked
+      starts = ap view read ∙ h .stands none ∙ ap (λ (x : Catalog). startsAt (opening k rule x)) same
+
+      fine : Valid (recordOf d)
+      fine = subst Valid (sym read) (h .valid none .cache)
+
+      count : d .n ≡ n
+      unfolding catalogFrom
+      count = sym (size-is (recordOf d)) ∙ ap (λ (v : Standing). length (v .state .catalog)) starts ∙ tab-length n item
+
+      at : (i : ℕ) → i < n → itemOf (recordOf d) i ≡ item i
+      unfolding catalogFrom
+      at i l = sym (item-is (recordOf d) i (omega (arith, count))) ∙ ap (λ (v : Standing). itemAt (v .state .catalog) i) starts ∙ tab-at n item i noItem l
+
+      past : (i : ℕ) → n ≤ i → i < 256 → Blank (recordOf d) i
+      past i m u = fine .fields .past i (omega (arith, count)) u
+
+      -- so the empty cache with these stands where the rule starts
+      pub open-taken : {r : Deduction} (c : Cache) → r ≡ deductionOf rule → recordOf c ≡ emptyWith k n (d .blocks) (d .load) (d .write) false r → Opened asked 0 c
+      unfolding catalogFrom
+      open-taken c is e =
+          stood asked 0 c (sym none ∙ table) (subst StandingOk starts (fine .standing))
+          (empty-becomes k n item false (deductionOf rule) (d .blocks) (d .load) (d .write) few
+          (record { front = λ i l. ap (λ (x : Item). x .blocks) (at i l); rest = λ i m u. past i m u .blocks })
+          (record { front = λ i l. ap (λ (x : Item). x .load) (at i l); rest = λ i m u. past i m u .load })
+          (record { front = λ i l. ap (λ (x : Item). x .write) (at i l); rest = λ i m u. past i m u .write })
+          (λ i. refl))
+          (e ∙ ap (emptyWith k n (d .blocks) (d .load) (d .write) false) is)
 
 -- ---- the arrays as a catalog in bytes
 

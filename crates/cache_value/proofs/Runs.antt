@@ -51,11 +51,11 @@ bytes-begin o n c b h z s =
 
 -- the conclusions for bytes are those for the struct that they stand for
 season-carried :
-    (o : Opening Catalog) (calls : List Call) (numbers left : List ℕ) (d : Cache) →
-    recordOf d ≡ cacheOf left →
-    Season lent o calls numbers left →
+    (o : Opening Catalog) (calls : List Call) (numbers last : List ℕ) (d : Cache) →
+    recordOf d ≡ cacheOf last →
+    Season lent o calls numbers last →
     SeasonByValue o calls numbers d
-season-carried o calls numbers left d e s = record { season = season; cost = season .cost }
+season-carried o calls numbers last d e s = record { season = season; cost = season .cost }
   where
     season : Season byValue o calls numbers d
     season =
@@ -67,17 +67,17 @@ season-carried o calls numbers left d e s = record { season = season; cost = sea
         }
 
 pub run-taken :
-    (o : Opening Catalog) (calls : List Call) (before : List ℕ) (n : ℕ) (c d : Cache) {after b left : List ℕ} →
+    (o : Opening Catalog) (calls : List Call) (before : List ℕ) (n : ℕ) (c d : Cache) {after b last : List ℕ} →
     Opened o n c →
     n ≡ 0 →
     Stands b (recordOf c) →
-    RanCalls lent b calls before after left →
-    recordOf d ≡ cacheOf left →
+    RanCalls lent b calls before after last →
+    recordOf d ≡ cacheOf last →
     Ran o calls before after (record { answer = Taken; cache = d })
-run-taken o calls before n c d {b = b} {left = left} h z s ran e =
+run-taken o calls before n c d {b = b} {last = last} h z s ran e =
     record {
       tells = ap (λ (m : ℕ). telling m 0 0) (sym z ∙ h .answer);
       refused = λ w. absurd (w refl);
       numbers = ran .numbers;
-      season = λ w. (season-carried o calls (ran .numbers) left d e (season-theorem lent (bytes-begin o n c b h z s) (ran .follows)), ran .noted);
+      season = λ w. (season-carried o calls (ran .numbers) last d e (season-theorem lent (bytes-begin o n c b h z s) (ran .follows)), ran .noted);
     }

@@ -1,12 +1,13 @@
 // The cache by value, in the form of paper 01: a struct whose calls are methods that take it and hand back the answer with the next one,
-// and whose report is a method too. A method stores the struct in bytes, makes the call in place there, and reads it back; a report is
-// that of the bytes, and an opening is made in bytes; only this form pays for that.
+// and whose report is a method too. A method stores the struct in bytes, makes the call there and reads it back; an opening is judged
+// there, and a report is that of the bytes. Only this form pays for it.
 ghost use mathlib.Core.Path.{_≡_};
 ghost use Prim.Native.Nat.{_≤_};
 ghost use lib.ListN.{length};
 ghost use Rattle.types.specs.Types.{telling};
 ghost use Rattle.landlord.specs.Calls.{opening, close, callOf};
 ghost use Rattle.catalog_bytes.specs.Inner.{catalogOfFirst};
+ghost use Rattle.cache_open.specs.Inner.{emptyWith};
 ghost use Rattle.cache.specs.Contract.{lent, Called};
 ghost use Rattle.landlord.specs.CallNumbers.{callFrom, callsOf};
 ghost use Rattle.cache_value.specs.Contract.{recordOf, byValue, catalogFrom, answerTold, CalledBy, OpenedBy, ReportedBy, Ran};
@@ -75,17 +76,63 @@ struct Reply {
 
 // ---- the opening
 
+// An empty cache of these capacity, catalog and rule: in each of the 256 places nothing is held and nothing counted, and no item has left.
+fn empty(
+    k: u32,
+    n: usize,
+    blocks: [u8; 256],
+    load: [u16; 256],
+    write: [u16; 256],
+    closed: bool,
+    rule: Deduction,
+) -> Cache
+    ensures { λ r. ⌜ recordOf r ≡ emptyWith k n blocks load write closed rule ⌝ }
+{
+    Cache {
+        k: k,
+        n: n,
+        blocks: blocks,
+        load: load,
+        write: write,
+        held: [false; 256],
+        loadcredit: [0; 256],
+        writecredit: [0; 256],
+        dirty: [0; 4],
+        minutes: [0; 256],
+        itemloads: [0; 256],
+        itemwritebacks: [0; 256],
+        steps: 0,
+        hits: 0,
+        loads: 0,
+        loadcost: 0,
+        evictions: 0,
+        dirtyevictions: 0,
+        writebacks: 0,
+        writecost: 0,
+        flushes: 0,
+        closed: closed,
+        rule: rule,
+        left: [0; 4],
+        arrivals: 0,
+        retirements: 0,
+    }
+}
+
 // A refused opening, with the refusal's number: a closed cache of 1 block with no items, write-first.
 fn refused_opening(number: u32) -> Reply
     ensures { λ r. ⌜ (r .number ≡ number) × (recordOf (r .cache) ≡ nothingOpened) ⌝ }
 {
-    let mut b = [0u8; layout::STATE_BYTES];
-    layout::clear(&mut b);
-    layout::put_capacity(&mut b, 1);
-    layout::put_closed(&mut b, true);
     Reply {
         number: number,
-        cache: bytes::decode(&b),
+        cache: empty(
+            1,
+            0,
+            [0; 256],
+            [0; 256],
+            [0; 256],
+            true,
+            Deduction::WriteFirst,
+        ),
     }
 }
 
@@ -123,9 +170,14 @@ fn opening(
     if answer != 0 {
         return refused_opening(answer);
     }
+    // The arrays may hold anything past the `n` items. In the bytes that is blank, so blocks and costs are taken from there.
+    let stored = bytes::decode(&b);
+    let sizes = stored.blocks;
+    let loads = stored.load;
+    let writes = stored.write;
     Reply {
         number: 0,
-        cache: bytes::decode(&b),
+        cache: empty(k, n, sizes, loads, writes, false, types::deduction_of(rule)),
     }
 }
 

@@ -1,4 +1,5 @@
--- `cache_value::opening` meets its contract: the opening in place, of the catalog in bytes. Assumes nothing.
+-- `cache_value::opening` meets its contract: the opening in place, of the catalog in bytes, and the empty cache with what that stored.
+-- Assumes nothing.
 use mathlib.Core.Path.{sym}
 use Prim.Native.Nat.{_*_}
 use native.Mathlib.Omega.{arith}
@@ -24,9 +25,9 @@ returns-2 c =
 
 returns-3 : tie.Need-returns-3
 returns-3 c =
-    let a = (c .before .before .before .before .before .before .before .before .before .before .before .args) in
-    open-taken (a .k) (a .rule) (a .n) (a .blocks) (a .load) (a .write) _ (c .before .before .before .before .before .before .before .before .put-catalog .last .0) (c .before .before .before .before .before .before .before .before .before .before .if1 .left) (search needs) (search needs) (c .before .before .before .before .before .before .before .before .put-catalog .ensures) (c .before .before .before .before .«open» .ensures)
-    (c .decode .result) (c .before .before .if2 .left) (c .decode .ensures)
+    let a = (c .before .before .before .before .before .before .before .before .before .before .before .before .before .before .before .before .args) in
+    open-taken (a .k) (a .rule) (a .n) (a .blocks) (a .load) (a .write) _ (c .before .before .before .before .before .before .before .before .before .before .before .before .before .put-catalog .last .0) (c .before .before .before .before .before .before .before .before .before .before .before .before .before .before .before .if1 .left) (search needs) (search needs) (c .before .before .before .before .before .before .before .before .before .before .before .before .before .put-catalog .ensures) (c .before .before .before .before .before .before .before .before .before .«open» .ensures)
+    (c .before .before .before .before .before .decode .result) (c .before .before .before .before .before .before .before .if2 .left) (c .before .before .before .before .before .decode .ensures) (c .empty .result) (c .before .deduction-of .ensures) (c .empty .ensures)
 
 pub opening-spec : {M : Type 1} → statement M
 opening-spec =
@@ -41,4 +42,6 @@ opening-spec =
     (λ c κs. search needs)
     returns-2
     (λ c. search needs) (λ c κs. search needs)  -- decode
+    (λ c κs. search needs)  -- deduction_of
+    (λ c κs. search needs)  -- empty
     returns-3)
