@@ -9,11 +9,11 @@ use native.Mathlib.Omega.{arith}
 use lib.Bits.{bitOr, or-zero-l, or-add-and, and-le-l, and-le-r}
 use lib.Dec.{eqb}
 use lib.ListN.{take, drop, getD}
-use lib.Seq.{drop-drop, getD-drop}
+use lib.Seq.{getD-drop}
 use borrow.Author.Tests.{eq-eqb, eqb-true, not-false}
-use Rattle.fields.specs.LittleEndian.{fromBytes, runFromBytes}
+use Rattle.fields.specs.LittleEndian.{fromBytes, numberAt, runFromBytes}
 use Rattle.basis.specs.InnerDecided.{Decided}
-use Rattle.layout.proofs.Places.{run-from-at, flag-at}
+use Rattle.layout.proofs.Places.{number-at, flag-at}
 use Rattle.cache_check.specs.Inner.{Zeros, BlankRun, BlankFlags}
 
 -- ---- the loop: `all` is 0 exactly if every byte passed is
@@ -73,15 +73,15 @@ zero-from (suc w) (x ∷ bs) e zero l = omega arith
 zero-from (suc w) (x ∷ bs) e (suc j) l = zero-from w bs (omega arith) j (omega arith)
 
 run-zero : (b : List ℕ) (at w n : ℕ) → Zeros b (at + n * w) (at + 256 * w) → BlankRun b at w n
+unfolding numberAt
 run-zero b at w n z =
     record {
       each = λ i l m.
-          run-from-at w 256 (drop at b) i m
-          ∙ from-zero w (drop (i * w) (drop at b))
+          sym (number-at w 256 at b i _ m refl)
+          ∙ from-zero w (drop (at + i * w) b)
           (λ j s.
-          getD-drop (i * w) (drop at b) j 0
-          ∙ getD-drop at b (i * w + j) 0
-          ∙ z .each (at + (i * w + j)) (omega (arith, mul-le-mul-right w l)) (let k : suc i ≤ 256 = m in omega (arith, mul-le-mul-right w k)));
+          getD-drop (at + i * w) b j 0
+          ∙ z .each (at + i * w + j) (omega (arith, mul-le-mul-right w l)) (let k : suc i ≤ 256 = m in omega (arith, mul-le-mul-right w k)));
     }
 
 -- the bytes of m numbers that are all 0
@@ -110,9 +110,9 @@ zero-run b at w n few r =
     same : (i : ℕ) → i < 256 - n → getD (runFromBytes w (256 - n) (drop (at + n * w) b)) i 0 ≡ 0
     same i l =
         let e : at + n * w + i * w ≡ at + (n + i) * w = omega arith in
-        run-from-at w (256 - n) (drop (at + n * w) b) i l
-        ∙ ap (λ (x : List ℕ). fromBytes (take w x)) (drop-drop (i * w) (at + n * w) b ∙ ap (λ (x : ℕ). drop x b) e ∙ sym (drop-drop ((n + i) * w) at b))
-        ∙ sym (run-from-at w 256 (drop at b) (n + i) (omega arith))
+        sym (number-at w (256 - n) (at + n * w) b i _ l refl)
+        ∙ ap (λ (x : ℕ). numberAt b x w) e
+        ∙ number-at w 256 at b (n + i) _ (omega arith) refl
         ∙ r .each (n + i) (omega arith) (omega arith)
 
 pub decided-run : (b : List ℕ) (at w n : ℕ) {r : Bool} → n ≤ 256 → Decided (Zeros b (at + n * w) (at + 256 * w)) r → Decided (BlankRun b at w n) r

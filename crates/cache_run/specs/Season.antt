@@ -3,7 +3,7 @@ use mathlib.Core.{Path._≡_, Logic._≢_, List.{List, [], _∷_}}
 use Prim.Native.Nat.{ℕ, _<_, _+_}
 use lib.{ListN.{length, getD, take, drop}, Seq.sets}
 use Rattle.landlord.specs.{Figures.totalCost, Calls.{Opening, Call, close, logOf, refusal, ruleFrom, seasonFrom}, Catalog.Catalog, Claims.WithinBound}
-use Rattle.layout.specs.Layout.{numberAt}
+use Rattle.fields.specs.LittleEndian.{numberAt}
 use Rattle.cache_open.specs.Opening.{openingIn, openingNumber, OpenedLent}
 use Rattle.cache.specs.Contract.{Kind, lent, Called}
 

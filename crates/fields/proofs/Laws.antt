@@ -9,7 +9,7 @@ use native.Mathlib.Omega.{arith}
 use lib.Dec.{eqb}
 use lib.ListN.{length, take, drop, getD, set, replicate, length-append, length-drop, length-set, take-append-drop, drop-of-length-le}
 use lib.Seq.{sets, set-append-left, sets-eq, length-take-le, take-at, drop-at, drop-append-add, drop-drop, take-add, getD-drop}
-use Rattle.fields.specs.LittleEndian.{fromBytes, runFromBytes, flagsFromBytes, toBytes}
+use Rattle.fields.specs.LittleEndian.{fromBytes, numberAt, runFromBytes, flagsFromBytes, toBytes}
 use Rattle.fields.specs.Inner.{Below, runOf, flags}
 
 -- ---- lengths
@@ -48,7 +48,8 @@ from-to zero v h = omega (arith, pow-zero 256)
 from-to (suc w) v h = omega (arith, from-to w (v / 256) (omega (arith, pow-suc 256 w)))
 
 -- the same, read off a list that goes on
-pub from-front : (w v : ℕ) (rest : List ℕ) → v < 256 ^ w → fromBytes (take w (toBytes w v ++ rest)) ≡ v
+pub from-front : (w v : ℕ) (rest : List ℕ) → v < 256 ^ w → numberAt (toBytes w v ++ rest) 0 w ≡ v
+unfolding numberAt
 from-front w v rest h = rw (take-at (toBytes w v) rest w (length-to w v)) (from-to w v h)
 
 -- the two parts of a number with one more byte
@@ -95,7 +96,8 @@ pub rejoin : {A : Type 0} (l : List A) (at n to : ℕ) → to ≡ at + n → tak
 rejoin l at n to e = rw (e, ← drop-drop n at l) (take-append-drop n (drop at l))
 
 -- a number read off a place, stored again, is the bytes of that place
-pub to-back : (w at : ℕ) (bs : List ℕ) → at + w ≤ length bs → Below 256 bs → toBytes w (fromBytes (take w (drop at bs))) ≡ take w (drop at bs)
+pub to-back : (w at : ℕ) (bs : List ℕ) → at + w ≤ length bs → Below 256 bs → toBytes w (numberAt bs at w) ≡ take w (drop at bs)
+unfolding numberAt
 to-back w at bs l h =
     let e : length (take w (drop at bs)) ≡ w = length-take-le w (drop at bs) (omega (arith, length-drop at bs)) in
     rw e at (to-from (take w (drop at bs)) (below-take 256 w (drop at bs) (below-drop 256 at bs h)))
@@ -111,7 +113,7 @@ run-from-lt w (suc n) bs h (suc i) = run-from-lt w n (drop w bs) (below-drop 256
 
 -- a run of numbers that fit, read back, is those numbers
 pub run-from-to : (w n : ℕ) (vs rest : List ℕ) → length vs ≡ n → Below (256 ^ w) vs → runFromBytes w n (runOf w vs ++ rest) ≡ vs
-unfolding runFromBytes runOf
+unfolding runFromBytes runOf numberAt
 run-from-to w zero [] rest e h = refl
 run-from-to w zero (v ∷ vs) rest e h = absurd (omega arith)
 run-from-to w (suc n) [] rest e h = absurd (omega arith)
@@ -120,7 +122,7 @@ run-from-to w (suc n) (v ∷ vs) rest e h =
 
 -- numbers read off bytes, stored again, are those bytes
 pub run-to-from : (w n : ℕ) (bs : List ℕ) → n * w ≤ length bs → Below 256 bs → runOf w (runFromBytes w n bs) ≡ take (n * w) bs
-unfolding runFromBytes runOf
+unfolding runFromBytes runOf numberAt
 run-to-from w zero bs l h = rw (zero-mul w)
 run-to-from w (suc n) bs l h =
     let i : n * w ≤ length (drop w bs) = omega (arith, length-drop w bs) in

@@ -5,9 +5,9 @@ use mathlib.Core.List.{List}
 use Prim.Native.Nat.{ℕ, zero, suc, _+_, _*_, _-_, _/_, _%_, _^_, _≤_, _<_}
 use native.Mathlib.Nat.{pow-suc, pow-le-pow-right, lt-of-lt-of-le}
 use native.Mathlib.Omega.{arith}
-use lib.ListN.{length, take, drop, getD, set}
+use lib.ListN.{length, getD, set}
 use lib.Seq.{sets, drop-cons}
-use Rattle.fields.specs.LittleEndian.{fromBytes, toBytes}
+use Rattle.fields.specs.LittleEndian.{fromBytes, numberAt, toBytes}
 
 -- put: with one byte stored, the rest of them lead to the same list
 pub put-step : (buf : List ℕ) (at i rest x : ℕ) → 0 < rest → sets (set buf (at + i) (x % 256)) (at + (i + 1)) (toBytes (rest - 1) (x / 256)) ≡ sets buf (at + i) (toBytes rest x)
@@ -25,15 +25,15 @@ put-done buf to zero x h = refl
 put-done buf to (suc rest) x h = absurd (omega arith)
 
 -- get: no byte yet
-pub get-start : (buf : List ℕ) (at w : ℕ) → (0 < 256 ^ (w - w)) × (0 ≡ fromBytes (take (w - w) (drop (at + w) buf)))
-unfolding fromBytes
+pub get-start : (buf : List ℕ) (at w : ℕ) → (0 < 256 ^ (w - w)) × (0 ≡ numberAt buf (at + w) (w - w))
+unfolding fromBytes numberAt
 get-start buf at w =
     let e : w - w ≡ 0 = omega arith in
     (rw e (omega arith), rw e)
 
 -- get: the bytes from one place further down
-pub get-step : (buf : List ℕ) (at w i : ℕ) → 0 < i → i ≤ w → at + w ≤ length buf → fromBytes (take (w - i) (drop (at + i) buf)) * 256 + getD buf (at + (i - 1)) 0 ≡ fromBytes (take (w - (i - 1)) (drop (at + (i - 1)) buf))
-unfolding fromBytes
+pub get-step : (buf : List ℕ) (at w i : ℕ) → 0 < i → i ≤ w → at + w ≤ length buf → numberAt buf (at + i) (w - i) * 256 + getD buf (at + (i - 1)) 0 ≡ numberAt buf (at + (i - 1)) (w - (i - 1))
+unfolding fromBytes numberAt
 get-step buf at w i p q r =
     let e : w - (i - 1) ≡ suc (w - i) = omega arith in
     let f : suc (at + (i - 1)) ≡ at + i = omega arith in
@@ -51,7 +51,7 @@ pub get-fits : (x w i : ℕ) → 0 < i → w ≤ 8 → x < 256 ^ (w - i) → x <
 get-fits x w i p q h = lt-of-lt-of-le h (pow-le-pow-right {n = 256} (omega arith) {i = w - i} {j = 7} (omega arith))
 
 -- get: no byte left
-pub get-done : (buf : List ℕ) (at w i x : ℕ) → i ≤ 0 → x < 256 ^ (w - i) → x ≡ fromBytes (take (w - i) (drop (at + i) buf)) → (x ≡ fromBytes (take w (drop at buf))) × (x < 256 ^ w)
+pub get-done : (buf : List ℕ) (at w i x : ℕ) → i ≤ 0 → x < 256 ^ (w - i) → x ≡ numberAt buf (at + i) (w - i) → (x ≡ numberAt buf at w) × (x < 256 ^ w)
 get-done buf at w i x z h e =
     let p : w - i ≡ w = omega arith in
     let q : at + i ≡ at = omega arith in

@@ -9,6 +9,10 @@ unfoldable pub fromBytes : List ℕ → ℕ
 fromBytes [] = 0
 fromBytes (b ∷ bs) = fromBytes bs * 256 + b
 
+-- the number of the `w` bytes at the place `at` of `bs`; no abbreviation, or the prover would count up to a place far behind
+unfoldable pub numberAt : List ℕ → ℕ → ℕ → ℕ
+numberAt bs at w = fromBytes (take w (drop at bs))
+
 -- the `w` low bytes of `v`, the low byte first
 unfoldable pub toBytes : ℕ → ℕ → List ℕ
 toBytes zero v = []

@@ -4,9 +4,9 @@
 // that the place lies inside the buffer.
 ghost use mathlib.Core.Path.{_≡_};
 ghost use Prim.Native.Nat.{_+_, _^_, _≤_, _<_};
-ghost use lib.ListN.{length, take, drop};
+ghost use lib.ListN.{length};
 ghost use lib.Seq.{sets};
-ghost use Rattle.fields.specs.LittleEndian.{fromBytes, toBytes};
+ghost use Rattle.fields.specs.LittleEndian.{numberAt, toBytes};
 
 // Stores the `w` low bytes of `v`, the low byte first.
 pub fn put(buf: &mut [u8], at: usize, w: usize, v: u64)
@@ -27,7 +27,7 @@ pub fn put(buf: &mut [u8], at: usize, w: usize, v: u64)
 // The number that `w` bytes stand for, read from the top byte down.
 pub fn get(buf: &[u8], at: usize, w: usize) -> u64
     requires { ⌜ (at + w ≤ length (now buf)) × (w ≤ 8) ⌝ }
-    ensures { λ r. ⌜ (r ≡ fromBytes (take w (drop at (now (buf .entry))))) × (r < 256 ^ w) ⌝ }
+    ensures { λ r. ⌜ (r ≡ numberAt (now (buf .entry)) at w) × (r < 256 ^ w) ⌝ }
 {
     let mut x = 0;
     let mut i = w;

@@ -9,11 +9,11 @@ use native.Mathlib.Omega.{arith}
 use lib.Dec.{eqb}
 use lib.ListN.{length, take, drop, set, replicate, length-set}
 use lib.Seq.{sets, length-sets, sets-eq, take-all, take-suc-set, getD-drop}
-use Rattle.fields.specs.LittleEndian.{flagsFromBytes, toBytes}
+use Rattle.fields.specs.LittleEndian.{numberAt, flagsFromBytes, toBytes}
 use Rattle.fields.specs.Inner.{Below}
 use Rattle.fields.proofs.Laws.{length-to, from-front, below-append, below-drop, past, from-blank, run-from-blank, flags-from-blank}
 use Rattle.types.specs.Types.{deductionOf}
-use Rattle.layout.specs.Layout.{stateBytes, format, numberAt, numberFar, numbersAt, AllowedBytes}
+use Rattle.layout.specs.Layout.{stateBytes, format, numbersAt, AllowedBytes}
 use Rattle.layout.specs.InnerRows.{atFormat, atCapacity, atCount, atClosed, atSteps, atHits, atLoads, atEvictions, atDirtyEvictions, atWritebacks, atFlushes, atLoadCost, atWriteCost, atDirty, atLoadCredits, atWriteCredits, atMinutes, atItemLoads, atItemWritebacks, atItemLoadCosts, atItemWriteCosts, atBlocks, atHeld, atRule, atLeft, atArrivals, atRetirements}
 use Rattle.layout.specs.Inner.{Stands, cleared}
 
@@ -44,6 +44,7 @@ module _ (after rest : List ℕ) (n : length after ≡ stateBytes) (e : after �
   blank at l = rw (e, past (toBytes 4 format) rest at (at - 4) (omega (arith, length-to 4 format))) (below-drop 1 (at - 4) rest z)
 
   number-0 : (w at : ℕ) → 4 ≤ at → numberAt after at w ≡ 0
+  unfolding numberAt
   number-0 w at l = from-blank w (drop at after) (blank at l)
 
   numbers-0 : (w k at : ℕ) → 4 ≤ at → numbersAt after at k w ≡ replicate k 0
@@ -61,7 +62,6 @@ module _ (after rest : List ℕ) (n : length after ≡ stateBytes) (e : after �
   }
 
   pub cleared-0 : Stands after cleared
-  unfolding numberFar
   cleared-0 = record {
     size = n;
     allowed = allowed-0;

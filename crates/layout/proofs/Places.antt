@@ -6,16 +6,16 @@ use mathlib.Core.Bool.{false, not}
 use Prim.Native.Nat.{ℕ, zero, suc, _+_, _*_, _<_}
 use native.Mathlib.Omega.{arith}
 use lib.Dec.{eqb}
-use lib.ListN.{length, take, drop, getD}
+use lib.ListN.{length, drop, getD}
 use lib.Seq.{drop-drop, getD-drop}
-use Rattle.fields.specs.LittleEndian.{fromBytes, runFromBytes, flagsFromBytes}
+use Rattle.fields.specs.LittleEndian.{numberAt, runFromBytes, flagsFromBytes}
 use Rattle.fields.specs.Inner.{Below}
 use Rattle.landlord.specs.Figures.{Standing}
 use Rattle.landlord.specs.Valid.{StandingOk}
 use Rattle.cache_state.specs.Cache.{Cache}
 use Rattle.cache_state.specs.InnerBecomes.{Becomes}
 use Rattle.cache_state.proofs.Tells.{Sizes, tells}
-use Rattle.layout.specs.Layout.{numberAt, numbersAt, cacheOf, AllowedBytes, ValidBytes}
+use Rattle.layout.specs.Layout.{numbersAt, cacheOf, AllowedBytes, ValidBytes}
 use Rattle.layout.specs.Inner.{Stands, Readable, BecomesAt}
 use Rattle.layout.specs.InnerRows.{bytesOf, Fits}
 use Rattle.layout.proofs.Rounds.{round, back, fits, length-bytesOf, allowed-bytesOf}
@@ -23,8 +23,8 @@ use Rattle.layout.proofs.Rounds.{round, back, fits, length-bytesOf, all
 -- ---- reads
 
 -- one number of a run, or one flag of several, is the number at its place
-pub run-from-at : (w n : ℕ) (bs : List ℕ) (i : ℕ) → i < n → getD (runFromBytes w n bs) i 0 ≡ fromBytes (take w (drop (i * w) bs))
-unfolding runFromBytes
+run-from-at : (w n : ℕ) (bs : List ℕ) (i : ℕ) → i < n → getD (runFromBytes w n bs) i 0 ≡ numberAt bs (i * w) w
+unfolding runFromBytes numberAt
 run-from-at w zero bs i l = absurd (omega arith)
 run-from-at w (suc n) bs zero l =
     let e : 0 * w ≡ 0 = omega arith in
@@ -34,6 +34,7 @@ run-from-at w (suc n) bs (suc i) l =
     rw (e, ← drop-drop (i * w) w bs) (run-from-at w n (drop w bs) i (omega arith))
 
 pub number-at : (w n at : ℕ) (b : List ℕ) (i r : ℕ) → i < n → r ≡ numberAt b (at + i * w) w → r ≡ getD (numbersAt b at n w) i 0
+unfolding numberAt
 number-at w n at b i r l e = e ∙ rw (run-from-at w n (drop at b) i l, drop-drop)
 
 pub flags-from-at : (n : ℕ) (bs : List ℕ) (i : ℕ) → i < n → getD (flagsFromBytes n bs) i false ≡ not (eqb (getD bs i 0) 0)
@@ -49,7 +50,7 @@ flag-at n at b i l = flags-from-at n (drop at b) i l ∙ rw (getD-drop at b i 0)
 
 -- four numbers read one by one
 pub read-four : (b : List ℕ) (at : ℕ) → numbersAt b at 4 8 ≡ numberAt b at 8 ∷ numberAt b (at + 8) 8 ∷ numberAt b (at + 16) 8 ∷ numberAt b (at + 24) 8 ∷ []
-unfolding runFromBytes
+unfolding runFromBytes numberAt
 read-four b at =
     let p : at + 8 + 8 ≡ at + 16 = omega arith in
     let q : at + 16 + 8 ≡ at + 24 = omega arith in

@@ -8,13 +8,13 @@ use native.Mathlib.Omega.{arith}
 use lib.Dec.{eqb}
 use lib.ListN.{length, drop, getD, length-drop, List·getD-append}
 use lib.Seq.{take-all, getD-drop}
-use Rattle.fields.specs.LittleEndian.{flagsFromBytes, toBytes}
+use Rattle.fields.specs.LittleEndian.{numberAt, flagsFromBytes, toBytes}
 use Rattle.fields.specs.Inner.{Below, runOf, flags}
 use Rattle.fields.proofs.Laws.{length-run-from, length-flags-from, from-front, from-take-lt, below-drop, rejoin, to-back, run-from-lt, run-from-to, run-back, flags-lt, length-flags, flags-from-to, flag-byte, flags-back}
 use Rattle.types.specs.Types.{deductionNumber, deductionOf}
 use Rattle.types.proofs.Deductions.{deduction-number, number-deduction, deduction-lt}
 use Rattle.cache_state.specs.Cache.{Cache}
-use Rattle.layout.specs.Layout.{stateBytes, format, numberAt, numberFar, numbersAt, cacheOf, AllowedBytes}
+use Rattle.layout.specs.Layout.{stateBytes, format, numbersAt, cacheOf, AllowedBytes}
 use Rattle.layout.specs.InnerRows.{atFormat, atCapacity, atCount, atClosed, atSteps, atHits, atLoads, atEvictions, atDirtyEvictions, atWritebacks, atFlushes, atLoadCost, atWriteCost, atDirty, atLoadCredits, atWriteCredits, atMinutes, atItemLoads, atItemWritebacks, atItemLoadCosts, atItemWriteCosts, atBlocks, atHeld, atRule, atLeft, atArrivals, atRetirements, rowBytes, fieldRows, bytesOf, flag, WholeArrays, Fits}
 use Rattle.layout.proofs.Rows.{Packed, end, number-row, numbers-row, flags-row, packed-length, reach}
 
@@ -57,6 +57,7 @@ length-bytesOf c f = omega (arith, packed-length (packed c (f .whole)))
 
 -- what the reader finds where a number, numbers or flags stand
 number-found : (w v at : ℕ) (b rest : List ℕ) → v < 256 ^ w → drop at b ≡ toBytes w v ++ rest → numberAt b at w ≡ v
+unfolding numberAt
 number-found w v at b rest h e = rw e (from-front w v rest h)
 
 numbers-found : (w n at : ℕ) (vs b rest : List ℕ) → length vs ≡ n → Below (256 ^ w) vs → drop at b ≡ runOf w vs ++ rest → numbersAt b at n w ≡ vs
@@ -92,7 +93,7 @@ module _ (c : Cache) (f : Fits c) where
 
   -- a cache that fits, stored and read back, is that cache
   pub round : cacheOf (bytesOf c) ≡ c
-  unfolding fieldRows numberFar
+  unfolding fieldRows
   round = λ i.
       record {
         k = number-found 4 (c .k) atCapacity (bytesOf c) _ (f .k) (row-at 1 (omega arith)) i;
@@ -154,6 +155,7 @@ whole b = record {
 module _ (b : List ℕ) (h : Below 256 b) where
   -- a number, or each of several, that is read has room in the bytes that it was read from
   number-fits : (w at : ℕ) → numberAt b at w < 256 ^ w
+  unfolding numberAt
   number-fits w at = from-take-lt w (drop at b) (below-drop 256 at b h)
 
   numbers-fit : (w n at : ℕ) → Below (256 ^ w) (numbersAt b at n w)
@@ -161,7 +163,6 @@ module _ (b : List ℕ) (h : Below 256 b) where
 
   -- what bytes stand for has room in the layout
   pub fits : Fits (cacheOf b)
-  unfolding numberFar
   fits = record {
     whole = whole b;
     k = number-fits 4 atCapacity;
@@ -219,7 +220,7 @@ module _ (b : List ℕ) (e : length b ≡ stateBytes) (h : Below 256 b) where
 
     -- bytes that the layout allows, read and stored again, are those bytes
     pub back : bytesOf (cacheOf b) ≡ b
-    unfolding bytesOf fieldRows numberFar
+    unfolding bytesOf fieldRows
     back =
         format-back _
         (number-back 4 atCapacity _ (omega arith)

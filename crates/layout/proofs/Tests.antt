@@ -10,8 +10,9 @@ use lib.Bits.{bitOr, or-lt, or-add-and, and-le-l, and-le-r}
 use lib.Dec.{ltb}
 use lib.ListN.{getD}
 use borrow.Author.Tests.{ltb-true, lt-ltb}
+use Rattle.fields.specs.LittleEndian.{numberAt}
 use Rattle.cache_state.specs.InnerBecomes.{Decided}
-use Rattle.layout.specs.Layout.{format, numberAt, AllowedBytes}
+use Rattle.layout.specs.Layout.{format, AllowedBytes}
 use Rattle.layout.specs.InnerRows.{atFormat, atClosed, atHeld, atRule}
 use Rattle.layout.specs.Inner.{FlagsWithin}
 

@@ -3,8 +3,8 @@
 -- proofs/Rounds.antt shows that its rows lie end to end and that reading and writing undo each other. Assumes nothing.
 use mathlib.Core.{Path._≡_, List.List, Bool.not}
 use Prim.Native.Nat.{ℕ, _+_, _<_}
-use lib.{Dec.eqb, ListN.{take, drop, getD, length}}
-use Rattle.fields.specs.LittleEndian.{fromBytes, runFromBytes, flagsFromBytes}
+use lib.{Dec.eqb, ListN.{drop, getD, length}}
+use Rattle.fields.specs.LittleEndian.{numberAt, runFromBytes, flagsFromBytes}
 use Rattle.types.specs.Types.{deductionOf}
 use Rattle.cache_state.specs.Cache.{Cache, Valid}
 
@@ -14,15 +14,6 @@ stateBytes = 8836
 -- the number of this layout: it rises with every change, so that a state stored by another version is never misread
 abbrev pub format : ℕ
 format = 4
-
--- the number of `w` bytes at the place `at`
-abbrev pub numberAt : List ℕ → ℕ → ℕ → ℕ
-numberAt b at w = fromBytes (take w (drop at b))
-
--- The same, behind the items' fields. It has a name of its own for the prover's sake: two such numbers are then told apart by their
--- places, and nothing counts up to them.
-unfoldable pub numberFar : List ℕ → ℕ → ℕ → ℕ
-numberFar b at w = numberAt b at w
 
 -- `n` numbers of `w` bytes each, from the place `at` on
 abbrev pub numbersAt : List ℕ → ℕ → ℕ → ℕ → List ℕ
@@ -55,8 +46,8 @@ cacheOf b = record {
   held = flagsFromBytes 256 (drop 8536 b);
   rule = deductionOf (numberAt b 8792 4);
   left = numbersAt b 8796 4 8;
-  arrivals = numberFar b 8828 4;
-  retirements = numberFar b 8832 4;
+  arrivals = numberAt b 8828 4;
+  retirements = numberAt b 8832 4;
 }
 
 -- "every field has a value its layout allows": the number of the layout is this one's, each flag is 0 or 1, and so is the rule's number

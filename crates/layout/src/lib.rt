@@ -6,12 +6,13 @@ ghost use Prim.Native.Nat.{_+_, _*_, _<_, _≤_};
 ghost use lib.ListN.{length, getD};
 ghost use lib.Seq.{sets};
 ghost use mathlib.Core.Bool.{false};
+ghost use Rattle.fields.specs.LittleEndian.{numberAt};
 ghost use Rattle.fields.specs.Inner.{runOf};
 ghost use Rattle.marks.specs.Marks.{marked};
 ghost use Rattle.cache_state.specs.Cache.{dirtyAt, leftAt};
 ghost use Rattle.cache_state.specs.InnerWith.{withCapacity, withCount, withClosed, withRule, withSteps, withHits, withLoads, withEvictions, withDirtyEvictions, withWritebacks, withFlushes, withLoadCost, withWriteCost, withDirty, withLoadCredit, withWriteCredit, withMinutes, withItemLoads, withItemWritebacks, withItemLoadCost, withItemWriteCost, withBlocks, withHeld, withLeft, withArrivals, withRetirements};
 ghost use Rattle.cache_state.specs.InnerBecomes.{Decided};
-ghost use Rattle.layout.specs.Layout.{stateBytes, numberAt, numbersAt, cacheOf, AllowedBytes};
+ghost use Rattle.layout.specs.Layout.{stateBytes, numbersAt, cacheOf, AllowedBytes};
 ghost use Rattle.layout.specs.Inner.{Stands, Readable, FlagsWithin, cleared};
 use types::Deduction;
 

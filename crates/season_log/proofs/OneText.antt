@@ -8,11 +8,11 @@ use Prim.Native.Nat.{ℕ, zero, suc, _+_, _*_, _/_, _≤_}
 use native.Mathlib.Omega.{arith}
 use borrow.Author.Tests.{le-leb, leb-true, eqb-true}
 use lib.Dec.{leb, eqb}
-use lib.ListN.{length, take, drop, length-append}
+use lib.ListN.{length, drop, length-append}
 use lib.Seq.{append-snoc}
 use Rattle.decimal.specs.Decimal.{sameText}
 use Rattle.decimal.proofs.Texts.{same-true}
-use Rattle.fields.specs.LittleEndian.{fromBytes, toBytes}
+use Rattle.fields.specs.LittleEndian.{numberAt, toBytes}
 use Rattle.fields.proofs.Laws.{length-to, from-front, past}
 use Rattle.types.specs.declared.Refusal.{Refusal}
 use Rattle.types.specs.declared.Refusal.the-variants.{Malformed, Heading, OutOfRange, InputTooLong}
@@ -311,7 +311,8 @@ past-four : (k v : ℕ) (rest : List ℕ) → drop (4 + k) (toBytes 4 v ++ rest)
 past-four k v rest = past (toBytes 4 v) rest (4 + k) k (omega (arith, length-to 4 v))
 
 number-next : (k v : ℕ) (rest : List ℕ) → listNumber (4 + k) (toBytes 4 v ++ rest) ≡ listNumber k rest
-number-next k v rest = ap (λ (l : List ℕ). fromBytes (take 4 l)) (past-four k v rest)
+unfolding numberAt
+number-next k v rest = rw (past-four k v rest)
 
 -- a step's bytes at the start of a list, from each of its numbers on
 module _ (n : Numbers) (rest : List ℕ) where

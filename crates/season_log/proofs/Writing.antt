@@ -10,13 +10,13 @@ use native.Mathlib.Omega.{arith}
 use borrow.Author.Tests.{leb-true, leb-false, le-leb, lt-leb, eq-eqb, ne-eqb}
 use borrow.Rule.Slice.PartMut.{midOf, putMid}
 use lib.Dec.{leb, eqb}
-use lib.ListN.{length, take, drop, length-append, length-drop}
+use lib.ListN.{length, drop, length-append, length-drop}
 use lib.Seq.{drop-drop}
 use Rattle.decimal.specs.Decimal.{textOf, digitsOf, pageOf}
 use Rattle.decimal.specs.InnerPages.{textOver}
 use Rattle.decimal.proofs.Laws.{digits-length, page-all, page-none}
 use Rattle.decimal.proofs.Pages.{TextGoing, go-start, go-as, go-room, go-next, go-end}
-use Rattle.fields.specs.LittleEndian.{fromBytes}
+use Rattle.fields.specs.LittleEndian.{numberAt}
 use Rattle.types.specs.declared.Step.{Step}
 use Rattle.types.specs.declared.Step.the-variants.{Flush}
 use Rattle.types.specs.declared.Numbers.{Numbers}
@@ -214,10 +214,11 @@ module _ (heading : ℕ) where
 
   module _ (list : List ℕ) (at : ℕ) (more : at + 24 ≤ length list) where
     step-here : restAt at list ≡ stepThen (listNumbers at list) (at / 24 + 2) (restAt (at + 24) list)
+    unfolding numberAt
     step-here =
         let count : (length list - at) / 24 ≡ suc ((length list - (at + 24)) / 24) = omega arith in
         let line : suc (at / 24 + 2) ≡ (at + 24) / 24 + 2 = omega arith in
-        let number : (n : ℕ) → listNumber n (drop at list) ≡ listNumber (at + n) list = λ n. ap (λ (l : List ℕ). fromBytes (take 4 l)) (drop-drop n at list) in
+        let number : (n : ℕ) → listNumber n (drop at list) ≡ listNumber (at + n) list = λ n. rw (drop-drop n at list) in
         let numbers : listNumbers 0 (drop at list) ≡ listNumbers at list =
         λ j. numbersFrom (listNumber at list) (number 4 j) (number 8 j) (number 12 j) (number 16 j) (number 20 j) in
         let rest : lentFrom heading ((length list - (at + 24)) / 24) (suc (at / 24 + 2)) (drop 24 (drop at list)) ≡ restAt (at + 24) list =

@@ -1,9 +1,9 @@
 -- The third table alone: the text that is written from a list of steps, and its reading. Paper 02, 'Two' and 'Six'. Assumes nothing.
 use mathlib.Core.{Path._≡_, Bool.{Bool, true, cond, _&&_}, List.{List, [], _∷_, _++_}}
 use Prim.Native.Nat.{ℕ, zero, suc, _+_, _/_, _≤_}
-use lib.{ListN.{length, take, drop}, Dec.{leb, eqb}}
+use lib.{ListN.{length, drop}, Dec.{leb, eqb}}
 use Rattle.decimal.specs.Decimal.{textOf, digitsOf, fits, pageOf}
-use Rattle.fields.specs.LittleEndian.{fromBytes, toBytes}
+use Rattle.fields.specs.LittleEndian.{numberAt, toBytes}
 use Rattle.types.specs.declared.{Step.{Step, the-variants.{Read, Write, Flush, Arrive, Retire}}, Numbers.Numbers, Refusal.{Refusal, the-variants.{Malformed, Heading, OutOfRange, ShortBuffer, InputTooLong}}}
 use Rattle.types.specs.Types.{numbersFrom, numbersOf, stepOf, Told, telling, nothingTold, told, refusalFrom}
 use Rattle.season_lines.specs.declared.{Names.{Names, the-variants.{Known, Unknown}}, Line.{Line, the-variants.{Sizes, Item as ItemLine, Step as StepLine, Act as ActLine, Refused}}}
@@ -53,7 +53,7 @@ logText heading ss = headingText 2 heading ++ (10 ∷ stepLines heading ss)
 
 -- the number at a place of a list
 abbrev pub listNumber : ℕ → List ℕ → ℕ
-listNumber at list = fromBytes (take 4 (drop at list))
+listNumber at list = numberAt list at 4
 
 -- the numbers of the step at a place
 abbrev pub listNumbers : ℕ → List ℕ → Numbers

@@ -2,14 +2,14 @@
 use mathlib.Core.Path.{_≡_}
 use Prim.Native.Nat.{_+_, _-_, _^_, _≤_, _<_}
 use native.Mathlib.Omega.{arith}
-use lib.ListN.{take, drop, getD}
-use Rattle.fields.specs.LittleEndian.{fromBytes}
+use lib.ListN.{getD}
+use Rattle.fields.specs.LittleEndian.{numberAt}
 use Rattle.fields.proofs.Turns.{get-start, get-step, get-lt, get-fits, get-done}
 use Rattle.fields.proofs.get.Statement.{statement}
 use Rattle.fields.proofs.get.Tie as tie
 
 abbrev Inv-loop : tie.InvT-loop
-Inv-loop buf at w x₀ i₀ x i = (i ≤ w) × (x < 256 ^ (w - i)) × (x ≡ fromBytes (take (w - i) (drop (at + i) buf)))
+Inv-loop buf at w x₀ i₀ x i = (i ≤ w) × (x < 256 ^ (w - i)) × (x ≡ numberAt buf (at + i) (w - i))
 
 abbrev μ-loop : tie.MeasureT-loop
 μ-loop buf at w x₀ i₀ x i = i

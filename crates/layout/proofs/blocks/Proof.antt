@@ -3,7 +3,7 @@ use mathlib.Core.Path.{_≡_, ap, _∙_}
 use Prim.Native.Nat.{ℕ, _+_, _*_}
 use native.Mathlib.Omega.{arith}
 use borrow.Author.Needs.{needs}
-use Rattle.layout.specs.Layout.{numberAt}
+use Rattle.fields.specs.LittleEndian.{numberAt}
 use Rattle.layout.specs.InnerRows.{atBlocks}
 use Rattle.layout.proofs.Places.{number-at}
 use Rattle.layout.proofs.blocks.Statement.{statement}
