@@ -60,29 +60,29 @@ module _ (c : Cache) (i : ℕ) (ok : Normal c) (l : i < c .n) where
       same = ap (set (slotsOf c) i) (sym none) ∙ set-getD (slotsOf c) i absent
 
   -- held: ws are the dirty marks without it, and d says whether it was dirty
-  module _ (ws : List ℕ) (d : Bool) (sizes : EvictionSizes c) (h : getD (c .held) i false ≡ true) (was : d ≡ dirtyAt c i) (fromBytes : marks ws ≡ set (marks (c .dirty)) i false) where
+  module _ (ws : List ℕ) (d : Bool) (sizes : EvictionSizes c) (h : getD (c .held) i false ≡ true) (was : d ≡ dirtyAt c i) (un : marks ws ≡ set (marks (c .dirty)) i false) where
     abbrev dropped : Cache
     dropped = droppedOf c i ws
 
     slot-other : (j : ℕ) → j < c .n → j ≢ i → slotOf c j ≡ slotOf dropped j
     slot-other j b e =
-        sym (dropped-slot c i ws sizes ok l fromBytes j b ∙ ap (λ (t : Bool). cond t absent (slotOf c j)) (ne-eqb j i e))
+        sym (dropped-slot c i ws sizes ok l un j b ∙ ap (λ (t : Bool). cond t absent (slotOf c j)) (ne-eqb j i e))
 
     slots-after : slotsOf dropped ≡ set (slotsOf c) i absent
     unfolding slotsOf
     slots-after =
         sym (tab-set (c .n) (slotOf c) (slotOf dropped) i l slot-other)
-        ∙ ap (set (slotsOf c) i) (dropped-slot c i ws sizes ok l fromBytes i l ∙ ap (λ (t : Bool). cond t absent (slotOf c i)) (eq-eqb i i refl))
+        ∙ ap (set (slotsOf c) i) (dropped-slot c i ws sizes ok l un i l ∙ ap (λ (t : Bool). cond t absent (slotOf c i)) (eq-eqb i i refl))
 
     pub held-becomes : Becomes (moved (view c) (dropItem i (stateOf c)) (c .closed)) (countedOf (droppedOf c i ws) i d)
     unfolding fold catalogOf usesOf
     held-becomes =
         record {
           stands =
-              counted-view dropped i (dropped-sizes c i ws sizes ok l fromBytes) (dropped-normal c i ws sizes ok l fromBytes) l d
+              counted-view dropped i (dropped-sizes c i ws sizes ok l un) (dropped-normal c i ws sizes ok l un) l d
               ∙ (λ z. changed (view c) (record { catalog = catalogOf c; slots = slots-after z }) (tally (catalogOf c) (figuresOf c) (evicted i ((was ∙ sym (dirty-is c ok i l)) z))) (c .closed))
               ∙ told true h;
-          fields = counted-normal dropped i (dropped-sizes c i ws sizes ok l fromBytes) (dropped-normal c i ws sizes ok l fromBytes) l d;
+          fields = counted-normal dropped i (dropped-sizes c i ws sizes ok l un) (dropped-normal c i ws sizes ok l un) l d;
         }
 
 -- ---- the mark

@@ -124,13 +124,13 @@ pub dropped-at :
     marks ws ≡ set (marks ds) v false →
     Stands after (withDirty (cacheOf b3) ws) →
     DroppedAt b v after
-dropped-at b b1 b2 b3 after v ds ws e s1 s2 s3 fromBytes s4 =
+dropped-at b b1 b2 b3 after v ds ws e s1 s2 s3 un s4 =
     record {
       reads = readable s4;
       cache =
           record {
             fields = all ∙ ap (droppedOf (cacheOf b) v) (sym (ap (λ (q : Cache). q .dirty) all));
-            unmarked = ap (λ (q : Cache). marks (q .dirty)) all ∙ fromBytes ∙ ap (λ (d : List ℕ). set (marks d) v false) e;
+            unmarked = ap (λ (q : Cache). marks (q .dirty)) all ∙ un ∙ ap (λ (d : List ℕ). set (marks d) v false) e;
           };
     }
   where

@@ -25,43 +25,43 @@ use Rattle.cache_room.proofs.Stores.{EvictionSizes, charged-slot, charg
 -- The three together: item v, which has rank m, is evicted; d says whether it was dirty, and ws are the marks without it.
 module _
     (c : Cache) (v m : ℕ) (ws : List ℕ) (d : Bool) (sizes : EvictionSizes c) (ok : Normal c) (l : v < c .n) (is : m ≡ rank (stateOf c) v)
-    (fromBytes : marks ws ≡ set (marks (c .dirty)) v false) (was : d ≡ dirtyAt c v) where
-  abbrev left : Cache
-  left = droppedOf (chargedOf c m (c .n)) v ws
+    (un : marks ws ≡ set (marks (c .dirty)) v false) (was : d ≡ dirtyAt c v) where
+  abbrev after : Cache
+  after = droppedOf (chargedOf c m (c .n)) v ws
 
   abbrev slotAfter : ℕ → Slot
   slotAfter i =
       cond (eqb i v) absent
       (lose (splitOf (c .rule)) (blocksAt (stateOf c) i) (blocksAt (stateOf c) i * rank (stateOf c) v) (slotAt (stateOf c) i))
 
-  slot-after : (i : ℕ) → i < c .n → slotOf left i ≡ slotAfter i
+  slot-after : (i : ℕ) → i < c .n → slotOf after i ≡ slotAfter i
   slot-after i b =
-      dropped-slot (chargedOf c m (c .n)) v ws (charged-sizes c m sizes ok) (charged-normal c m sizes ok) l fromBytes i b
+      dropped-slot (chargedOf c m (c .n)) v ws (charged-sizes c m sizes ok) (charged-normal c m sizes ok) l un i b
       ∙ ap (λ (s : Slot). cond (eqb i v) absent s)
       (charged-slot c m sizes ok i b
       ∙ (λ z. lose (splitOf (c .rule)) (sym (blocks-is c i b) z) (sym (blocks-is c i b) z * is z) (sym (slot-is c i b) z)))
 
-  state-after : stateOf left ≡ evictItem (splitOf (c .rule)) v (stateOf c)
+  state-after : stateOf after ≡ evictItem (splitOf (c .rule)) v (stateOf c)
   unfolding catalogOf slotsOf evictItem
   state-after =
       λ z.
       record {
         catalog = catalogOf c;
-        slots = (tab-eq (c .n) (slotOf left) slotAfter slot-after ∙ ap (λ (n : ℕ). tab n slotAfter) (sym (size-is c))) z;
+        slots = (tab-eq (c .n) (slotOf after) slotAfter slot-after ∙ ap (λ (n : ℕ). tab n slotAfter) (sym (size-is c))) z;
       }
 
-  left-normal : Normal left
-  left-normal = dropped-normal (chargedOf c m (c .n)) v ws (charged-sizes c m sizes ok) (charged-normal c m sizes ok) l fromBytes
+  after-normal : Normal after
+  after-normal = dropped-normal (chargedOf c m (c .n)) v ws (charged-sizes c m sizes ok) (charged-normal c m sizes ok) l un
 
-  left-sizes : EvictionSizes left
-  left-sizes = dropped-sizes (chargedOf c m (c .n)) v ws (charged-sizes c m sizes ok) (charged-normal c m sizes ok) l fromBytes
+  after-sizes : EvictionSizes after
+  after-sizes = dropped-sizes (chargedOf c m (c .n)) v ws (charged-sizes c m sizes ok) (charged-normal c m sizes ok) l un
 
   view-after :
-      view (countedOf left v d)
+      view (countedOf after v d)
       ≡ moved (view c) (record { state = evictItem (splitOf (c .rule)) v (stateOf c); events = evicted v (isDirty (slotAt (stateOf c) v)) ∷ [] }) (c .closed)
   unfolding fold catalogOf usesOf
   view-after =
-      counted-view left v left-sizes left-normal l d
+      counted-view after v after-sizes after-normal l d
       ∙ (λ z. changed (view c) (state-after z) (tally (catalogOf c) (figuresOf c) (evicted v ((was ∙ sym (dirty-is c ok v l)) z))) (c .closed))
 
 -- the victim of a cache that holds something
@@ -134,13 +134,13 @@ evict-becomes c {v} {m} ch e {d} r sizes ok some least is was so counts =
     (sym (counts ∙ ap (λ (q : Cache). countedOf q v d) (leaving c ch e so)))
     (record {
       stands =
-          view-after c v m (e .dirty) d sizes ok l worth fromBytes was
+          view-after c v m (e .dirty) d sizes ok l worth un was
           ∙ ap (λ (u : ℕ).
           moved (view c) (record { state = evictItem (splitOf (c .rule)) u (stateOf c); events = evicted u (isDirty (slotAt (stateOf c) u)) ∷ [] }) (c .closed))
           least;
       fields =
-          counted-normal (droppedOf (chargedOf c m (c .n)) v (e .dirty)) v (left-sizes c v m (e .dirty) d sizes ok l worth fromBytes was)
-          (left-normal c v m (e .dirty) d sizes ok l worth fromBytes was) l d;
+          counted-normal (droppedOf (chargedOf c m (c .n)) v (e .dirty)) v (after-sizes c v m (e .dirty) d sizes ok l worth un was)
+          (after-normal c v m (e .dirty) d sizes ok l worth un was) l d;
     })
   where
     l : v < c .n
@@ -149,5 +149,5 @@ evict-becomes c {v} {m} ch e {d} r sizes ok some least is was so counts =
     worth : m ≡ rank (stateOf c) v
     worth = is ∙ sym (rank-is c ok v l)
 
-    fromBytes : marks (e .dirty) ≡ set (marks (c .dirty)) v false
-    fromBytes = so .drop .unmarked ∙ ap (λ (q : Cache). set (marks (q .dirty)) v false) (so .charge)
+    un : marks (e .dirty) ≡ set (marks (c .dirty)) v false
+    un = so .drop .unmarked ∙ ap (λ (q : Cache). set (marks (q .dirty)) v false) (so .charge)

@@ -158,7 +158,7 @@ module _ (c : Cache) (m : ℕ) (sizes : EvictionSizes c) (ok : Normal c) where
       (λ i b d. omega (arith, write-left i b, ok .clean i b d))
 
 -- item v is dropped
-module _ (c : Cache) (v : ℕ) (ws : List ℕ) (sizes : EvictionSizes c) (ok : Normal c) (l : v < c .n) (fromBytes : marks ws ≡ set (marks (c .dirty)) v false) where
+module _ (c : Cache) (v : ℕ) (ws : List ℕ) (sizes : EvictionSizes c) (ok : Normal c) (l : v < c .n) (un : marks ws ≡ set (marks (c .dirty)) v false) where
   abbrev dropped : Cache
   dropped = droppedOf c v ws
 
@@ -166,7 +166,7 @@ module _ (c : Cache) (v : ℕ) (ws : List ℕ) (sizes : EvictionSizes c) (ok : N
   unheld = getD-set-same (c .held) v false false (let e : length (c .held) ≡ 256 = sizes .held in omega (arith, ok .few))
 
   unmarked : dirtyAt dropped v ≡ false
-  unmarked = marked-set-same (c .dirty) ws v false fromBytes (omega (arith, ok .few))
+  unmarked = marked-set-same (c .dirty) ws v false un (omega (arith, ok .few))
 
   no-load : getD (dropped .loadcredit) v 0 ≡ 0
   no-load = getD-set-same (c .loadcredit) v 0 0 (let e : length (c .loadcredit) ≡ 256 = sizes .load in omega (arith, ok .few))
@@ -179,7 +179,7 @@ module _ (c : Cache) (v : ℕ) (ws : List ℕ) (sizes : EvictionSizes c) (ok : N
   other-held i e = getD-set-other (c .held) v i false false e
 
   other-dirty : (i : ℕ) → i < 256 → i ≢ v → dirtyAt dropped i ≡ dirtyAt c i
-  other-dirty i b e = marked-set-other (c .dirty) ws v false fromBytes i b e
+  other-dirty i b e = marked-set-other (c .dirty) ws v false un i b e
 
   other-load : (i : ℕ) → i ≢ v → getD (dropped .loadcredit) i 0 ≡ getD (c .loadcredit) i 0
   other-load i e = getD-set-other (c .loadcredit) v i 0 0 e
