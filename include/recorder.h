@@ -50,8 +50,8 @@
  * always returns. A pointer must be good for the count of bytes that is handed in with it; with a count of 0 it is not used,
  * and may be NULL.
  *
- * STACK. Measured on x86-64 (make bench prints it): at most 191 bytes for recorder_open, 423 for recorder_step, 199 for
- * recorder_close, 471 for recorder_report, 623 for recorder_sentence and 207 for recorder_log, with no recursion, what the C
+ * STACK. Measured on x86-64 (make bench prints it): at most 191 bytes for recorder_open, 411 for recorder_step, 203 for
+ * recorder_close, 471 for recorder_report, 623 for recorder_sentence and 203 for recorder_log, with no recursion, what the C
  * library's memcpy and memset use included. The library works on the lent bytes in place and makes no copy of them.
  *
  * TIME. In instructions, counted under callgrind and rounded (tests/c/cost prints them to the unit and holds this table to
