@@ -25,18 +25,18 @@
  *     nothing wider (memcpy and memset use what yours do). SSE has to be switched on (CR4.OSFXSR). What comes in the middle of
  *     a call must leave these registers as they were: a task switch saves and restores them, and so does an interrupt handler,
  *     unless it is compiled without them (-mgeneral-regs-only) and calls nothing that uses them, as the recorder does.
- *   - Every call but recorder_open uses the red zone: up to 128 bytes below the stack pointer. A handler on the same stack must
- *     begin below them. Where the processor takes an interrupt without a change of stack (in ring 0, with no IST entry), it
- *     writes its own frame into them before the handler runs. There, give the interrupts stacks of their own, or call the
- *     recorder in ring 3, or where no interrupt can come.
+ *   - recorder_report, recorder_sentence and recorder_log use the red zone: up to 128 bytes below the stack pointer. A handler on
+ *     the same stack must begin below them. Where the processor takes an interrupt without a change of stack (in ring 0, with no
+ *     IST entry), it writes its own frame into them before the handler runs. There, give the interrupts stacks of their own, or
+ *     make these three calls in ring 3, or where no interrupt can come.
  *   - The stack pointer has to be a multiple of 16 at the call, as the convention says: recorder_step, recorder_close,
  *     recorder_report and recorder_sentence fault otherwise. A C compiler sees to it; a handler in assembly that calls the
  *     recorder, or C, has to do so itself.
  * Then a handler may call the recorder too, on another state than that of a call it may have interrupted.
  *
  * OWNERSHIP. The state is RECORDER_STATE_BYTES bytes that the caller owns: static, on the stack or anywhere else, at any
- * alignment. No call keeps a pointer. The library has no heap and no static data but constants, takes no lock, masks no
- * interrupt and does no input or output. A state may be copied, moved, stored and read back byte for byte between calls.
+ * alignment. No call keeps a pointer. The library allocates nothing, has no static data but constants, takes no lock, masks
+ * no interrupt and does no input or output. A state may be copied, moved, stored and read back byte for byte between calls.
  *
  * REENTRANT. Every call works on what it is lent and on nothing else, so two states may be in use at once: calls on
  * different states may run at the same time, or one in the middle of another. Calls on one state may not, and nothing else
@@ -50,8 +50,8 @@
  * always returns. A pointer must be good for the count of bytes that is handed in with it; with a count of 0 it is not used,
  * and may be NULL.
  *
- * STACK. Measured on x86-64 (make bench prints it): at most 191 bytes for recorder_open, 411 for recorder_step, 203 for
- * recorder_close, 471 for recorder_report, 623 for recorder_sentence and 203 for recorder_log, with no recursion, what the C
+ * STACK. Measured on x86-64 (make bench prints it): at most 191 bytes for recorder_open, 519 for recorder_step, 311 for
+ * recorder_close, 503 for recorder_report, 623 for recorder_sentence and 203 for recorder_log, with no recursion, what the C
  * library's memcpy and memset use included. The library works on the lent bytes in place and makes no copy of them.
  *
  * TIME. In instructions, counted under callgrind and rounded (tests/c/cost prints them to the unit and holds this table to
@@ -59,27 +59,37 @@
  *
  *                                                      3        30       256
  *     recorder_open                                  130       540     4,300
- *     recorder_step, refused                       3,100     4,400    15,400
- *     recorder_step, refused, all have left        3,200     5,100    21,300
- *     recorder_step, hit                           3,200     4,500    15,500
- *     recorder_step, arrival                       3,100     4,400    15,700
- *     recorder_step, retirement                    3,300     4,600    15,500
- *     recorder_step, miss, one eviction            3,500     5,700    24,400
- *     recorder_step, flush, all dirty              3,600     8,100    45,900
- *     recorder_step, miss, 16 evictions                              202,400
- *     recorder_close, all dirty                    3,600     8,100    45,900
- *     recorder_report, long figures                7,100    24,900   167,800
- *     recorder_is_valid, long figures              4,100     9,400    52,000
+ *     recorder_step, refused                       2,900     5,200    24,100
+ *     recorder_step, refused, all have left        2,900     4,500    18,300
+ *     recorder_step, hit                           3,100     5,400    24,300
+ *     recorder_step, arrival                       2,900     5,100    24,300
+ *     recorder_step, retirement                    3,100     5,300    24,400
+ *     recorder_step, miss, one eviction            3,100     5,000    19,700
+ *     recorder_step, miss, 16 evictions                               32,000
+ *     recorder_step, flush, all dirty              3,600    11,200    76,300
+ *     recorder_step, flush, at most                                   98,700
+ *     recorder_close, all dirty                    3,500    11,200    76,300
+ *     recorder_report, long figures                6,900    25,600   176,600
+ *     recorder_is_valid, long figures              3,900    10,100    60,700
  *     recorder_sentence, at most                     780
  *     recorder_log, a step of any kind               150
  *     recorder_log, a step, at most                  490
  *
  * What memset takes for the RECORDER_STATE_BYTES bytes of an opening, and memcpy for a sentence, comes on top.
  *
- * Each step, close and report looks over the whole state first, for refusal 17, and over the places past the catalog too. That
- * look is all of the line 'refused', and nearly all of a hit. An eviction goes over all items twice. The worst step is a miss
- * with 16 evictions, and there can be no more of them: each frees a block at least, and no item has more than 16. The line has
- * the most of 32 such steps, with 255 items held; of some 5,000 others that were tried none took more than 203,000.
+ * Each step, close and report looks over the whole state first, for refusal 17: over each item, over the places past the catalog,
+ * and over the heap of the held items. That look is all of the line 'refused', and nearly all of a hit. It takes the longer, the
+ * more items are held: all are, but half in the line of one eviction, and none where all have left.
+ *
+ * The held items stand in a heap, the next to go at its head. So an eviction goes over no other item: it takes the head out and
+ * mends the heap, in some 290 instructions where 31 items are held and 430 where 255 are, which grows as the logarithm of their
+ * count. There can be no more than 16 evictions in a step: each frees a block at least, and no item has more than 16. The line
+ * has the most of 32 such steps, with 255 items held, all dirty.
+ *
+ * The worst step is a flush, for which the heap is mended once for each dirty item; the close does the same. The line 'at most'
+ * has the most of 32 such steps, with 256 items, each of which goes to the head of the heap when it is written back. Of 5,000
+ * others that were tried, those with the most exchanges in their heaps took no more than 98,700.
+ *
  * recorder_is_valid measures the report besides. 'Long figures' are those of a season of 1,000,000 steps.
  *
  * VERSIONS. RECORDER_VERSION counts the change requests that this header is made for; docs/changes has a note on each. The
@@ -104,10 +114,10 @@ extern "C" {
 #endif
 
 /* How many change requests this header knows; VERSIONS above says how an archive of another version is seen. */
-#define RECORDER_VERSION 6
+#define RECORDER_VERSION 7
 
 /* The bytes of a state; a state of any other length is RECORDER_INVALID_STATE. */
-#define RECORDER_STATE_BYTES 8836
+#define RECORDER_STATE_BYTES 11408
 
 /*
  * The number of the layout, at the head of every state. It rises with every change of the layout, so that a state stored by
@@ -115,7 +125,7 @@ extern "C" {
  * another number, close the open season and report it with the old one; or keep the steps, and replay them after an
  * opening with the new one.
  */
-#define RECORDER_FORMAT 4
+#define RECORDER_FORMAT 5
 
 /* The bytes of the longest catalog, of RECORDER_MAX_ITEMS items; one of n items has n * RECORDER_ITEM_BYTES. */
 #define RECORDER_CATALOG_BYTES 1280
@@ -378,8 +388,9 @@ enum recorder_place {
     RECORDER_AT_LOAD_COST = 40,        /* u64 */
     RECORDER_AT_WRITE_COST = 48,       /* u64 */
     RECORDER_AT_DIRTY = 56,            /* four u64: 256 marks, item i is bit i % 64 of word i / 64 */
-    RECORDER_AT_LOAD_CREDIT = 88,      /* run of u64, in units of 1 / RECORDER_UNIT of a cost */
-    RECORDER_AT_WRITE_CREDIT = 2136,   /* run of u64, likewise */
+    RECORDER_AT_LOAD_CREDIT = 88,      /* run of u64, in units of 1 / RECORDER_UNIT of a cost, as last reckoned: what stands
+                                          is told by recorder_load_credit */
+    RECORDER_AT_WRITE_CREDIT = 2136,   /* run of u64, likewise, and recorder_write_credit */
     RECORDER_AT_MINUTES = 4184,        /* run of u32: minutes written; the report prints a sixth of them, rounded down */
     RECORDER_AT_ITEM_LOADS = 5208,     /* run of u32 */
     RECORDER_AT_ITEM_WRITEBACKS = 6232, /* run of u32 */
@@ -390,7 +401,13 @@ enum recorder_place {
     RECORDER_AT_RULE = 8792,           /* u32: RECORDER_WRITE_FIRST or RECORDER_LOAD_FIRST */
     RECORDER_AT_LEFT = 8796,           /* four u64: 256 marks of the items that have left, as of the dirty ones */
     RECORDER_AT_ARRIVALS = 8828,       /* u32 */
-    RECORDER_AT_RETIREMENTS = 8832     /* u32: as many as items have left */
+    RECORDER_AT_RETIREMENTS = 8832,    /* u32: as many as items have left */
+    RECORDER_AT_USED = 8836,           /* u32: the blocks held */
+    RECORDER_AT_LEVEL = 8840,          /* u64: what a block has lost by evictions so far, in the units of the credits */
+    RECORDER_AT_KEYS = 8848,           /* run of u64: the level at which the item's credits are used up; 0 if it is not held */
+    RECORDER_AT_HEAP = 10896,          /* run of u8, by place and not by item: the held items as a heap, least key first; as many
+                                          places as items are held (loads - evictions) are in use, the others 0 */
+    RECORDER_AT_PLACES = 11152         /* run of u8: the place of the item in the heap; 0 if it is not held */
 };
 
 /*
@@ -477,17 +494,36 @@ static inline bool recorder_is_left(const uint8_t *state, size_t state_len, uint
 }
 
 /*
- * An item's credits, in units of 1 / RECORDER_UNIT of a cost; the minutes that it was written for; how often it was loaded, and
- * written back. 0 for a state of the wrong length and for an item number above 255; of a valid state, 0 past the catalog.
+ * What stands of the credit at the place `own`, beside that at `other`. The bytes have both as they were last reckoned; what each
+ * block of the item has lost since is the level, plus what both come to a block, less the key. Under the rule `first` the own
+ * credit bears the loss first, else only what the other lacks. 0 if the item is not held; of an invalid state, any number.
+ */
+static inline uint64_t recorder_credit(const uint8_t *state, size_t state_len, uint32_t item, size_t own, size_t other,
+                                       uint32_t first)
+{
+    if (!recorder_is_held(state, state_len, item) || state[RECORDER_AT_BLOCKS + item] == 0)
+        return 0;
+    const uint64_t credit = recorder_u64(state + own + 8 * item), beside = recorder_u64(state + other + 8 * item);
+    const uint64_t blocks = state[RECORDER_AT_BLOCKS + item], key = recorder_u64(state + RECORDER_AT_KEYS + 8 * item);
+    uint64_t loss = blocks * (recorder_u64(state + RECORDER_AT_LEVEL) + (credit + beside) / blocks - key);
+    if (recorder_u32(state + RECORDER_AT_RULE) != first)
+        loss = loss < beside ? 0 : loss - beside;
+    return loss < credit ? credit - loss : 0;
+}
+
+/*
+ * An item's credits as they stand, in units of 1 / RECORDER_UNIT of a cost; the minutes that it was written for; how often it was
+ * loaded, and written back. 0 for a state of the wrong length and for an item number above 255; of a valid state, 0 past the
+ * catalog, and the credits 0 where the item is not held.
  */
 static inline uint64_t recorder_load_credit(const uint8_t *state, size_t state_len, uint32_t item)
 {
-    return recorder_has_place(state_len, item) ? recorder_u64(state + RECORDER_AT_LOAD_CREDIT + 8 * item) : 0;
+    return recorder_credit(state, state_len, item, RECORDER_AT_LOAD_CREDIT, RECORDER_AT_WRITE_CREDIT, RECORDER_LOAD_FIRST);
 }
 
 static inline uint64_t recorder_write_credit(const uint8_t *state, size_t state_len, uint32_t item)
 {
-    return recorder_has_place(state_len, item) ? recorder_u64(state + RECORDER_AT_WRITE_CREDIT + 8 * item) : 0;
+    return recorder_credit(state, state_len, item, RECORDER_AT_WRITE_CREDIT, RECORDER_AT_LOAD_CREDIT, RECORDER_WRITE_FIRST);
 }
 
 static inline uint32_t recorder_item_minutes(const uint8_t *state, size_t state_len, uint32_t item)

@@ -1,6 +1,7 @@
 //! Equal answers and equal bytes: every call is made on both implementations, on openings and logs at random, on damaged
-//! states, and on valid states that no log leads to.
+//! states, and on valid states that no log leads to. The heap may be arranged in one way by the one and in another by the other.
 
+use bench::arrangement::{fault, same_apart};
 use bench::calls::{LIBRARY, PLAIN};
 use bench::plain::{
     self, ARRIVE, FLUSH, LOAD_FIRST, MAX_STEPS, Numbers, READ, RETIRE, STATE_BYTES, WRITE,
@@ -9,7 +10,7 @@ use bench::plain::{
 use bench::random::{Random, catalog, odd_rule, some_k, some_n, some_rule};
 use bench::states;
 
-/// One state for each implementation, always with the same bytes.
+/// One state for each implementation, always with the same bytes but for the arrangement of the heap.
 #[derive(Clone)]
 struct Pair {
     library: Vec<u8>,
@@ -30,43 +31,50 @@ impl Pair {
         }
     }
 
+    /// Tells a difference, keeps the library's state before the call, and ends the program.
+    fn differ(&self, what: &str, before: &Pair) -> ! {
+        println!("DIFFERENCE: {what}");
+        let bytes = self.library.iter().zip(&self.plain).enumerate();
+        for (i, (a, b)) in bytes.filter(|(_, (a, b))| a != b).take(20) {
+            let was = before.library[i];
+            println!("  byte {i}: before {was}, library {a}, plain Rust {b}");
+        }
+        let file = std::env::temp_dir().join("recorder-difference.state");
+        std::fs::write(&file, &before.library).expect("the state is written");
+        println!("  the state before the call is in {}", file.display());
+        std::process::exit(1);
+    }
+
+    /// Looks at what both answered. A refused call leaves every byte of each; behind an accepted one both have the same bytes but for the
+    /// arrangement, which is as it may be.
     fn both(
-        &mut self,
+        &self,
         tally: &mut Tally,
         what: &str,
-        before: &[u8],
+        before: &Pair,
         [library, plain]: [u32; 2],
     ) -> u32 {
-        if library != plain || self.library != self.plain {
-            println!("DIFFERENCE: {what}: the library answers {library}, plain Rust {plain}");
-            for (i, (a, b)) in self
-                .library
-                .iter()
-                .zip(&self.plain)
-                .enumerate()
-                .filter(|(_, (a, b))| a != b)
-                .take(20)
-            {
-                println!(
-                    "  byte {i}: before {}, library {a}, plain Rust {b}",
-                    before[i]
-                );
-            }
-            let file = std::env::temp_dir().join("recorder-difference.state");
-            std::fs::write(&file, before).expect("the state is written");
-            println!("  the state before the call is in {}", file.display());
-            std::process::exit(1);
+        if library != plain || !same_apart(&self.library, &self.plain) {
+            let what = format!("{what}: the library answers {library}, plain Rust {plain}");
+            self.differ(&what, before);
         }
-        if plain != 0 && self.plain != before {
-            println!("DIFFERENCE: {what}: refused ({plain}), and yet a byte has changed");
-            std::process::exit(1);
+        if plain != 0 && (self.plain != before.plain || self.library != before.library) {
+            let what = format!("{what}: refused ({plain}), and yet a byte has changed");
+            self.differ(&what, before);
+        }
+        if plain == 0 {
+            for (whose, state) in [("library", &self.library), ("plain Rust", &self.plain)] {
+                if let Some(fault) = fault(state) {
+                    self.differ(&format!("{what}: the heap of the {whose}: {fault}"), before);
+                }
+            }
         }
         tally.answers[plain as usize] += 1;
         plain
     }
 
     fn open(&mut self, tally: &mut Tally, k: u32, rule: u32, catalog: &[u8]) -> u32 {
-        let before = self.plain.clone();
+        let before = self.clone();
         let answers = [
             (LIBRARY.open)(&mut self.library, k, rule, catalog),
             (PLAIN.open)(&mut self.plain, k, rule, catalog),
@@ -76,7 +84,7 @@ impl Pair {
     }
 
     fn step(&mut self, tally: &mut Tally, numbers: Numbers) -> u32 {
-        let before = self.plain.clone();
+        let before = self.clone();
         let answers = [
             (LIBRARY.step)(&mut self.library, numbers),
             (PLAIN.step)(&mut self.plain, numbers),
@@ -93,7 +101,7 @@ impl Pair {
     }
 
     fn close(&mut self, tally: &mut Tally) -> u32 {
-        let before = self.plain.clone();
+        let before = self.clone();
         let answers = [
             (LIBRARY.close)(&mut self.library),
             (PLAIN.close)(&mut self.plain),
@@ -141,15 +149,17 @@ fn arguments(r: &mut Random, n: usize) -> Numbers {
     of_three([kind, item, minutes])
 }
 
-/// Changes some bytes: any, or a number by little.
-fn damage(r: &mut Random, s: &mut Pair) {
+/// The state of one of the two for both, with some bytes changed: any, or a number by little.
+fn damaged(r: &mut Random, s: &Pair) -> Pair {
+    let mut state = r.pick(&[&s.plain, &s.library]).clone();
     for _ in 0..r.pick(&[1, 1, 1, 2, 3]) {
-        let n = s.plain[at::N] as usize;
+        let n = state[at::N] as usize;
         let i = r.pick(&[0, 1, 2, n, r.0 as usize % 256, 255]).min(255);
         let any = r.below(STATE_BYTES as u64) as usize;
         let head = r.below(at::LOAD_CREDIT as u64) as usize;
         let rule = at::RULE + r.below(4) as usize;
-        let behind = at::LEFT + r.below((STATE_BYTES - at::LEFT) as u64) as usize;
+        let behind = at::LEFT + r.below((at::KEYS - at::LEFT) as u64) as usize;
+        let queue = at::KEYS + r.below((STATE_BYTES - at::KEYS) as u64) as usize;
         let place = r.pick(&[
             any,
             head,
@@ -164,8 +174,12 @@ fn damage(r: &mut Random, s: &mut Pair) {
             at::HELD + i,
             rule,
             behind,
+            queue,
+            at::KEYS + 8 * i,
+            at::HEAP + i,
+            at::PLACES + i,
         ]);
-        let old = s.plain[place];
+        let old = state[place];
         let bit = 1 << r.below(8);
         let new = r.pick(&[
             old.wrapping_add(1),
@@ -175,9 +189,9 @@ fn damage(r: &mut Random, s: &mut Pair) {
             1,
             255,
         ]);
-        s.plain[place] = new;
-        s.library[place] = new;
+        state[place] = new;
     }
+    Pair::of(state)
 }
 
 /// A log at random; on the way, copies of the state are damaged and called.
@@ -191,8 +205,7 @@ fn random_log(r: &mut Random, tally: &mut Tally) {
         let n = pair.count();
         pair.step(tally, arguments(r, n));
         if r.one_in(4) {
-            let mut other = pair.clone();
-            damage(r, &mut other);
+            let mut other = damaged(r, &pair);
             for _ in 0..3 {
                 other.step(tally, arguments(r, n));
             }
@@ -244,8 +257,7 @@ fn from_valid(r: &mut Random, tally: &mut Tally) {
     }
     pair.close(tally);
     for _ in 0..20 {
-        let mut other = start.clone();
-        damage(r, &mut other);
+        let mut other = damaged(r, &start);
         other.step(tally, arguments(r, n));
         other.close(tally);
     }

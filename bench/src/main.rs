@@ -1,5 +1,5 @@
 //! The recorder's exported calls against a plain Rust implementation that does the same checks on the same bytes: first that
-//! both give equal answers and equal bytes, then ns per step of both, with their ratio, and the stack of the library's calls.
+//! both give equal answers and equal bytes, the arrangement of the heap apart, then ns per step of both, with their ratio, and the stack of the library's calls.
 //! bench/run builds and runs it, and has callgrind count the instructions of a step.
 
 mod compare;
@@ -22,7 +22,9 @@ fn main() {
     );
     let tally = compare::compare();
     let calls: u64 = tally.answers.iter().sum();
-    println!("compared: {calls} calls, equal answers and equal bytes");
+    println!(
+        "compared: {calls} calls, equal answers and equal bytes, the heap's arrangement apart"
+    );
     for (answer, count) in tally
         .answers
         .iter()

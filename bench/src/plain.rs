@@ -4,10 +4,14 @@
 
 use std::fmt::{self, Write};
 
-pub const STATE_BYTES: usize = 8_836;
+use crate::heap::Heap;
+
+pub const STATE_BYTES: usize = 11_408;
 /// One unit of cost in shares: the least common multiple of 1 to 16.
 pub const UNIT: u64 = 720_720;
 pub const MAX_STEPS: u32 = 1_000_000;
+/// The most that the level can rise at an eviction: both costs of an item of one block, in shares.
+pub const MOST_RISE: u64 = 131_070 * UNIT;
 
 // Answers: 0 is taken, the others are the papers' refusals.
 pub const TAKEN: u32 = 0;
@@ -41,7 +45,7 @@ pub const WRITE_FIRST: u32 = 0;
 pub const LOAD_FIRST: u32 = 1;
 
 /// The number of the layout, which stands at the head of the bytes.
-pub const FORMAT: u32 = 4;
+pub const FORMAT: u32 = 5;
 
 /// Where each field stands.
 pub mod at {
@@ -72,6 +76,11 @@ pub mod at {
     pub const LEFT: usize = 8796;
     pub const ARRIVALS: usize = 8828;
     pub const RETIREMENTS: usize = 8832;
+    pub const USED: usize = 8836;
+    pub const LEVEL: usize = 8840;
+    pub const KEYS: usize = 8848;
+    pub const HEAP: usize = 10896;
+    pub const PLACES: usize = 11152;
 }
 
 type Bytes = [u8; STATE_BYTES];
@@ -107,7 +116,7 @@ fn run_mut<const AT: usize, const W: usize>(s: &mut Bytes) -> &mut [[u8; W]; 256
     s[AT..AT + 256 * W].as_chunks_mut().0.try_into().unwrap()
 }
 
-/// What one place of the state says of its item.
+/// What one place of the state says of its item. The credits are as last reckoned; what stands of them follows from key and level.
 struct Item {
     blocks: u8,
     load: u16,
@@ -115,6 +124,7 @@ struct Item {
     held: u8,
     load_credit: u64,
     write_credit: u64,
+    key: u64,
 }
 
 fn item(s: &Bytes, i: usize) -> Item {
@@ -125,7 +135,16 @@ fn item(s: &Bytes, i: usize) -> Item {
         held: s[at::HELD + i],
         load_credit: u64::from_le_bytes(run::<{ at::LOAD_CREDIT }, 8>(s)[i]),
         write_credit: u64::from_le_bytes(run::<{ at::WRITE_CREDIT }, 8>(s)[i]),
+        key: key(s, i),
     }
+}
+
+fn key(s: &Bytes, i: usize) -> u64 {
+    u64::from_le_bytes(run::<{ at::KEYS }, 8>(s)[i])
+}
+
+fn set_key(s: &mut Bytes, i: usize, key: u64) {
+    run_mut::<{ at::KEYS }, 8>(s)[i] = key.to_le_bytes();
 }
 
 fn set_load_credit(s: &mut Bytes, i: usize, credit: u64) {
@@ -155,8 +174,9 @@ fn mark(s: &mut Bytes, at: usize, i: usize) {
 
 /// Whether every byte of the places from `n` on is 0.
 fn blank_past<const AT: usize, const W: usize>(s: &Bytes, n: usize) -> bool {
+    static BLANK: [u8; 2048] = [0; 2048];
     let past = run::<AT, W>(s)[n..].as_flattened();
-    past.iter().fold(0, |all, byte| all | byte) == 0
+    past == &BLANK[..past.len()]
 }
 
 fn sum32<const AT: usize>(s: &Bytes) -> u64 {
@@ -166,114 +186,191 @@ fn sum32<const AT: usize>(s: &Bytes) -> u64 {
         .sum()
 }
 
-/// The blocks in use, if the state is valid (paper 01: not foul).
-fn used_if_valid(s: &Bytes) -> Option<u32> {
-    let k = get32(s, at::K);
-    let n = get16(s, at::N) as usize;
-    let steps = get32(s, at::STEPS);
-    let closed = get16(s, at::CLOSED);
-    if get32(s, at::FORMAT) != FORMAT
-        || get32(s, at::RULE) > LOAD_FIRST
-        || !(1..=4096).contains(&k)
-        || n > 256
-        || steps > MAX_STEPS
-        || closed > 1
-    {
-        return None;
-    }
+/// Numbers that stand for themselves are in range: the format, the rule, `k`, `n`, the steps, and whether it is closed.
+fn ranges_ok(s: &Bytes) -> bool {
+    get32(s, at::FORMAT) == FORMAT
+        && get32(s, at::RULE) <= LOAD_FIRST
+        && (1..=4096).contains(&get32(s, at::K))
+        && get16(s, at::N) <= 256
+        && get32(s, at::STEPS) <= MAX_STEPS
+        && get16(s, at::CLOSED) <= 1
+}
 
-    let [
-        hits,
-        loads,
-        flushes,
-        evictions,
-        dirty_evictions,
-        writebacks,
-        arrivals,
-        retirements,
-    ] = [
-        at::HITS,
-        at::LOADS,
-        at::FLUSHES,
-        at::EVICTIONS,
+/// The totals go together, and with the marks. Once this is so, evictions are at most loads, and these at most 1,000,000.
+fn totals_ok(s: &Bytes, dirty: [u64; 4], left: [u64; 4]) -> bool {
+    let [steps, hits, loads, flushes, evictions] =
+        [at::STEPS, at::HITS, at::LOADS, at::FLUSHES, at::EVICTIONS]
+            .map(|at| u64::from(get32(s, at)));
+    let [dirty_evictions, writebacks, arrivals, retirements] = [
         at::DIRTY_EVICTIONS,
         at::WRITEBACKS,
         at::ARRIVALS,
         at::RETIREMENTS,
     ]
     .map(|at| u64::from(get32(s, at)));
-    let dirty = words(s, at::DIRTY);
-    let left = words(s, at::LEFT);
-    let dirty_count = count_set(dirty);
-    if hits + loads + flushes + arrivals + retirements != u64::from(steps)
-        || retirements != u64::from(count_set(left))
-        || dirty_evictions > evictions
-        || dirty_evictions > writebacks
-        || writebacks + u64::from(dirty_count) > u64::from(steps)
-        || get64(s, at::LOAD_COST) > 65_535 * loads
-        || get64(s, at::WRITE_COST) > 65_535 * writebacks
-        || sum32::<{ at::ITEM_LOADS }>(s) != loads
-        || sum32::<{ at::ITEM_WRITEBACKS }>(s) != writebacks
-        || (closed == 1 && dirty_count > 0)
-    {
-        return None;
-    }
+    let dirty_count = u64::from(count_set(dirty));
+    hits + loads + flushes + arrivals + retirements == steps
+        && retirements == u64::from(count_set(left))
+        && evictions <= loads
+        && dirty_evictions <= evictions
+        && dirty_evictions <= writebacks
+        && writebacks + dirty_count <= steps
+        && get64(s, at::LOAD_COST) <= 65_535 * loads
+        && get64(s, at::WRITE_COST) <= 65_535 * writebacks
+        && sum32::<{ at::ITEM_LOADS }>(s) == loads
+        && sum32::<{ at::ITEM_WRITEBACKS }>(s) == writebacks
+        && (get16(s, at::CLOSED) == 0 || dirty_count == 0)
+        && get64(s, at::LEVEL) <= evictions * MOST_RISE
+}
 
+/// Places past the catalogue are empty, and so is the heap behind its `size`; minutes are at most those of the steps.
+// Apart from the pass over the items, which runs faster so.
+#[inline(never)]
+fn rows_ok(s: &Bytes, n: usize, size: usize) -> bool {
     let blank = blank_past::<{ at::LOAD_CREDIT }, 8>(s, n)
         && blank_past::<{ at::WRITE_CREDIT }, 8>(s, n)
+        && blank_past::<{ at::KEYS }, 8>(s, n)
         && blank_past::<{ at::MINUTES }, 4>(s, n)
         && blank_past::<{ at::ITEM_LOADS }, 4>(s, n)
         && blank_past::<{ at::ITEM_WRITEBACKS }, 4>(s, n)
         && blank_past::<{ at::LOAD }, 2>(s, n)
         && blank_past::<{ at::WRITE }, 2>(s, n)
         && blank_past::<{ at::BLOCKS }, 1>(s, n)
-        && blank_past::<{ at::HELD }, 1>(s, n);
+        && blank_past::<{ at::HELD }, 1>(s, n)
+        && blank_past::<{ at::PLACES }, 1>(s, n)
+        && blank_past::<{ at::HEAP }, 1>(s, size);
     let minutes = &run::<{ at::MINUTES }, 4>(s)[..n];
-    let most = 1440 * steps;
-    let over = minutes
-        .iter()
-        .fold(false, |over, &m| over | (u32::from_le_bytes(m) > most));
-    if !blank || over {
-        return None;
-    }
+    let most = 1440 * get32(s, at::STEPS);
+    blank
+        && !minutes
+            .iter()
+            .fold(false, |over, &m| over | (u32::from_le_bytes(m) > most))
+}
 
-    let mut used = 0;
-    let mut held = 0;
-    let mut held_words = [0u64; 4];
-    let mut known_words = [0u64; 4];
+/// A held item's credits are multiples of its blocks and at most its costs, a clean one has no write credit, and its key is the level or
+/// above it by no more than its credits a block.
+fn credits_ok(it: &Item, dirty: bool, level: u64) -> bool {
+    let blocks = u64::from(it.blocks);
+    let above = it.key.wrapping_sub(level);
+    it.load_credit <= u64::from(it.load) * UNIT
+        && it.write_credit <= u64::from(it.write) * UNIT
+        && it.load_credit.is_multiple_of(blocks)
+        && it.write_credit.is_multiple_of(blocks)
+        && (it.write_credit == 0 || dirty)
+        && it.key >= level
+        && above <= MOST_RISE
+        && above * blocks <= it.load_credit + it.write_credit
+}
+
+/// A held item stands in the heap of `size` at its own place, and does not go before the one above it. If this is so of `size` items,
+/// the heap has each of them once and nothing else.
+fn place_ok(s: &Bytes, i: usize, own: u64, size: usize) -> bool {
+    let heap = &run::<{ at::HEAP }, 1>(s)[..size];
+    let place = usize::from(s[at::PLACES + i]);
+    if place >= heap.len() || usize::from(heap[place][0]) != i {
+        return false;
+    }
+    let above = usize::from(heap[place.saturating_sub(1) / 2][0]);
+    place == 0 || (key(s, above), above) < (own, i)
+}
+
+/// What the held items come to.
+#[derive(Default)]
+struct Held {
+    count: usize,
+    blocks: u32,
+    words: [u64; 4],
+}
+
+/// The held items, if each of the `n` of the catalogue is as it should be, and a heap of `size` has those that are held.
+fn held_if_ok(s: &Bytes, n: usize, size: usize, dirty: [u64; 4]) -> Option<Held> {
+    let level = get64(s, at::LEVEL);
+    let mut held = Held::default();
     for i in 0..n {
-        known_words[i / 64] |= 1 << (i % 64);
         let it = item(s, i);
-        if !(1..=16).contains(&it.blocks) {
+        if !(1..=16).contains(&it.blocks) || it.held > 1 {
             return None;
         }
         if it.held == 0 {
-            if it.load_credit | it.write_credit != 0 {
+            let place = u64::from(s[at::PLACES + i]);
+            if it.load_credit | it.write_credit | it.key | place != 0 {
                 return None;
             }
             continue;
         }
-        let blocks = u64::from(it.blocks);
-        if it.held > 1
-            || it.load_credit > u64::from(it.load) * UNIT
-            || it.write_credit > u64::from(it.write) * UNIT
-            || !it.load_credit.is_multiple_of(blocks)
-            || !it.write_credit.is_multiple_of(blocks)
-            || (it.write_credit != 0 && dirty[i / 64] >> (i % 64) & 1 == 0)
-        {
+        let is_dirty = dirty[i / 64] >> (i % 64) & 1 == 1;
+        if !credits_ok(&it, is_dirty, level) || !place_ok(s, i, it.key, size) {
             return None;
         }
-        used += u32::from(it.blocks);
-        held += 1;
-        held_words[i / 64] |= 1 << (i % 64);
+        held.count += 1;
+        held.blocks += u32::from(it.blocks);
+        held.words[i / 64] |= 1 << (i % 64);
     }
-    let held_only = dirty.iter().zip(held_words).all(|(d, h)| d & !h == 0);
-    let none_held = left.iter().zip(held_words).all(|(l, h)| l & h == 0);
-    let known_only = left.iter().zip(known_words).all(|(l, k)| l & !k == 0);
-    (held_only && none_held && known_only && used <= k && evictions + held == loads).then_some(used)
+    Some(held)
 }
 
-/// Item `i` is written back: it pays its write cost, is clean, and has no write credit.
+/// The words with the marks of the first `n` numbers set.
+fn first_marks(n: usize) -> [u64; 4] {
+    [0, 1, 2, 3].map(|w| match n.saturating_sub(64 * w) {
+        0 => 0,
+        more @ 1..64 => (1 << more) - 1,
+        _ => u64::MAX,
+    })
+}
+
+/// Whether the state is valid (papers 01 and 02: not foul).
+fn is_valid(s: &Bytes) -> bool {
+    let [dirty, left] = [at::DIRTY, at::LEFT].map(|at| words(s, at));
+    if !ranges_ok(s) || !totals_ok(s, dirty, left) {
+        return false;
+    }
+    let n = usize::from(get16(s, at::N));
+    let size = held_count(s);
+    if size > n || !rows_ok(s, n, size) {
+        return false;
+    }
+    let Some(held) = held_if_ok(s, n, size, dirty) else {
+        return false;
+    };
+    let known = first_marks(n);
+    let marks = (0..4).all(|w| {
+        let held = held.words[w];
+        dirty[w] & !held == 0 && left[w] & held == 0 && left[w] & !known[w] == 0
+    });
+    marks
+        && held.count == size
+        && held.blocks == get32(s, at::USED)
+        && held.blocks <= get32(s, at::K)
+}
+
+/// How many items are held: those that were loaded and not dropped. So many places of the heap are in use.
+fn held_count(s: &Bytes) -> usize {
+    (get32(s, at::LOADS) - get32(s, at::EVICTIONS)) as usize
+}
+
+/// The credits of a held item, load and write, that stand: those last reckoned, less what it has lost since, from one first and from the
+/// other what is lacking, by the rule of the state. The key less the level is what a block has left.
+fn standing(s: &Bytes, it: &Item) -> [u64; 2] {
+    let has = u64::from(it.blocks) * (it.key - get64(s, at::LEVEL));
+    if get32(s, at::RULE) == LOAD_FIRST {
+        let write = it.write_credit.min(has);
+        [has - write, write]
+    } else {
+        let load = it.load_credit.min(has);
+        [load, has - load]
+    }
+}
+
+/// An item's credits are reckoned anew: its key is their sum a block, above the level.
+fn reckon(s: &mut Bytes, i: usize, [load, write]: [u64; 2]) {
+    let blocks = u64::from(s[at::BLOCKS + i]);
+    let level = get64(s, at::LEVEL);
+    set_load_credit(s, i, load);
+    set_write_credit(s, i, write);
+    set_key(s, i, level + (load + write) / blocks);
+}
+
+/// Item `i` is written back: it pays its write cost and is clean.
 fn write_back(s: &mut Bytes, i: usize) {
     let cost = u16::from_le_bytes(run::<{ at::WRITE }, 2>(s)[i]);
     add32(s, at::WRITEBACKS, 1);
@@ -281,60 +378,45 @@ fn write_back(s: &mut Bytes, i: usize) {
     let count = &mut run_mut::<{ at::ITEM_WRITEBACKS }, 4>(s)[i];
     *count = (u32::from_le_bytes(*count) + 1).to_le_bytes();
     s[at::DIRTY + i / 8] &= !(1 << (i % 8));
-    set_write_credit(s, i, 0);
 }
 
-/// Every dirty item is written back.
+/// Every dirty item is written back, and reckoned anew without write credit. Nothing would change for a clean one.
 fn flush(s: &mut Bytes) {
+    let size = held_count(s);
     for (w, mut word) in words(s, at::DIRTY).into_iter().enumerate() {
         while word != 0 {
-            write_back(s, 64 * w + word.trailing_zeros() as usize);
+            let i = 64 * w + word.trailing_zeros() as usize;
             word &= word - 1;
+            write_back(s, i);
+            let [load, _] = standing(s, &item(s, i));
+            reckon(s, i, [load, 0]);
+            Heap::of(s).mend(size, i);
         }
     }
 }
 
-/// Evicts the held item of least credit a block, the lowest number first; each other held item loses as much for each
-/// of its blocks, by the rule of the state. Answers the blocks that are free by it.
-fn evict(s: &mut Bytes, n: usize) -> u32 {
-    let mut victim = n;
-    let mut least = u64::MAX;
-    for i in 0..n {
-        let it = item(s, i);
-        if it.held == 1 {
-            let rank = (it.load_credit + it.write_credit) / u64::from(it.blocks);
-            if rank < least {
-                victim = i;
-                least = rank;
-            }
-        }
-    }
-    let load_first = get32(s, at::RULE) == LOAD_FIRST;
-    for i in 0..n {
-        let it = item(s, i);
-        if it.held == 1 && least != 0 {
-            let loss = u64::from(it.blocks) * least;
-            let from_write = if load_first {
-                loss.saturating_sub(it.load_credit)
-            } else {
-                loss.min(it.write_credit)
-            };
-            set_write_credit(s, i, it.write_credit - from_write);
-            set_load_credit(s, i, it.load_credit - (loss - from_write));
-        }
-    }
+/// Evicts the held item of least key. The level rises to that key, which is what the others lose for each of their blocks.
+fn evict(s: &mut Bytes) {
+    let victim = usize::from(s[at::HEAP]);
+    let level = key(s, victim);
     drop_item(s, victim);
-    u32::from(s[at::BLOCKS + victim])
+    s[at::LEVEL..at::LEVEL + 8].copy_from_slice(&level.to_le_bytes());
 }
 
-/// Drops a held item: a dirty one pays, and it has no credits then. The others are not charged.
+/// Drops a held item: a dirty one pays, and it has no credits and no key then. The others are not charged.
 fn drop_item(s: &mut Bytes, i: usize) {
+    let size = held_count(s);
+    Heap::of(s).remove(size, i);
     add32(s, at::EVICTIONS, 1);
     if is_marked(s, at::DIRTY, i) {
         add32(s, at::DIRTY_EVICTIONS, 1);
         write_back(s, i);
     }
+    let used = get32(s, at::USED) - u32::from(s[at::BLOCKS + i]);
+    s[at::USED..at::USED + 4].copy_from_slice(&used.to_le_bytes());
     set_load_credit(s, i, 0);
+    set_write_credit(s, i, 0);
+    set_key(s, i, 0);
     s[at::HELD + i] = 0;
 }
 
@@ -356,6 +438,34 @@ fn retire(s: &mut Bytes, i: usize) {
     add32(s, at::RETIREMENTS, 1);
 }
 
+/// A hit, or a load once there is room; then the load credit is full, and for a write the write credit too.
+fn request(s: &mut Bytes, i: usize, write: bool) {
+    let it = item(s, i);
+    let full = [it.load, it.write].map(|cost| u64::from(cost) * UNIT);
+    if it.held == 1 {
+        add32(s, at::HITS, 1);
+        let of_write = if write { full[1] } else { standing(s, &it)[1] };
+        reckon(s, i, [full[0], of_write]);
+        let size = held_count(s);
+        Heap::of(s).mend(size, i);
+        return;
+    }
+    let blocks = u32::from(it.blocks);
+    let k = get32(s, at::K);
+    while get32(s, at::USED) + blocks > k {
+        evict(s);
+    }
+    s[at::HELD + i] = 1;
+    add32(s, at::USED, blocks);
+    reckon(s, i, [full[0], if write { full[1] } else { 0 }]);
+    let size = held_count(s);
+    Heap::of(s).insert(size, i);
+    add32(s, at::LOADS, 1);
+    add64(s, at::LOAD_COST, u64::from(it.load));
+    let count = &mut run_mut::<{ at::ITEM_LOADS }, 4>(s)[i];
+    *count = (u32::from_le_bytes(*count) + 1).to_le_bytes();
+}
+
 /// Whether a step's kind is one, and its values are in range.
 fn in_range([kind, item, minutes, blocks, load, write]: Numbers) -> bool {
     match kind {
@@ -365,6 +475,52 @@ fn in_range([kind, item, minutes, blocks, load, write]: Numbers) -> bool {
         ARRIVE => item <= 255 && (1..=16).contains(&blocks) && load <= 65_535 && write <= 65_535,
         _ => false,
     }
+}
+
+/// What the table of refusals says of a step on a valid state.
+fn refusal(s: &Bytes, numbers: Numbers) -> u32 {
+    let [kind, number, ..] = numbers;
+    if get16(s, at::CLOSED) == 1 {
+        return CLOSED;
+    }
+    if get32(s, at::STEPS) >= MAX_STEPS {
+        return LOG_FULL;
+    }
+    if !in_range(numbers) {
+        return OUT_OF_RANGE;
+    }
+    let i = number as usize;
+    let n = usize::from(get16(s, at::N));
+    match kind {
+        FLUSH => TAKEN,
+        ARRIVE if i == n => TAKEN,
+        ARRIVE => NOT_NEXT_NUMBER,
+        _ if i >= n => UNKNOWN_ITEM,
+        _ if is_marked(s, at::LEFT, i) => RETIRED_ITEM,
+        RETIRE => TAKEN,
+        _ if u32::from(s[at::BLOCKS + i]) > get32(s, at::K) => ITEM_TOO_LARGE,
+        _ => TAKEN,
+    }
+}
+
+/// Takes a step that is not refused.
+fn take(s: &mut Bytes, [kind, number, minutes, values @ ..]: Numbers) {
+    let i = number as usize;
+    match kind {
+        FLUSH => {
+            flush(s);
+            add32(s, at::FLUSHES, 1);
+        }
+        ARRIVE => arrive(s, i, values),
+        RETIRE => retire(s, i),
+        _ => request(s, i, kind == WRITE),
+    }
+    if kind == WRITE {
+        mark(s, at::DIRTY, i);
+        let sofar = &mut run_mut::<{ at::MINUTES }, 4>(s)[i];
+        *sofar = (u32::from_le_bytes(*sofar) + minutes).to_le_bytes();
+    }
+    add32(s, at::STEPS, 1);
 }
 
 /// Opens a cache of `k` blocks, with a rule of deduction, for a catalog of 5 bytes an item.
@@ -398,76 +554,17 @@ pub fn open(state: &mut [u8], k: u32, rule: u32, catalog: &[u8]) -> u32 {
 
 /// Takes one step.
 pub fn step(state: &mut [u8], numbers: Numbers) -> u32 {
-    let [kind, number, minutes, values @ ..] = numbers;
     let Ok(s): Result<&mut Bytes, _> = state.try_into() else {
         return INVALID_STATE;
     };
-    let Some(mut used) = used_if_valid(s) else {
+    if !is_valid(s) {
         return INVALID_STATE;
-    };
-    if get16(s, at::CLOSED) == 1 {
-        return CLOSED;
     }
-    if get32(s, at::STEPS) >= MAX_STEPS {
-        return LOG_FULL;
+    let answer = refusal(s, numbers);
+    if answer == TAKEN {
+        take(s, numbers);
     }
-    if !in_range(numbers) {
-        return OUT_OF_RANGE;
-    }
-    if kind == FLUSH {
-        flush(s);
-        add32(s, at::STEPS, 1);
-        add32(s, at::FLUSHES, 1);
-        return TAKEN;
-    }
-
-    let k = get32(s, at::K);
-    let n = get16(s, at::N) as usize;
-    let i = number as usize;
-    if kind == ARRIVE {
-        if i != n {
-            return NOT_NEXT_NUMBER;
-        }
-        arrive(s, n, values);
-        add32(s, at::STEPS, 1);
-        return TAKEN;
-    }
-    if i >= n {
-        return UNKNOWN_ITEM;
-    }
-    if is_marked(s, at::LEFT, i) {
-        return RETIRED_ITEM;
-    }
-    if kind == RETIRE {
-        retire(s, i);
-        add32(s, at::STEPS, 1);
-        return TAKEN;
-    }
-    let it = item(s, i);
-    if u32::from(it.blocks) > k {
-        return ITEM_TOO_LARGE;
-    }
-    if it.held == 1 {
-        add32(s, at::HITS, 1);
-    } else {
-        while used + u32::from(it.blocks) > k {
-            used -= evict(s, n);
-        }
-        s[at::HELD + i] = 1;
-        add32(s, at::LOADS, 1);
-        add64(s, at::LOAD_COST, u64::from(it.load));
-        let count = &mut run_mut::<{ at::ITEM_LOADS }, 4>(s)[i];
-        *count = (u32::from_le_bytes(*count) + 1).to_le_bytes();
-    }
-    add32(s, at::STEPS, 1);
-    set_load_credit(s, i, u64::from(it.load) * UNIT);
-    if kind == WRITE {
-        mark(s, at::DIRTY, i);
-        set_write_credit(s, i, u64::from(it.write) * UNIT);
-        let sofar = &mut run_mut::<{ at::MINUTES }, 4>(s)[i];
-        *sofar = (u32::from_le_bytes(*sofar) + minutes).to_le_bytes();
-    }
-    TAKEN
+    answer
 }
 
 /// Closes the log: what is dirty is written back.
@@ -475,7 +572,7 @@ pub fn close(state: &mut [u8]) -> u32 {
     let Ok(s): Result<&mut Bytes, _> = state.try_into() else {
         return INVALID_STATE;
     };
-    if used_if_valid(s).is_none() {
+    if !is_valid(s) {
         return INVALID_STATE;
     }
     if get16(s, at::CLOSED) == 1 {
@@ -520,7 +617,7 @@ pub fn report(state: &[u8], page: &mut [u8], length: &mut usize) -> u32 {
     let Ok(s): Result<&Bytes, _> = state.try_into() else {
         return INVALID_STATE;
     };
-    if used_if_valid(s).is_none() {
+    if !is_valid(s) {
         return INVALID_STATE;
     }
     let mut text = String::new();

@@ -1,6 +1,8 @@
-//! Valid states that need not be ones that a log leads to: any items held, any credits, figures at the ends of their ranges.
+//! Valid states that need not be ones that a log leads to: any items held, any credits and keys, any level, figures at the ends of their
+//! ranges, and the heap in any order that it may have.
 
-use crate::plain::{self, MAX_STEPS, STATE_BYTES, UNIT, at};
+use crate::heap::Heap;
+use crate::plain::{self, MAX_STEPS, MOST_RISE, STATE_BYTES, UNIT, at};
 use crate::random::{Random, catalog, some_k, some_rule};
 
 fn put32(s: &mut [u8], at: usize, value: u32) {
@@ -68,11 +70,44 @@ fn fill(r: &mut Random, s: &mut [u8], k: u32, catalog: &[u8], closed: bool) -> M
             put64(s, at::WRITE_CREDIT + 8 * i, write_credit);
         }
     }
+    put32(s, at::USED, used);
     marked
 }
 
-/// Figures that go with so many items held, dirty and gone.
-fn count(r: &mut Random, s: &mut [u8], n: usize, Marked { held, dirty, left }: Marked) {
+fn get64(s: &[u8], at: usize) -> u64 {
+    u64::from_le_bytes(s[at..at + 8].try_into().unwrap())
+}
+
+/// Gives the state a level that so many evictions can have led to, and each held item a key from the level to what its credits are worth above it.
+fn key(r: &mut Random, s: &mut [u8], evictions: u32) {
+    let most = u64::from(evictions) * MOST_RISE;
+    let any = r.below(most + 1);
+    let level = r.pick(&[0, most, any, any]);
+    put64(s, at::LEVEL, level);
+    for i in 0..256 {
+        if s[at::HELD + i] == 1 {
+            let credits = [at::LOAD_CREDIT, at::WRITE_CREDIT].map(|at| get64(s, at + 8 * i));
+            let worth = (credits[0] + credits[1]) / u64::from(s[at::BLOCKS + i]);
+            let any = r.below(worth + 1);
+            put64(s, at::KEYS + 8 * i, level + r.pick(&[0, worth, any, any]));
+        }
+    }
+}
+
+/// Puts the held items into the heap, in any order.
+pub fn arrange(r: &mut Random, s: &mut [u8; STATE_BYTES]) {
+    let mut held: Vec<usize> = (0..256).filter(|&i| s[at::HELD + i] == 1).collect();
+    s[at::HEAP..].fill(0);
+    let mut heap = Heap::of(s);
+    for size in 0..held.len() {
+        let place = size + r.below((held.len() - size) as u64) as usize;
+        held.swap(size, place);
+        heap.insert(size, held[size]);
+    }
+}
+
+/// Figures that go with so many items held, dirty and gone. Answers the evictions.
+fn count(r: &mut Random, s: &mut [u8], n: usize, Marked { held, dirty, left }: Marked) -> u32 {
     let some = if n == 0 { 0 } else { u32::MAX };
     let evictions = some & r.pick(&[0, 1, 5, 1000, 300_000]);
     let writebacks = some & r.pick(&[0, 1, 5, 1000, 300_000]);
@@ -106,17 +141,20 @@ fn count(r: &mut Random, s: &mut [u8], n: usize, Marked { held, dirty, left }: M
     for i in 0..n {
         put32(s, at::MINUTES + 4 * i, r.pick(&[0, 1, 1440]) * steps);
     }
+    evictions
 }
 
 /// A valid state with a catalog of `n` items.
 pub fn valid(r: &mut Random, n: usize) -> Vec<u8> {
     let catalog = catalog(r, n);
     let k = some_k(r, &catalog);
-    let mut s = vec![0; STATE_BYTES];
+    let mut s = [0; STATE_BYTES];
     assert_eq!(plain::open(&mut s, k, some_rule(r), &catalog), 0);
     let closed = r.one_in(20);
     s[at::CLOSED] = u8::from(closed);
     let marked = fill(r, &mut s, k, &catalog, closed);
-    count(r, &mut s, n, marked);
-    s
+    let evictions = count(r, &mut s, n, marked);
+    key(r, &mut s, evictions);
+    arrange(r, &mut s);
+    s.to_vec()
 }

@@ -13,6 +13,8 @@ use bench::random::Random;
 
 const STEPS: usize = 1_000;
 const ROUNDS: usize = 100;
+/// How many evictions are counted.
+const EVICTIONS: usize = 200;
 
 /// A state to start from and steps to take, each answered by `answer`.
 struct Log {
@@ -136,17 +138,63 @@ const KINDS: [(&str, Kind, u32); 5] = [
     ("change", Kind::Change, WRITE_FIRST),
 ];
 
+/// States in which `held` of 256 items of one block fill the cache, half of them dirty, each with a step that asks for another item and so evicts
+/// one. With room, the cache has a block more and nothing else differs: the same step evicts none. So what the two take differs by one
+/// eviction, whatever a step and the test of the state take.
+fn evictions(held: u32, room: bool) -> Vec<(Vec<u8>, Numbers)> {
+    let r = &mut Random(u64::from(held));
+    let mut catalog = Vec::new();
+    for _ in 0..256 {
+        catalog.push(1);
+        catalog.extend((r.between(1, 1000) as u16).to_le_bytes());
+        catalog.extend((r.between(1, 1000) as u16).to_le_bytes());
+    }
+    let mut state = vec![0; STATE_BYTES];
+    assert_eq!(plain::open(&mut state, held, WRITE_FIRST, &catalog), 0);
+    let mut taken = Vec::new();
+    while taken.len() < EVICTIONS {
+        let item = r.below(256) as usize;
+        let step = of_three([r.pick(&[READ, WRITE]), item as u32, 60]);
+        let evictions = get32(&state, at::EVICTIONS);
+        // At first the cache fills, and then every item has its turn to go.
+        if state[at::HELD + item] == 0 && evictions >= 4 * held {
+            let mut start = state.clone();
+            start[at::K..at::K + 4].copy_from_slice(&(held + u32::from(room)).to_le_bytes());
+            taken.push((start, step));
+        }
+        assert_eq!(plain::step(&mut state, step), 0);
+    }
+    taken
+}
+
+/// Takes the steps that each evict an item, or those that find room, once.
+fn take_evictions(room: bool, held: u32, calls: Calls) {
+    let step = black_box(calls).step;
+    let all = evictions(held, room);
+    for (start, numbers) in &all {
+        let mut state = start.clone();
+        assert_eq!(step(&mut state, *numbers), 0);
+        let evicted = get32(&state, at::EVICTIONS) - get32(start, at::EVICTIONS);
+        assert_eq!(evicted, u32::from(!room));
+    }
+    println!("{}", all.len());
+}
+
 /// Takes the steps of one log, once. What is outside the calls of step is not to be counted.
 pub fn take(kind: &str, n: u32, which: &str) {
-    let (_, kind, rule) = KINDS
-        .into_iter()
-        .find(|(name, _, _)| *name == kind)
-        .expect("hit, miss, miss-load-first, refused or change");
     let calls = match which {
         "library" => LIBRARY,
         "plain" => PLAIN,
         _ => panic!("library or plain"),
     };
+    if let "evict" | "room" = kind {
+        take_evictions(kind == "room", n, calls);
+        return;
+    }
+    let (_, kind, rule) = KINDS
+        .into_iter()
+        .find(|(name, _, _)| *name == kind)
+        .expect("hit, miss, miss-load-first, refused, change, evict or room");
     let log = log(kind, rule, n);
     run(calls, &log, &mut Vec::new());
     println!("{}", log.steps.len());

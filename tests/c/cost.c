@@ -13,7 +13,7 @@
 #include <string.h>
 
 #define MANY 1000 /* steps of a row of hits or misses */
-#define WORST 32  /* steps of the row of the worst */
+#define WORST 32  /* steps of a row of the worst */
 #define LOG 2847  /* steps of a log that always has a text */
 
 static uint8_t state[RECORDER_STATE_BYTES], catalog[RECORDER_CATALOG_BYTES];
@@ -152,28 +152,39 @@ static void rows_of(uint32_t n)
     row_end("recorder_step, refused, all have left", n, 1);
 }
 
-/* 255 items of one block are held, with any credits; then one of 16 blocks is asked for, and 16 of them go. */
-static void worst(void)
+/*
+ * 255 items of one block are held, all dirty, with any costs; then one of 16 blocks is asked for, and 16 of them go. It comes in at the head
+ * of the heap, for its load costs nothing, and then goes to its end, for its write costs the most.
+ */
+static void worst_miss(void)
 {
-    static uint8_t held[RECORDER_STATE_BYTES];
     const uint32_t large = RECORDER_MAX_ITEMS - 1;
-    for (uint32_t i = 0; i < large; i++)
-        must(recorder_put_item(catalog, i, 1, RECORDER_MAX_COST, 0), true);
-    must(recorder_put_item(catalog, large, RECORDER_MAX_BLOCKS, RECORDER_MAX_COST, RECORDER_MAX_COST), true);
-    must(recorder_open(held, sizeof held, large, RECORDER_WRITE_FIRST, catalog, sizeof catalog), 0);
-    for (uint32_t i = 0; i < large; i++)
-        must(recorder_step(held, sizeof held, RECORDER_READ, i, 0, 0, 0, 0), 0);
     for (int j = 0; j < WORST; j++) {
-        memcpy(state, held, sizeof state);
-        for (uint32_t i = 0; i < large; i++) {
-            const size_t upper = RECORDER_AT_LOAD_CREDIT + 8 * i + 4; /* half of the number: with less there, it is less */
-            recorder_put_u32(state + upper, below(recorder_u32(held + upper)));
-        }
-        uint32_t evictions = recorder_u32(state + RECORDER_AT_EVICTIONS);
+        for (uint32_t i = 0; i < large; i++)
+            must(recorder_put_item(catalog, i, 1, 1 + below(RECORDER_MAX_COST), 1 + below(RECORDER_MAX_COST)), true);
+        must(recorder_put_item(catalog, large, RECORDER_MAX_BLOCKS, 0, RECORDER_MAX_COST), true);
+        must(recorder_open(state, sizeof state, large, RECORDER_WRITE_FIRST, catalog, sizeof catalog), 0);
+        for (uint32_t i = 0; i < large; i++)
+            must(step(RECORDER_WRITE, i, 60), 0);
         row_begin();
         must(step(RECORDER_WRITE, large, 60), 0);
         row_end("recorder_step, miss, 16 evictions", RECORDER_MAX_ITEMS, 1);
-        must(recorder_u32(state + RECORDER_AT_EVICTIONS) - evictions, 16);
+        must(recorder_u32(state + RECORDER_AT_EVICTIONS), 16);
+    }
+}
+
+/* 256 dirty items are written back, each of which has less left than the one before: so each goes to the head of the heap. */
+static void worst_flush(void)
+{
+    for (uint32_t i = 0; i < RECORDER_MAX_ITEMS; i++)
+        must(recorder_put_item(catalog, i, RECORDER_MAX_BLOCKS, RECORDER_MAX_COST - 250 * i, RECORDER_MAX_COST), true);
+    for (int j = 0; j < WORST; j++) {
+        must(recorder_open(state, sizeof state, RECORDER_MAX_K, j % 2 == 0 ? RECORDER_WRITE_FIRST : RECORDER_LOAD_FIRST, catalog, sizeof catalog), 0);
+        for (uint32_t i = 0, first = below(RECORDER_MAX_ITEMS); i < RECORDER_MAX_ITEMS; i++)
+            must(step(RECORDER_WRITE, (first + 101 * i) % RECORDER_MAX_ITEMS, 60), 0);
+        row_begin();
+        must(step(RECORDER_FLUSH, 0, 0), 0);
+        row_end("recorder_step, flush, at most", RECORDER_MAX_ITEMS, 1);
     }
 }
 
@@ -210,7 +221,8 @@ int main(void)
     rows_of(3);
     rows_of(30);
     rows_of(256);
-    worst();
+    worst_miss();
+    worst_flush();
     sentences();
     logs();
     return 0;

@@ -1,5 +1,7 @@
-//! The cache and the step rule (paper 01: the locker).
+//! The cache and the step rule (paper 01: the locker), with the held items in a heap (paper 02): one level rises with each eviction, and
+//! nobody else is touched.
 
+use crate::heap::Heap;
 use crate::{Deduction, Item, Step};
 
 /// One unit of cost in shares: the least common multiple of 1 to 16, so that credits divide by the blocks with nothing lost.
@@ -10,19 +12,22 @@ pub struct Cache {
     rule: Deduction,
     /// The catalogue of the opening, and behind it the items that have arrived.
     catalog: Vec<Item>,
-    /// The held items, from the lowest number on.
-    held: Vec<Held>,
-    /// Their blocks.
+    /// The credits of each item as last reckoned.
+    credits: Vec<Credits>,
+    /// The held items. The key less the level is what each block of an item has left of its credits.
+    heap: Heap,
+    level: u64,
+    /// The marks of the dirty items, of at most 256.
+    dirty: [u64; 4],
+    /// The blocks of the held items.
     used: u32,
     pub counts: Counts,
 }
 
-struct Held {
-    item: usize,
-    blocks: u64,
-    load_credit: u64,
-    write_credit: u64,
-    dirty: bool,
+#[derive(Clone, Copy, Default)]
+struct Credits {
+    load: u64,
+    write: u64,
 }
 
 /// What the report says of a cache.
@@ -51,7 +56,10 @@ impl Cache {
             k,
             rule,
             catalog: catalog.to_vec(),
-            held: Vec::with_capacity(catalog.len()),
+            credits: vec![Credits::default(); catalog.len()],
+            heap: Heap::of(catalog.len()),
+            level: 0,
+            dirty: [0; 4],
             used: 0,
             counts: Counts {
                 hits: 0,
@@ -69,24 +77,22 @@ impl Cache {
     /// Takes a step that the table of refusals lets through: the item of a read or write has at most `k` blocks, and so on.
     pub fn step(&mut self, step: Step) {
         match step {
-            Step::Read { item } => {
-                self.request(item);
-            }
+            Step::Read { item } => self.request(item, false),
             Step::Write { item, minutes } => {
-                let full = self.catalog[item].write * UNIT;
-                let held = self.request(item);
-                held.dirty = true;
-                held.write_credit = full;
+                self.request(item, true);
+                self.dirty[item / 64] |= 1 << (item % 64);
                 self.counts.items[item].minutes += minutes;
             }
             Step::Flush => self.flush(),
             Step::Arrive { listed, .. } => {
                 self.catalog.push(listed);
+                self.credits.push(Credits::default());
+                self.heap.grow();
                 self.counts.items.push(ItemCounts::default());
             }
             Step::Retire { item } => {
-                if let Ok(at) = self.find(item) {
-                    self.drop_held(at);
+                if self.heap.has(item) {
+                    self.drop_held(item);
                 }
             }
         }
@@ -98,30 +104,37 @@ impl Cache {
     }
 
     pub fn holds(&self, i: usize) -> bool {
-        self.find(i).is_ok()
+        self.heap.has(i)
     }
 
-    /// Where item `i` is held, or where it would be.
-    fn find(&self, i: usize) -> Result<usize, usize> {
-        self.held.binary_search_by_key(&i, |held| held.item)
+    fn is_dirty(&self, i: usize) -> bool {
+        self.dirty[i / 64] >> (i % 64) & 1 == 1
     }
 
-    /// A hit or a miss, and a full load credit in any case.
-    fn request(&mut self, i: usize) -> &mut Held {
-        let at = match self.find(i) {
-            Ok(at) => {
-                self.counts.hits += 1;
-                at
-            }
-            Err(_) => self.load(i),
+    /// A hit or a miss, and a full load credit in any case; for a write a full write credit too.
+    fn request(&mut self, i: usize, write: bool) {
+        let held = self.heap.has(i);
+        if held {
+            self.counts.hits += 1;
+        } else {
+            self.load(i);
+        }
+        let of_write = match (write, held) {
+            (true, _) => self.catalog[i].write * UNIT,
+            (false, true) => self.standing(i).write,
+            (false, false) => 0,
         };
-        let held = &mut self.held[at];
-        held.load_credit = self.catalog[i].load * UNIT;
-        held
+        let load = self.catalog[i].load * UNIT;
+        let key = self.reckon(i, load, of_write);
+        if held {
+            self.heap.set_key(i, key);
+        } else {
+            self.heap.insert(i, key);
+        }
     }
 
-    /// Brings in an item that is not held, clean and without credit, once there is room for it. Answers where it is held.
-    fn load(&mut self, i: usize) -> usize {
+    /// Pays for an item that is not held, once there is room for it.
+    fn load(&mut self, i: usize) {
         let Item { blocks, load, .. } = self.catalog[i];
         while self.used + blocks > self.k {
             self.evict();
@@ -130,68 +143,67 @@ impl Cache {
         self.counts.loads += 1;
         self.counts.load_cost += load;
         self.counts.items[i].loads += 1;
-        let (Ok(at) | Err(at)) = self.find(i);
-        let held = Held {
-            item: i,
-            blocks: blocks.into(),
-            load_credit: 0,
-            write_credit: 0,
-            dirty: false,
-        };
-        self.held.insert(at, held);
-        at
     }
 
-    /// Evicts the held item of least rank, of equal ones the first, and takes as much for each block from the others.
+    /// Evicts the first of the heap. The level rises to its key, which is what the others lose for each of their blocks.
     fn evict(&mut self) {
-        let ranks = self.held.iter().map(Held::rank).enumerate();
-        let (at, least) = ranks
-            .min_by_key(|&(_, rank)| rank)
+        let (key, item) = self
+            .heap
+            .first()
             .expect("the blocks in use are those of a held item");
-        self.drop_held(at);
-        for held in &mut self.held {
-            held.charge(least, self.rule);
-        }
+        self.drop_held(item);
+        self.level = key;
     }
 
     /// Drops a held item: a dirty one pays, and the others are not charged.
-    fn drop_held(&mut self, at: usize) {
-        let gone = self.held.remove(at);
-        let Item { blocks, write, .. } = self.catalog[gone.item];
+    fn drop_held(&mut self, i: usize) {
+        self.heap.remove(i);
+        let Item { blocks, write, .. } = self.catalog[i];
         self.used -= blocks;
         self.counts.evictions += 1;
-        if gone.dirty {
+        if self.is_dirty(i) {
+            self.dirty[i / 64] &= !(1 << (i % 64));
             self.counts.dirty_evictions += 1;
-            self.counts.write_back(gone.item, write);
+            self.counts.write_back(i, write);
         }
     }
 
+    /// What is dirty is written back, and reckoned anew without write credit. Nothing would change for a clean item.
     fn flush(&mut self) {
-        for held in self.held.iter_mut().filter(|held| held.dirty) {
-            held.dirty = false;
-            held.write_credit = 0;
-            let cost = self.catalog[held.item].write;
-            self.counts.write_back(held.item, cost);
+        for w in 0..4 {
+            let mut word = std::mem::take(&mut self.dirty[w]);
+            while word != 0 {
+                let i = 64 * w + word.trailing_zeros() as usize;
+                word &= word - 1;
+                self.counts.write_back(i, self.catalog[i].write);
+                let key = self.reckon(i, self.standing(i).load, 0);
+                self.heap.set_key(i, key);
+            }
         }
     }
-}
 
-impl Held {
-    /// The credits a block. They are multiples of the blocks, so nothing is rounded.
-    fn rank(&self) -> u64 {
-        (self.load_credit + self.write_credit) / self.blocks
+    /// The credits of a held item that stand: as last reckoned, less what it has lost since, from one first and from the other what is
+    /// lacking.
+    fn standing(&self, i: usize) -> Credits {
+        let Credits { load, write } = self.credits[i];
+        let has = u64::from(self.catalog[i].blocks) * (self.heap.key(i) - self.level);
+        match self.rule {
+            Deduction::WriteFirst => Credits {
+                load: load.min(has),
+                write: has - load.min(has),
+            },
+            Deduction::LoadFirst => Credits {
+                load: has - write.min(has),
+                write: write.min(has),
+            },
+        }
     }
 
-    /// Takes so much for each block: from one credit first, and from the other what is lacking.
-    fn charge(&mut self, rank: u64, rule: Deduction) {
-        let (first, second) = match rule {
-            Deduction::WriteFirst => (&mut self.write_credit, &mut self.load_credit),
-            Deduction::LoadFirst => (&mut self.load_credit, &mut self.write_credit),
-        };
-        let loss = self.blocks * rank;
-        let from_first = loss.min(*first);
-        *first -= from_first;
-        *second -= loss - from_first;
+    /// Notes an item's credits and answers its key: their sum a block, above the level. They are multiples of the blocks, so nothing is
+    /// rounded.
+    fn reckon(&mut self, i: usize, load: u64, write: u64) -> u64 {
+        self.credits[i] = Credits { load, write };
+        self.level + (load + write) / u64::from(self.catalog[i].blocks)
     }
 }
 

@@ -3,6 +3,7 @@
 //! no step tests the whole state as the library's calls do, since nobody else can have written to it.
 
 pub mod cache;
+mod heap;
 pub mod log;
 mod plan;
 pub mod report;

@@ -1,10 +1,11 @@
 //! Changes of a valid state: a byte, a field at and past its limits, two fields, and several fields that go together, so that the
 //! state stays valid or breaks one sentence of the rule only.
 
-use bench::plain::{UNIT, at};
+use bench::plain::{MOST_RISE, UNIT, at};
 use bench::random::Random;
 
 use crate::layout::{FIELDS, field_of, get, put};
+use crate::queues::{mended, queue, worth};
 use crate::rule::State;
 
 /// A number of some bytes put at a place.
@@ -20,6 +21,11 @@ impl Put {
         put(s, self.at, self.width, self.value);
     }
 
+    /// Whether these bytes are others by it.
+    pub fn changes(&self, s: &[u8]) -> bool {
+        get(s, self.at, self.width) != self.value
+    }
+
     pub fn tell(&self) -> String {
         let Put { at, width, value } = self;
         format!(
@@ -30,13 +36,13 @@ impl Put {
 }
 
 /// Puts a number at a place.
-fn set(at: usize, width: usize, value: u64) -> Put {
+pub fn set(at: usize, width: usize, value: u64) -> Put {
     let value = value & u64::MAX >> (64 - 8 * width);
     Put { at, width, value }
 }
 
 /// Adds to the number at a place, modulo the field's size.
-fn add(s: &[u8], at: usize, width: usize, more: i64) -> Put {
+pub fn add(s: &[u8], at: usize, width: usize, more: i64) -> Put {
     set(at, width, get(s, at, width).wrapping_add_signed(more))
 }
 
@@ -45,8 +51,9 @@ pub fn byte(r: &mut Random, s: &[u8]) -> Put {
     let any = r.below(s.len() as u64) as usize;
     let head = r.below(at::LOAD_CREDIT as u64) as usize;
     let rule = at::RULE + r.below(4) as usize;
-    let behind = at::LEFT + r.below((s.len() - at::LEFT) as u64) as usize;
-    let place = r.pick(&[any, any, any, head, head, rule, behind]);
+    let behind = at::LEFT + r.below((at::KEYS - at::LEFT) as u64) as usize;
+    let heap = at::HEAP + r.below((s.len() - at::HEAP) as u64) as usize;
+    let place = r.pick(&[any, any, any, head, head, rule, behind, heap]);
     let old = u64::from(s[place]);
     let bit = 1 << r.below(8);
     let any = r.next();
@@ -91,7 +98,7 @@ fn limits(state: &State, field: usize, entry: usize) -> Vec<u64> {
     let rest = |total: u64, own: u64| total.wrapping_sub(own);
     let others = state.arrivals + state.retirements;
     match FIELDS[field].at {
-        at::FORMAT => vec![4],
+        at::FORMAT => vec![5],
         at::K => vec![1, 4096, state.held_blocks()],
         at::N => vec![256, state.n],
         at::CLOSED => vec![1, 256],
@@ -128,6 +135,11 @@ fn limits(state: &State, field: usize, entry: usize) -> Vec<u64> {
             state.hits + state.loads + state.flushes + state.retirements,
         )],
         at::RETIREMENTS => vec![state.left()],
+        at::USED => vec![state.held_blocks(), state.k],
+        at::LEVEL => vec![state.evictions * MOST_RISE, it.key],
+        at::KEYS => vec![state.level, state.level + worth(it)],
+        at::HEAP => vec![state.n, entry as u64],
+        at::PLACES => vec![it.place, state.held()],
         _ => vec![1, 255],
     }
 }
@@ -211,7 +223,9 @@ fn resize(s: &[u8], state: &State, shorter: bool) -> Vec<Put> {
         return vec![set(at::N, 2, u64::MAX)];
     };
     let mut puts = vec![set(at::N, 2, last as u64)];
-    for f in FIELDS.iter().filter(|f| f.entries == 256) {
+    // The heap has no entry of an item: it is mended.
+    let of_items = |at: usize| at != at::HEAP;
+    for f in FIELDS.iter().filter(|f| f.entries == 256 && of_items(f.at)) {
         puts.push(set(f.at + f.width * last, f.width, 0));
     }
     if state.places[last].left {
@@ -284,7 +298,9 @@ fn at_limits(r: &mut Random, s: &[u8], state: &State, i: usize) -> Vec<Put> {
 fn item(r: &mut Random, s: &[u8], state: &State, i: usize) -> Vec<Put> {
     let it = &state.places[i];
     let cost = r.below(65_536);
-    match r.below(9) {
+    match r.below(11) {
+        9 => vec![add(s, at::LOAD_CREDIT + 8 * i, 8, r.pick(&[-1, 1, -2]))],
+        10 => vec![add(s, at::WRITE_CREDIT + 8 * i, 8, r.pick(&[-1, 1, -2]))],
         8 => toggle_left(s, state, i),
         0 => toggle_held(s, state, i),
         1 => toggle_dirty(s, i),
@@ -311,13 +327,18 @@ fn item(r: &mut Random, s: &[u8], state: &State, i: usize) -> Vec<Put> {
     }
 }
 
-/// Several fields that go together; or the other rule, which goes with everything else.
+/// Several fields that go together, mostly with the queue that goes with them; or the other rule, which goes with everything else.
 pub fn together(r: &mut Random, s: &[u8], state: &State) -> Vec<Put> {
     let [i, j] = [some_entry(r, state), some_entry(r, state)];
-    match r.below(12) {
+    match r.below(18) {
         0..=3 => figures(r, s, [i, j]),
         4 | 5 => at_limits(r, s, state, i),
         6 => vec![set(at::RULE, 4, state.rule ^ 1)],
-        _ => item(r, s, state, i),
+        7..=12 => queue(r, s, state, i),
+        13 => item(r, s, state, i),
+        _ => {
+            let puts = item(r, s, state, i);
+            mended(r, s, puts)
+        }
     }
 }

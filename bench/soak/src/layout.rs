@@ -18,7 +18,7 @@ const fn field(name: &'static str, at: usize, width: usize, entries: usize) -> F
     }
 }
 
-pub const FIELDS: [Field; 27] = [
+pub const FIELDS: [Field; 32] = [
     field("the number of the layout", at::FORMAT, 4, 1),
     field("k", at::K, 4, 1),
     field("n", at::N, 2, 1),
@@ -46,6 +46,11 @@ pub const FIELDS: [Field; 27] = [
     field("left", at::LEFT, 8, 4),
     field("arrivals", at::ARRIVALS, 4, 1),
     field("retirements", at::RETIREMENTS, 4, 1),
+    field("used", at::USED, 4, 1),
+    field("level", at::LEVEL, 8, 1),
+    field("keys", at::KEYS, 8, 256),
+    field("heap", at::HEAP, 1, 256),
+    field("places", at::PLACES, 1, 256),
 ];
 
 /// The fields lie end to end, so that no byte is without one.

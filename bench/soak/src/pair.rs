@@ -1,6 +1,7 @@
-//! One state for the library and one for the plain Rust, always with the same bytes: every call is made on both, and the
-//! answers and all bytes are compared.
+//! One state for the library and one for the plain Rust, always with the same bytes but for the arrangement of the heap: every call is made
+//! on both, and the answers and all other bytes are compared. The arrangement of each is tested by what is said of one.
 
+use bench::arrangement::{fault, same_apart};
 use bench::calls::{self, Calls, LIBRARY};
 use bench::plain::{self, Numbers};
 use bench::random::Random;
@@ -84,7 +85,9 @@ impl Lent {
 pub struct Pair {
     library: Lent,
     plain: Vec<u8>,
-    before: Vec<u8>,
+    /// The states of both before the call.
+    library_before: Vec<u8>,
+    plain_before: Vec<u8>,
 }
 
 impl Pair {
@@ -92,7 +95,8 @@ impl Pair {
         Pair {
             library: Lent::of(bytes, r.below(16) as usize),
             plain: bytes.to_vec(),
-            before: bytes.to_vec(),
+            library_before: bytes.to_vec(),
+            plain_before: bytes.to_vec(),
         }
     }
 
@@ -106,19 +110,40 @@ impl Pair {
         self.library.bytes_mut().copy_from_slice(bytes);
     }
 
+    fn note_before(&mut self) {
+        self.plain_before.copy_from_slice(&self.plain);
+        self.library_before.copy_from_slice(self.library.bytes());
+    }
+
+    /// Whether no byte of either has changed.
+    fn both_kept(&self) -> bool {
+        self.plain == self.plain_before && self.library.bytes() == self.library_before
+    }
+
+    /// What is wrong with the heap of one of the two.
+    fn heap_fault(&self) -> Option<String> {
+        let library = fault(self.library.bytes()).map(|what| format!("of the library: {what}"));
+        library.or_else(|| fault(&self.plain).map(|what| format!("of the plain Rust: {what}")))
+    }
+
     /// Makes a call on both.
     pub fn make(&mut self, run: &mut Run, call: Call) -> u32 {
-        self.before.copy_from_slice(&self.plain);
+        self.note_before();
         let library = call.make(LIBRARY, self.library.bytes_mut());
         let plain = call.make(PLAIN, &mut self.plain);
         run.calls += 1;
-        if library != plain || self.library.bytes() != self.plain {
+        if library != plain || !same_apart(self.library.bytes(), &self.plain) {
             let what = format!("{call:?}: the library answers {library}, plain Rust {plain}");
             run.differ(&what, &self.details());
         }
-        if plain != 0 && self.plain != self.before {
+        if plain != 0 && !self.both_kept() {
             let what = format!("{call:?}: refused ({plain}), and yet a byte has changed");
             run.differ(&what, &self.details());
+        }
+        if plain == 0
+            && let Some(fault) = self.heap_fault()
+        {
+            run.differ(&format!("{call:?}: the heap {fault}"), &self.details());
         }
         if !self.library.guards_kept() {
             let what = format!("{call:?}: a byte outside the state has changed");
@@ -139,7 +164,7 @@ impl Pair {
             .bytes()
             .iter()
             .zip(&self.plain)
-            .zip(&self.before);
+            .zip(&self.library_before);
         let mut lines: Vec<String> = bytes
             .enumerate()
             .filter(|(_, ((library, plain), _))| library != plain)
@@ -151,7 +176,7 @@ impl Pair {
         let more = lines.len().saturating_sub(40);
         lines.truncate(40);
         lines.push(format!("{more} more bytes differ"));
-        let file = kept("soak-difference.state", &self.before);
+        let file = kept("soak-difference.state", &self.library_before);
         lines.push(format!("the state before the call: {file}"));
         lines
     }
@@ -162,7 +187,7 @@ impl Pair {
         let mut page: Vec<u8> = (0..page_len).map(byte).collect();
         let mut lent = Lent::of(&page, page_len % 8);
         let (mut length, mut told) = (UNTOLD, UNTOLD);
-        self.before.copy_from_slice(&self.plain);
+        self.note_before();
         let library = (LIBRARY.report)(self.library.bytes(), lent.bytes_mut(), &mut told);
         let plain = (PLAIN.report)(&self.plain, &mut page, &mut length);
         run.calls += 1;
@@ -178,7 +203,7 @@ impl Pair {
             run.differ(&what, &[self.details(), pages].concat());
         }
         let written = if plain == 0 { length } else { 0 };
-        let state_kept = self.library.bytes() == self.plain && self.plain == self.before;
+        let state_kept = self.both_kept();
         let page_kept = (written..page_len).all(|i| page[i] == byte(i));
         let length_kept = plain == 0 || length == UNTOLD;
         let guards_kept = lent.guards_kept() && self.library.guards_kept();

@@ -9,6 +9,7 @@ use crate::cheapest::Problem;
 use crate::layout::get;
 use crate::pair::{Call, Pair};
 use crate::program::{Program, figures, number};
+use crate::rule::State;
 use crate::run::Run;
 use crate::texts::{Present, Season, arguments, requested, some_plan, some_steps};
 
@@ -153,7 +154,7 @@ fn paid(run: &mut Run, r: &mut Random, season: &Season) -> Paid {
     let s = pair.state();
     Paid {
         total: get(s, at::LOAD_COST, 8) + get(s, at::WRITE_COST, 8),
-        load_credits: (0..256).map(|i| get(s, at::LOAD_CREDIT + 8 * i, 8)).sum(),
+        load_credits: State::of(s).load_credits(),
         dirty_evictions: get(s, at::DIRTY_EVICTIONS, 4),
     }
 }

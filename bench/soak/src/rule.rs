@@ -2,10 +2,15 @@
 //! but the words. It says which sentences a state breaks.
 
 use bench::plain::at;
+use plain_season::Deduction;
 
 use crate::layout::get;
+use crate::queue::standing;
 
 const UNIT: u64 = 720_720;
+
+/// The most that the level rises at an eviction: "drops × 131,070 × 720,720".
+const MOST_RISE: u128 = 131_070 * UNIT as u128;
 
 /// What a state says of an item (paper 01: a sail).
 pub struct Item {
@@ -20,6 +25,9 @@ pub struct Item {
     pub loads: u64,
     pub writebacks: u64,
     pub left: bool,
+    pub key: u64,
+    /// Where it stands in the heap.
+    pub place: u64,
 }
 
 /// The numbers of a state.
@@ -40,8 +48,12 @@ pub struct State {
     pub rule: u64,
     pub arrivals: u64,
     pub retirements: u64,
+    pub used: u64,
+    pub level: u64,
     /// All 256 places.
     pub places: Vec<Item>,
+    /// All 256 bytes of the heap, of which as many are in use as items are held.
+    pub heap: Vec<u8>,
 }
 
 /// The mark of an item, among 256 from a place on.
@@ -62,6 +74,8 @@ fn place(s: &[u8], i: usize) -> Item {
         loads: get(s, at::ITEM_LOADS + 4 * i, 4),
         writebacks: get(s, at::ITEM_WRITEBACKS + 4 * i, 4),
         left: mark(s, at::LEFT, i),
+        key: get(s, at::KEYS + 8 * i, 8),
+        place: get(s, at::PLACES + i, 1),
     }
 }
 
@@ -84,8 +98,59 @@ impl State {
             rule: get(s, at::RULE, 4),
             arrivals: get(s, at::ARRIVALS, 4),
             retirements: get(s, at::RETIREMENTS, 4),
+            used: get(s, at::USED, 4),
+            level: get(s, at::LEVEL, 8),
             places: (0..256).map(|i| place(s, i)).collect(),
+            heap: s[at::HEAP..at::HEAP + 256].to_vec(),
         }
+    }
+
+    /// The items in the heap, by their places.
+    pub fn in_heap(&self) -> &[u8] {
+        &self.heap[..self.held() as usize]
+    }
+
+    /// What the order of the heap goes by: key, then number.
+    fn order(&self, item: u8) -> (u64, u8) {
+        (self.places[usize::from(item)].key, item)
+    }
+
+    /// Whether no item goes before the one above it.
+    fn in_order(&self) -> bool {
+        let heap = self.in_heap();
+        (1..heap.len()).all(|j| self.order(heap[(j - 1) / 2]) <= self.order(heap[j]))
+    }
+
+    fn none_twice(&self) -> bool {
+        let mut seen = [false; 256];
+        let mut again = |&item: &u8| std::mem::replace(&mut seen[usize::from(item)], true);
+        !self.in_heap().iter().any(&mut again)
+    }
+
+    /// Whether the heap has no item that is not held, of those in the catalog or of those past it.
+    fn none_strange(&self, past: bool) -> bool {
+        let heap = self.in_heap().iter().map(|&item| usize::from(item));
+        let mut these = heap.filter(|&i| (i as u64 >= self.n) == past);
+        these.all(|i| self.places[i].held == 1)
+    }
+
+    /// Whether each held item that is in the heap stands where its place says. That each is there follows where none is twice and none
+    /// strange, for as many are in the heap as are held.
+    fn places_right(&self) -> bool {
+        let heap = self.in_heap();
+        heap.iter().all(|&item| {
+            let it = &self.places[usize::from(item)];
+            it.held != 1 || heap.get(it.place as usize) == Some(&item)
+        })
+    }
+
+    /// The load credits that stand, of a valid state.
+    pub fn load_credits(&self) -> u64 {
+        let rule = Deduction::ALL[self.rule as usize];
+        let held = self.places.iter().filter(|it| it.held == 1);
+        let stored = |it: &Item| [it.load_credit, it.write_credit];
+        held.map(|it| standing(rule, self.level, it.key, it.blocks, stored(it))[0])
+            .sum()
     }
 
     /// The items of the catalog.
@@ -118,6 +183,13 @@ impl State {
         held.map(|it| it.blocks).sum()
     }
 
+    /// Whether an item's key is no more than what its credits are worth above the level: its loss is not below 0.
+    fn no_gain(&self, it: &Item) -> bool {
+        let worth =
+            (u128::from(it.load_credit) + u128::from(it.write_credit)) / u128::from(it.blocks);
+        u128::from(it.key) <= u128::from(self.level) + worth
+    }
+
     fn every(&self, holds: fn(&Item) -> bool) -> bool {
         self.items().iter().all(holds)
     }
@@ -135,7 +207,7 @@ impl State {
 type Sentence = (&'static str, fn(&State) -> bool);
 
 /// Sentences that speak of places and items.
-const OF_PLACES: [Sentence; 17] = [
+const OF_PLACES: [Sentence; 23] = [
     ("held is 0 or 1", |s| s.places.iter().all(|it| it.held <= 1)),
     ("past n: not held", |s| s.every_past(|it| it.held != 1)),
     ("past n: clean", |s| s.every_past(|it| !it.dirty)),
@@ -177,11 +249,43 @@ const OF_PLACES: [Sentence; 17] = [
     ("write credit: at most write × 720,720", |s| {
         s.every(|it| it.held == 0 || it.write_credit <= it.write * UNIT)
     }),
+    ("past n: no key", |s| s.every_past(|it| it.key == 0)),
+    ("past n: place 0", |s| s.every_past(|it| it.place == 0)),
+    ("not held: no key", |s| {
+        s.every(|it| it.held > 0 || it.key == 0)
+    }),
+    ("not held: place 0", |s| {
+        s.every(|it| it.held > 0 || it.place == 0)
+    }),
+    ("key: at least the level", |s| {
+        s.items().iter().all(|it| it.held == 0 || s.level <= it.key)
+    }),
+    ("key: no loss below 0", |s| {
+        s.items()
+            .iter()
+            .all(|it| it.held == 0 || it.blocks == 0 || s.no_gain(it))
+    }),
+];
+
+/// Sentences that speak of the queue: blocks in use, level, and heap.
+const OF_THE_QUEUE: [Sentence; 8] = [
+    ("used = held blocks", |s| s.used == s.held_blocks()),
+    ("level: at most evictions × 131,070 × 720,720", |s| {
+        u128::from(s.level) <= u128::from(s.evictions) * MOST_RISE
+    }),
+    ("heap: 0 behind the held items", |s| {
+        s.heap[s.in_heap().len()..].iter().all(|&byte| byte == 0)
+    }),
+    ("heap: no item twice", State::none_twice),
+    ("heap: no item that is not held", |s| s.none_strange(false)),
+    ("heap: no item past n", |s| s.none_strange(true)),
+    ("heap: in order of key, then number", State::in_order),
+    ("places: where the held items stand", State::places_right),
 ];
 
 /// Sentences that speak of the state as a whole.
 const OF_THE_WHOLE: [Sentence; 19] = [
-    ("the number of the layout is 4", |s| s.format == 4),
+    ("the number of the layout is 5", |s| s.format == 5),
     ("the rule is 0 or 1", |s| s.rule <= 1),
     ("closed is 0 or 1", |s| s.closed <= 1),
     ("k is 1 to 4,096", |s| (1..=4096).contains(&s.k)),
@@ -223,10 +327,13 @@ const OF_THE_WHOLE: [Sentence; 19] = [
     ("closed: nothing dirty", |s| s.closed == 0 || s.dirty() == 0),
 ];
 
-pub const SENTENCES: usize = OF_PLACES.len() + OF_THE_WHOLE.len();
+pub const SENTENCES: usize = OF_PLACES.len() + OF_THE_WHOLE.len() + OF_THE_QUEUE.len();
 
 fn sentences() -> impl Iterator<Item = Sentence> {
-    OF_THE_WHOLE.into_iter().chain(OF_PLACES)
+    OF_THE_WHOLE
+        .into_iter()
+        .chain(OF_PLACES)
+        .chain(OF_THE_QUEUE)
 }
 
 pub fn names() -> Vec<&'static str> {

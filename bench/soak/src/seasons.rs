@@ -1,16 +1,20 @@
 //! Random seasons through the exported calls. Beside the plain calls on the same bytes goes a model that has no bytes: the
-//! table of refusals over the arguments, and the step rule of the plain program `season`.
+//! table of refusals over the arguments, and the step rule three times: as paper 01 has it, in the queue's form, and as the plain program
+//! `season` has it. Behind every call that is taken the bytes stand for the credits of the first, and have the level, the keys and the credits of the second.
 
 use bench::plain::{
     ARRIVE, CLOSED, FLUSH, INVALID_STATE, ITEM_TOO_LARGE, LOG_FULL, MAX_STEPS, NOT_NEXT_NUMBER,
     Numbers, OUT_OF_RANGE, READ, RETIRE, RETIRED_ITEM, SHORT_PAGE, STATE_BYTES, TAKEN,
-    UNKNOWN_ITEM, UNKNOWN_RULE, WRITE, of_three,
+    UNKNOWN_ITEM, UNKNOWN_RULE, WRITE, at, of_three,
 };
 use bench::random::{Random, catalog, odd_rule, some_k, some_n, some_rule};
-use plain_season::cache::Cache;
+use plain_season::cache::{Cache, Counts};
 use plain_season::{Deduction, Item, Step, report};
 
+use crate::layout::get;
+use crate::locker::Locker;
 use crate::pair::{Call, Pair};
+use crate::queue::{Keyed, Queue, standing};
 use crate::run::Run;
 
 /// The longest report there can be (RECORDER_REPORT_BYTES).
@@ -19,21 +23,27 @@ pub const LONGEST_REPORT: usize = 7_931;
 /// The season that follows from an accepted opening and the calls alone.
 pub struct Model {
     k: u32,
+    rule: Deduction,
     /// The items of the opening and those that have arrived, each with whether it has left.
     items: Vec<(Item, bool)>,
     steps: u32,
     closed: bool,
     cache: Cache,
+    locker: Locker,
+    queue: Queue,
 }
 
 impl Model {
     pub fn open(k: u32, rule: Deduction, catalog: &[Item]) -> Model {
         Model {
             k,
+            rule,
             items: catalog.iter().map(|&item| (item, false)).collect(),
             steps: 0,
             closed: false,
             cache: Cache::open(k, rule, catalog),
+            locker: Locker::open(k, rule, catalog),
+            queue: Queue::open(k, rule, catalog),
         }
     }
 
@@ -82,13 +92,16 @@ impl Model {
                 write: write.into(),
             };
             self.steps += 1;
-            self.cache.step(match kind {
+            let step = match kind {
                 READ => Step::Read { item },
                 WRITE => Step::Write { item, minutes },
                 ARRIVE => Step::Arrive { item, listed },
                 RETIRE => Step::Retire { item },
                 _ => Step::Flush,
-            });
+            };
+            self.cache.step(step);
+            self.locker.step(step);
+            self.queue.step(step);
             match kind {
                 ARRIVE => self.items.push((listed, false)),
                 RETIRE => self.items[item].1 = true,
@@ -104,11 +117,93 @@ impl Model {
         }
         self.closed = true;
         self.cache.close();
+        self.locker.land();
+        self.queue.land();
         TAKEN
     }
 
     pub fn report(&self) -> String {
-        report::alone(&self.cache.counts)
+        report::alone(&self.locker.counts)
+    }
+
+    /// What the bytes of a state say otherwise than the rule, or one form of the rule otherwise than another.
+    fn differs(&mut self, s: &[u8]) -> Option<String> {
+        let drops = std::mem::take(&mut self.locker.drops);
+        let first = std::mem::take(&mut self.queue.drops);
+        if drops != first {
+            return Some(format!("the rule drops {drops:?}, the queue {first:?}"));
+        }
+        let figures = self.figures().into_iter();
+        let mut read = figures.map(|(name, at, width, due)| (name, get(s, at, width), due));
+        if let Some((name, bytes, due)) = read.find(|(_, bytes, due)| bytes != due) {
+            return Some(format!("{name}: {bytes} in the bytes, {due} by the rule"));
+        }
+        (0..self.items.len()).find_map(|i| self.item_differs(s, i))
+    }
+
+    /// Figures of the rule, and of the queue the level, each with its place and width in the bytes.
+    fn figures(&self) -> [(&'static str, usize, usize, u64); 10] {
+        let Counts {
+            hits,
+            loads,
+            evictions,
+            dirty_evictions,
+            writebacks,
+            load_cost,
+            write_cost,
+            ..
+        } = self.locker.counts;
+        let used = self.locker.held_blocks();
+        [
+            ("steps", at::STEPS, 4, self.steps.into()),
+            ("hits", at::HITS, 4, hits.into()),
+            ("loads", at::LOADS, 4, loads.into()),
+            ("evictions", at::EVICTIONS, 4, evictions.into()),
+            (
+                "dirtyevictions",
+                at::DIRTY_EVICTIONS,
+                4,
+                dirty_evictions.into(),
+            ),
+            ("writebacks", at::WRITEBACKS, 4, writebacks.into()),
+            ("loadcost", at::LOAD_COST, 8, load_cost),
+            ("writecost", at::WRITE_COST, 8, write_cost),
+            ("used", at::USED, 4, used.into()),
+            ("level", at::LEVEL, 8, self.queue.level),
+        ]
+    }
+
+    /// The same of an item: its marks, its credits and key as last reckoned, and its credits as they stand.
+    fn item_differs(&self, s: &[u8], i: usize) -> Option<String> {
+        let [load, write, key] =
+            [at::LOAD_CREDIT, at::WRITE_CREDIT, at::KEYS].map(|at| get(s, at + 8 * i, 8));
+        let held = s[at::HELD + i] == 1;
+        let dirty = s[at::DIRTY + i / 8] >> (i % 8) & 1 == 1;
+        let Keyed { place, key: due } = self.queue.places[i];
+        let bytes = (held, dirty, [load, write, key]);
+        let queue = (
+            place.held,
+            place.dirty,
+            [place.load_credit, place.write_credit, due],
+        );
+        if bytes != queue {
+            let what = format!("item {i}: {bytes:?} in the bytes, {queue:?} by the queue");
+            return Some(what);
+        }
+        let rule = self.locker.places[i];
+        let (level, blocks) = (get(s, at::LEVEL, 8), rule.item.blocks.into());
+        let now = match held {
+            true => standing(self.rule, level, key, blocks, [load, write]),
+            false => [0; 2],
+        };
+        let plain = [rule.load_credit, rule.write_credit];
+        (now != plain || held != rule.held || dirty != rule.dirty)
+            .then(|| format!("item {i}: the bytes stand for {now:?}, the rule has {plain:?}"))
+    }
+
+    /// The plain program's form of the rule has come to the same.
+    fn cache_agrees(&self) -> bool {
+        report::alone(&self.cache.counts) == self.report()
     }
 }
 
@@ -282,10 +377,16 @@ fn season(run: &mut Run, r: &mut Random, pair: &mut Pair, full: bool) {
         left = left.saturating_sub(1);
         if !full && r.one_in(120) {
             agree(pair.make(run, Call::Close), model.close(), run);
+            stands(run, pair, &mut model);
             left = left.min(8);
         }
         let arguments = arguments(r, model.count());
-        agree(pair.step(run, arguments), model.step(arguments), run);
+        let answer = pair.step(run, arguments);
+        agree(answer, model.step(arguments), run);
+        // A refused step has left every byte as it was.
+        if answer == TAKEN {
+            stands(run, pair, &mut model);
+        }
         if !full && r.one_in(200) {
             reports(run, r, pair, &model);
             refused_opening(run, r, pair);
@@ -296,8 +397,16 @@ fn season(run: &mut Run, r: &mut Random, pair: &mut Pair, full: bool) {
         let arguments = arguments(r, model.count());
         agree(pair.step(run, arguments), model.step(arguments), run);
         agree(pair.make(run, Call::Close), model.close(), run);
+        stands(run, pair, &mut model);
     }
     reports(run, r, pair, &model);
+}
+
+/// The bytes have to say what the rule says, in each of its forms.
+fn stands(run: &Run, pair: &Pair, model: &mut Model) {
+    if let Some(what) = model.differs(pair.state()) {
+        run.differ(&what, &[]);
+    }
 }
 
 /// What both answer has to be what the model has.
@@ -310,6 +419,9 @@ fn agree(both: u32, model: u32, run: &Run) {
 
 /// The report on pages of just the right size, of a byte less, of one more, large ones and small ones.
 fn reports(run: &mut Run, r: &mut Random, pair: &mut Pair, model: &Model) {
+    if !model.cache_agrees() {
+        run.differ("the plain program has other counts than the rule", &[]);
+    }
     let text = model.report().into_bytes();
     let fits = text.len();
     let short = r.below(fits as u64) as usize;

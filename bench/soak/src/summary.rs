@@ -31,6 +31,9 @@ fn states(seen: &Seen) {
     for (i, name) in rule::names().iter().enumerate() {
         println!("{:>11} {:>12}  {name}", seen.alone[i], seen.with_others[i]);
     }
+    let (count, least) = (seen.alone.len(), seen.alone.iter().min());
+    let least = least.expect("there are sentences");
+    println!("each of these {count} sentences was broken alone at least {least} times");
 }
 
 fn worst(worst: &Worst) {

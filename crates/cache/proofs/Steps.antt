@@ -7,16 +7,15 @@ use mathlib.Core.List.{List}
 use Prim.Native.Nat.{ℕ, _≤_, _<_}
 use native.Mathlib.Omega.{arith}
 use lib.Dec.{ltb, eqb}
-use lib.ListN.{getD}
+use lib.ListN.{length, getD}
 use borrow.Author.Tests.{eqb-true, ltb-true, leb-true}
 use Rattle.types.specs.declared.Step.the-variants.{Read, Write, Flush, Arrive, Retire}
 use Rattle.types.specs.declared.Numbers.{Numbers}
 use Rattle.types.specs.Types.{stepOf}
 use Rattle.types.proofs.Steps.{step-read, step-write, step-arrive, step-retire}
 use Rattle.landlord.specs.Catalog.{itemAt, listed, itemInRange}
-use Rattle.landlord.specs.Slot.{splitOf}
-use Rattle.landlord.specs.Rule.{State, Moved, size, blocksAt, makeRoom, serveRead, serveWrite, step, joined}
-use Rattle.landlord.specs.Figures.{Standing, moved, took}
+use Rattle.landlord.specs.Slot.{Split, splitOf}
+use Rattle.landlord.specs.Rule.{makeRoom}
 use Rattle.landlord.specs.Steps.{isItemNumber, inRange}
 use Rattle.landlord.specs.Calls.{stepCall}
 use Rattle.landlord.specs.Inner.{ItemFacts}
@@ -24,10 +23,13 @@ use Rattle.landlord.proofs.Ranges.{item-facts}
 use Rattle.landlord.proofs.Steps.{free-range, passes}
 use Rattle.landlord.proofs.Calls.{open-log, open-step}
 use Rattle.landlord.proofs.Slots.{deduction-ok}
-use Rattle.landlord.proofs.Keeps.{make-room}
-use Rattle.landlord.proofs.Valid.{CanServe, room-ready, moved-joined}
-use Rattle.cache_state.specs.Cache.{Cache, catalogOf, view, Valid}
-use Rattle.cache_state.specs.InnerView.{stateOf}
+use Rattle.landlord.proofs.Valid.{CanServe, room-ready}
+use Rattle.queue.specs.Queue.{Queue, blocksOf}
+use Rattle.queue.specs.Machine.{LazyStanding, LazyOk, MovedIn, standing, joinedIn, movedIn, makeRoomIn, serveReadIn, serveWriteIn, stepIn, tookIn}
+use Rattle.queue.proofs.Losses.{deduction-adds}
+use Rattle.queue.proofs.Logs.{Alike, sound, room-alike, room-catalog, moved-ok, moved-stands, joined-moves}
+use Rattle.cache_state.specs.Cache.{Cache, catalogOf, lazy, view, Valid}
+use Rattle.cache_state.specs.InnerView.{stateOf, queueOf}
 use Rattle.cache_state.proofs.Views.{size-is, blocks-is}
 use Rattle.layout.specs.Layout.{cacheOf}
 use Rattle.layout.specs.Inner.{BecomesAt}
@@ -84,14 +86,14 @@ module _ (c : Cache) (n : Numbers) (free : answer c n ≡ 0) where
     free-values : ItemFacts (listed (n .blocks) (n .load) (n .write))
     free-values = item-facts _ (arrival-ranged .1)
 
-    free-arrive : took (view c) (Arrive (c .n) (n .blocks) (n .load) (n .write)) ≡ took (view c) (stepOf n)
-    free-arrive = ap (took (view c)) (ap (λ (i : ℕ). Arrive i (n .blocks) (n .load) (n .write)) (sym free-next) ∙ sym (step-arrive n e))
+    free-arrive : tookIn (lazy c) (Arrive (c .n) (n .blocks) (n .load) (n .write)) ≡ tookIn (lazy c) (stepOf n)
+    free-arrive = ap (tookIn (lazy c)) (ap (λ (i : ℕ). Arrive i (n .blocks) (n .load) (n .write)) (sym free-next) ∙ sym (step-arrive n e))
 
-  free-flush : n .kind ≡ 76 → took (view c) Flush ≡ took (view c) (stepOf n)
+  free-flush : n .kind ≡ 76 → tookIn (lazy c) Flush ≡ tookIn (lazy c) (stepOf n)
   free-flush e = unfold stepOf in rw e
 
-  free-retire : n .kind ≡ 81 → took (view c) (Retire (n .item)) ≡ took (view c) (stepOf n)
-  free-retire e = ap (took (view c)) (sym (step-retire n e))
+  free-retire : n .kind ≡ 81 → tookIn (lazy c) (Retire (n .item)) ≡ tookIn (lazy c) (stepOf n)
+  free-retire e = ap (tookIn (lazy c)) (sym (step-retire n e))
 
   -- the item of any other step is in the catalog
   free-known : n .kind ≢ 76 → n .kind ≢ 65 → n .item < c .n
@@ -124,41 +126,57 @@ module _ (c : Cache) (n : Numbers) (free : answer c n ≡ 0) where
 
     -- the room that was made: the item can be served there
     module _ (ok : Valid c) where
-      abbrev made : Moved
-      made = makeRoom (splitOf (c .rule)) (c .k) (n .item) (stateOf c)
+      abbrev made : MovedIn
+      made = makeRoomIn (c .k) (n .item) (queueOf c)
 
-      below : n .item < size (stateOf c)
+      below : n .item < length (catalogOf c)
       below = omega (arith, size-is c, free-known f a)
 
-      small : blocksAt (stateOf c) (n .item) ≤ c .k
+      small : blocksOf (queueOf c) (n .item) ≤ c .k
       small = subst (λ (z : ℕ). z ≤ c .k) (sym (blocks-is c (n .item) (free-known f a))) free-fits
 
-      free-ready : CanServe (moved (view c) made (c .closed)) (n .item)
+      alike : Alike (splitOf (c .rule)) (queueOf c) made (makeRoom (splitOf (c .rule)) (c .k) (n .item) (stateOf c))
+      alike =
+          room-alike (splitOf (c .rule)) (deduction-ok (c .rule)) (deduction-adds (c .rule)) (c .k) (n .item) (queueOf c) (sound (lazy c) (ok .lazy)) below small
+
+      free-lazy : LazyOk (movedIn (lazy c) made (c .closed))
+      free-lazy = moved-ok (lazy c) made (makeRoom (splitOf (c .rule)) (c .k) (n .item) (stateOf c)) (c .closed) (ok .lazy) alike
+
+      free-ready : CanServe (standing (movedIn (lazy c) made (c .closed))) (n .item)
       free-ready =
-          room-ready (splitOf (c .rule)) (view c) (n .item) (deduction-ok (c .rule)) (record { standing = ok .standing; few = free-ranged .few; isOpen = free-ranged .isOpen }) below small free-stays
+          rw (moved-stands (lazy c) made (makeRoom (splitOf (c .rule)) (c .k) (n .item) (stateOf c)) (c .closed) alike)
+          (room-ready (splitOf (c .rule)) (view c) (n .item) (deduction-ok (c .rule)) (record { standing = ok .standing; few = free-ranged .few; isOpen = free-ranged .isOpen }) below small free-stays)
 
-      module _ (room : Cache) (at : view room ≡ moved (view c) made (c .closed)) where
-        together : (b : State → Moved) → moved (view room) (b (stateOf room)) (room .closed) ≡ moved (view c) (joined made (b (made .state))) (c .closed)
+      module _ (room : Cache) (at : lazy room ≡ movedIn (lazy c) made (c .closed)) where
+        together : (b : Queue → MovedIn) → movedIn (lazy room) (b (queueOf room)) (room .closed) ≡ movedIn (lazy c) (joinedIn made (b (made .queue))) (c .closed)
         together b =
-            ap (λ (z : Standing). moved z (b (z .state)) (z .closed)) at
-            ∙ sym (moved-joined (view c) made (b (made .state)) (c .closed) (make-room (splitOf (c .rule)) (c .k) (n .item) (stateOf c) (deduction-ok (c .rule)) below small .catalog))
+            ap (λ (z : LazyStanding). movedIn z (b (z .queue)) (z .closed)) at
+            ∙ sym (joined-moves (lazy c) made (b (made .queue)) (c .closed) (room-catalog (splitOf (c .rule)) (deduction-ok (c .rule)) (deduction-adds (c .rule)) (c .k) (n .item) (queueOf c) (sound (lazy c) (ok .lazy)) below small))
 
-        read-taken : n .kind ≡ 82 → moved (view room) (serveRead (n .item) (stateOf room)) (room .closed) ≡ took (view c) (stepOf n)
-        read-taken e = together (serveRead (n .item)) ∙ one ∙ ap (took (view c)) (sym (step-read n e))
-          where
-            one : moved (view c) (joined made (serveRead (n .item) (made .state))) (c .closed) ≡ took (view c) (Read (n .item))
-            one = unfold took step in refl
+        -- the split is the cache's own
+        same-rule : splitOf (room .rule) ≡ splitOf (c .rule)
+        same-rule = ap (λ (z : LazyStanding). z .split) at
 
-        write-taken : n .kind ≢ 82 → moved (view room) (serveWrite (n .item) (n .minutes) (stateOf room)) (room .closed) ≡ took (view c) (stepOf n)
-        write-taken r = together (serveWrite (n .item) (n .minutes)) ∙ one ∙ ap (took (view c)) (sym (step-write n (free-write r)))
+        read-taken : n .kind ≡ 82 → movedIn (lazy room) (serveReadIn (splitOf (room .rule)) (n .item) (queueOf room)) (room .closed) ≡ tookIn (lazy c) (stepOf n)
+        read-taken e =
+            ap (λ (s : Split). movedIn (lazy room) (serveReadIn s (n .item) (queueOf room)) (room .closed)) same-rule
+            ∙ together (serveReadIn (splitOf (c .rule)) (n .item)) ∙ one ∙ ap (tookIn (lazy c)) (sym (step-read n e))
           where
-            one : moved (view c) (joined made (serveWrite (n .item) (n .minutes) (made .state))) (c .closed) ≡ took (view c) (Write (n .item) (n .minutes))
-            one = unfold took step in refl
+            one : movedIn (lazy c) (joinedIn made (serveReadIn (splitOf (c .rule)) (n .item) (made .queue))) (c .closed) ≡ tookIn (lazy c) (Read (n .item))
+            one = unfold tookIn stepIn in refl
+
+        write-taken : n .kind ≢ 82 → movedIn (lazy room) (serveWriteIn (splitOf (room .rule)) (n .item) (n .minutes) (queueOf room)) (room .closed) ≡ tookIn (lazy c) (stepOf n)
+        write-taken r =
+            ap (λ (s : Split). movedIn (lazy room) (serveWriteIn s (n .item) (n .minutes) (queueOf room)) (room .closed)) same-rule
+            ∙ together (serveWriteIn (splitOf (c .rule)) (n .item) (n .minutes)) ∙ one ∙ ap (tookIn (lazy c)) (sym (step-write n (free-write r)))
+          where
+            one : movedIn (lazy c) (joinedIn made (serveWriteIn (splitOf (c .rule)) (n .item) (n .minutes) (made .queue))) (c .closed) ≡ tookIn (lazy c) (Write (n .item) (n .minutes))
+            one = unfold tookIn stepIn in refl
 
 -- the same of the bytes of a state
 module _ (b : List ℕ) (n : Numbers) (p : TablePasses b n) where
-  so : {u v : Standing} {after : List ℕ} → u ≡ v → BecomesAt u after → BecomesAt v after
-  so {after = after} e h = subst (λ (z : Standing). BecomesAt z after) e h
+  so : {u v : LazyStanding} {after : List ℕ} → u ≡ v → BecomesAt u after → BecomesAt v after
+  so {after = after} e h = subst (λ (z : LazyStanding). BecomesAt z after) e h
 
   few : cacheOf b .steps < 1000000
   few = free-ranged (cacheOf b) n (p .free) .few
@@ -169,8 +187,8 @@ module _ (b : List ℕ) (n : Numbers) (p : TablePasses b n) where
   pub passed-flush :
       (after : List ℕ) →
       n .kind ≡ 76 →
-      BecomesAt (took (view (cacheOf b)) Flush) after →
-      BecomesAt (took (view (cacheOf b)) (stepOf n)) after
+      BecomesAt (tookIn (lazy (cacheOf b)) Flush) after →
+      BecomesAt (tookIn (lazy (cacheOf b)) (stepOf n)) after
   passed-flush after e h = so (free-flush (cacheOf b) n (p .free) e) h
 
   pub passed-values : n .kind ≡ 65 → ItemFacts (listed (n .blocks) (n .load) (n .write))
@@ -182,8 +200,8 @@ module _ (b : List ℕ) (n : Numbers) (p : TablePasses b n) where
   pub passed-arrived :
       (after : List ℕ) →
       n .kind ≡ 65 →
-      BecomesAt (took (view (cacheOf b)) (Arrive (cacheOf b .n) (n .blocks) (n .load) (n .write))) after →
-      BecomesAt (took (view (cacheOf b)) (stepOf n)) after
+      BecomesAt (tookIn (lazy (cacheOf b)) (Arrive (cacheOf b .n) (n .blocks) (n .load) (n .write))) after →
+      BecomesAt (tookIn (lazy (cacheOf b)) (stepOf n)) after
   passed-arrived after e h = so (free-arrive (cacheOf b) n (p .free) e) h
 
   module _ (f : n .kind ≢ 76) (a : n .kind ≢ 65) where
@@ -196,8 +214,8 @@ module _ (b : List ℕ) (n : Numbers) (p : TablePasses b n) where
     pub passed-left :
         (after : List ℕ) →
         n .kind ≡ 81 →
-        BecomesAt (took (view (cacheOf b)) (Retire (n .item))) after →
-        BecomesAt (took (view (cacheOf b)) (stepOf n)) after
+        BecomesAt (tookIn (lazy (cacheOf b)) (Retire (n .item))) after →
+        BecomesAt (tookIn (lazy (cacheOf b)) (stepOf n)) after
     passed-left after e h = so (free-retire (cacheOf b) n (p .free) e) h
 
     module _ (q : n .kind ≢ 81) where
@@ -207,13 +225,13 @@ module _ (b : List ℕ) (n : Numbers) (p : TablePasses b n) where
       pub passed-wanted : WantedAt b (n .item)
       passed-wanted = record { valid = p .valid; known = free-known (cacheOf b) n (p .free) f a; fits = free-fits (cacheOf b) n (p .free) f a q }
 
-      module _ (room : List ℕ) (at : BecomesAt (moved (view (cacheOf b)) (makeRoom (splitOf (cacheOf b .rule)) (cacheOf b .k) (n .item) (stateOf (cacheOf b))) (cacheOf b .closed)) room) where
+      module _ (room : List ℕ) (at : BecomesAt (movedIn (lazy (cacheOf b)) (makeRoomIn (cacheOf b .k) (n .item) (queueOf (cacheOf b))) (cacheOf b .closed)) room) where
         pub room-servable : ServableAt room (n .item)
         room-servable =
             let ready = free-ready (cacheOf b) n (p .free) f a q (p .valid .cache) in
-            let r : CanServe (view (cacheOf room)) (n .item) = subst (λ (z : Standing). CanServe z (n .item)) (sym (at .cache .stands)) ready in
+            let r : CanServe (view (cacheOf room)) (n .item) = subst (λ (z : LazyStanding). CanServe (standing z) (n .item)) (sym (at .cache .stands)) ready in
             record {
-              valid = becomes-valid (ready .taking .standing) at;
+              valid = becomes-valid (free-lazy (cacheOf b) n (p .free) f a q (p .valid .cache)) (ready .taking .standing) at;
               item = omega (arith, size-is (cacheOf room), r .below);
               room = r .taking .few;
             }
@@ -221,13 +239,13 @@ module _ (b : List ℕ) (n : Numbers) (p : TablePasses b n) where
         pub read-took :
             (after : List ℕ) →
             n .kind ≡ 82 →
-            BecomesAt (moved (view (cacheOf room)) (serveRead (n .item) (stateOf (cacheOf room))) (cacheOf room .closed)) after →
-            BecomesAt (took (view (cacheOf b)) (stepOf n)) after
+            BecomesAt (movedIn (lazy (cacheOf room)) (serveReadIn (splitOf (cacheOf room .rule)) (n .item) (queueOf (cacheOf room))) (cacheOf room .closed)) after →
+            BecomesAt (tookIn (lazy (cacheOf b)) (stepOf n)) after
         read-took after e h = so (read-taken (cacheOf b) n (p .free) f a q (p .valid .cache) (cacheOf room) (at .cache .stands) e) h
 
         pub write-took :
             (after : List ℕ) →
             n .kind ≢ 82 →
-            BecomesAt (moved (view (cacheOf room)) (serveWrite (n .item) (n .minutes) (stateOf (cacheOf room))) (cacheOf room .closed)) after →
-            BecomesAt (took (view (cacheOf b)) (stepOf n)) after
+            BecomesAt (movedIn (lazy (cacheOf room)) (serveWriteIn (splitOf (cacheOf room .rule)) (n .item) (n .minutes) (queueOf (cacheOf room))) (cacheOf room .closed)) after →
+            BecomesAt (tookIn (lazy (cacheOf b)) (stepOf n)) after
         write-took after r h = so (write-taken (cacheOf b) n (p .free) f a q (p .valid .cache) (cacheOf room) (at .cache .stands) r) h

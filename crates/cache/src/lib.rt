@@ -3,10 +3,10 @@
 ghost use mathlib.Core.Path.{_≡_};
 ghost use mathlib.Core.Bool.{true};
 ghost use Rattle.types.specs.Types.{stepOf};
-ghost use Rattle.landlord.specs.Figures.{took};
+ghost use Rattle.queue.specs.Machine.{tookIn};
 ghost use Rattle.landlord.specs.Steps.{inRange, itemRefusal};
 ghost use Rattle.landlord.specs.Calls.{refusalNow, stepCall, close};
-ghost use Rattle.cache_state.specs.Cache.{catalogOf, view};
+ghost use Rattle.cache_state.specs.Cache.{catalogOf, lazy, view};
 ghost use Rattle.layout.specs.Layout.{cacheOf, ValidBytes};
 ghost use Rattle.layout.specs.Inner.{BecomesAt};
 ghost use Rattle.cache.specs.Contract.{lent, Answers, Called};
@@ -69,7 +69,7 @@ fn refused(b: &[u8], n: Numbers) -> u32
 // A step that the table does not refuse: a flush, an arrival, a retirement; or room is made for its item, and it is served.
 fn serve(b: &mut [u8], n: Numbers)
     requires { ⌜ TablePasses (now b) n ⌝ }
-    ensures { λ _. ⌜ BecomesAt (took (view (cacheOf (now (b .entry)))) (stepOf n)) (now (b .exit)) ⌝ }
+    ensures { λ _. ⌜ BecomesAt (tookIn (lazy (cacheOf (now (b .entry)))) (stepOf n)) (now (b .exit)) ⌝ }
 {
     if n.kind == types::FLUSH {
         cache_serve::flush_step(b);

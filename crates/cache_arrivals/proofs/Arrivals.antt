@@ -1,5 +1,5 @@
--- What an arrival is to the rule: the catalog, the slots and the items' lines grow by one, of an item to which nothing has happened.
--- Assumes nothing.
+-- What an arrival is to the queue: the catalog, the slots, the keys and the items' lines grow by one, of an item to which nothing has
+-- happened. The heap is as it was. Assumes nothing.
 use mathlib.Core.Path.{_≡_, refl, sym, ap, _∙_}
 use mathlib.Core.Logic.{_≢_}
 use mathlib.Core.Bool.{Bool, false, cond}
@@ -15,16 +15,18 @@ use lib.Seq.{getD-set-same, getD-set-other}
 use Rattle.types.specs.declared.Step.the-variants.{Arrive}
 use Rattle.landlord.specs.Fold.{tab, fold}
 use Rattle.landlord.specs.Catalog.{listed}
-use Rattle.landlord.specs.Slot.{absent}
-use Rattle.landlord.specs.Rule.{arrived, step}
-use Rattle.landlord.specs.Figures.{Use, useOf, noUse, useAt, plusUse, plusTotals, adds, linesAfter, changed, took}
+use Rattle.landlord.specs.Slot.{absent, splitOf}
+use Rattle.landlord.specs.Rule.{arrived}
+use Rattle.landlord.specs.Figures.{Use, useOf, noUse, useAt, plusUse, plusTotals, adds, linesAfter}
 use Rattle.landlord.proofs.Folds.{tab-eq, tab-more, tab-past}
-use Rattle.cache_state.specs.Cache.{Cache, dirtyAt, slotOf, catalogOf, slotsOf, usesOf, view, Emptied, Blank, Normal}
+use Rattle.landlord.proofs.Sums.{sum-eq}
+use Rattle.queue.specs.Machine.{tookIn, stepIn}
+use Rattle.cache_state.specs.Cache.{Cache, dirtyAt, heldAt, heldItems, heldBlocks, slotOf, catalogOf, slotsOf, keysOf, usesOf, lazy, Emptied, Blank, Normal}
 use Rattle.cache_state.specs.InnerView.{itemOf, usageOf, slotFrom, countsOf, figuresOf}
 use Rattle.cache_state.specs.InnerBecomes.{Becomes}
 use Rattle.cache_state.proofs.Views.{size-is, use-is}
 use Rattle.layout.specs.InnerRows.{WholeArrays}
-use Rattle.cache_room.proofs.Stores.{same-use}
+use Rattle.cache_room.proofs.Counts.{same-use}
 use Rattle.cache_counts.specs.declared.Total.the-variants.{Arrivals}
 use Rattle.cache_counts.specs.Inner.{stepCounted}
 use Rattle.cache_arrivals.specs.InnerStores.{listedOf}
@@ -80,30 +82,52 @@ module _ (c : Cache) (b l w : ℕ) (s : WholeArrays c) (ok : Normal c) (few : c 
       grown (c .n) (slotOf c) (slotOf c) absent (λ i m. refl)
       (ap (λ (t : Bool). slotFrom t (dirtyAt c (c .n)) (getD (c .loadcredit) (c .n) 0) (getD (c .writecredit) (c .n) 0)) (here .place .held))
 
-  -- the items' lines: the new one has nothing counted
-  abbrev line-after : ℕ → Use
-  line-after i = plusUse (useAt (figuresOf c) i) (cond (eqb i (c .n)) noUse noUse)
+  keys-after : tab (c .n + 1) (λ i. getD (c .keys) i 0) ≡ keysOf c ++ (0 ∷ [])
+  unfolding keysOf
+  keys-after = grown (c .n) (λ i. getD (c .keys) i 0) (λ i. getD (c .keys) i 0) 0 (λ i m. refl) (here .place .slot .key)
 
-  line : (i : ℕ) → Dec (i ≡ c .n) → i < c .n + 1 → usageOf c i ≡ useAt (figuresOf c) i
+  -- the blocks held are those held before
+  same-blocks : heldBlocks after ≡ heldBlocks c
+  unfolding heldBlocks
+  same-blocks = sum-eq 256 _ _ (λ i m. at i (ℕ-discrete i (c .n)))
+    where
+      at : (i : ℕ) → Dec (i ≡ c .n) → cond (heldAt c i) (getD (after .blocks) i 0) 0 ≡ cond (heldAt c i) (getD (c .blocks) i 0) 0
+      at i (yes e) =
+          let h : heldAt c i ≡ false = ap (heldAt c) e ∙ here .place .held in
+          ap (λ (t : Bool). cond t (getD (after .blocks) i 0) 0) h ∙ sym (ap (λ (t : Bool). cond t (getD (c .blocks) i 0) 0) h)
+      at i (no e) = ap (λ (x : ℕ). cond (heldAt c i) x 0) (blocks-other i e)
+
+  -- the items' lines: the new one has nothing counted
+  abbrev lazy-after : ℕ → Use
+  lazy-after i = plusUse (useAt (figuresOf c) i) (cond (eqb i (c .n)) noUse noUse)
+
+  use-lazy : (i : ℕ) → Dec (i ≡ c .n) → i < c .n + 1 → usageOf c i ≡ useAt (figuresOf c) i
   unfolding usesOf
-  line i (yes e) m =
+  use-lazy i (yes e) m =
       ap (usageOf c) e
       ∙ (λ z. useOf (here .place .minutes z) (here .place .loads z) (here .place .writebacks z))
       ∙ sym (tab-past (c .n) (usageOf c) i noUse (omega arith))
-  line i (no e) m = sym (use-is c i (omega arith))
+  use-lazy i (no e) m = sym (use-is c i (omega arith))
 
-  uses-after : tab (c .n + 1) (usageOf c) ≡ tab (linesAfter (catalogOf c) (arrived (c .n))) line-after
+  uses-after : tab (c .n + 1) (usageOf c) ≡ tab (linesAfter (catalogOf c) (arrived (c .n))) lazy-after
   uses-after =
-      tab-eq (c .n + 1) (usageOf c) line-after (λ i m. line i (ℕ-discrete i (c .n)) m ∙ same-use (eqb i (c .n)) (useAt (figuresOf c) i))
-      ∙ ap (λ (m : ℕ). tab m line-after) (ap (λ (k : ℕ). k + 1) (sym (size-is c)))
+      tab-eq (c .n + 1) (usageOf c) lazy-after (λ i m. use-lazy i (ℕ-discrete i (c .n)) m ∙ same-use (eqb i (c .n)) (useAt (figuresOf c) i))
+      ∙ ap (λ (m : ℕ). tab m lazy-after) (ap (λ (k : ℕ). k + 1) (sym (size-is c)))
 
   totals-after : countsOf (stepCounted c Arrivals) ≡ plusTotals (countsOf c) (adds (catalogOf c) (arrived (c .n)))
   totals-after = simp add-zero
 
-  stands-after : view after ≡ took (view c) (Arrive (c .n) b l w)
-  unfolding took step fold catalogOf slotsOf usesOf
+  stands-after : lazy after ≡ tookIn (lazy c) (Arrive (c .n) b l w)
+  unfolding tookIn stepIn fold catalogOf slotsOf keysOf usesOf
   stands-after =
-      λ z. changed (view c) (record { catalog = catalog-after z; slots = slots-after z }) (record { totals = totals-after z; uses = uses-after z }) (c .closed)
+      λ z.
+      record {
+        k = c .k;
+        queue = record { catalog = catalog-after z; slots = slots-after z; keys = keys-after z; level = c .level };
+        figures = record { totals = totals-after z; uses = uses-after z };
+        closed = c .closed;
+        split = splitOf (c .rule);
+      }
 
   past-after : (i : ℕ) → c .n + 1 ≤ i → i < 256 → Blank after i
   past-after i m q =
@@ -112,7 +136,7 @@ module _ (c : Cache) (b l w : ℕ) (s : WholeArrays c) (ok : Normal c) (few : c 
         place =
             record {
               held = x .place .held;
-              slot = record { dirty = x .place .slot .dirty; loadCredit = x .place .slot .loadCredit; writeCredit = x .place .slot .writeCredit };
+              slot = record { dirty = x .place .slot .dirty; loadCredit = x .place .slot .loadCredit; writeCredit = x .place .slot .writeCredit; key = x .place .slot .key };
               minutes = x .place .minutes;
               loads = x .place .loads;
               writebacks = x .place .writebacks;
@@ -132,7 +156,8 @@ module _ (c : Cache) (b l w : ℕ) (s : WholeArrays c) (ok : Normal c) (few : c 
   spent i m d (yes e) = ok .past i e (omega arith) .place .slot .writeCredit
   spent i m d (no e) = ok .clean i (omega arith) d
 
-  pub arrive-becomes : Becomes (took (view c) (Arrive (c .n) b l w)) (listedOf (stepCounted c Arrivals) b l w)
+  pub arrive-becomes : Becomes (tookIn (lazy c) (Arrive (c .n) b l w)) (listedOf (stepCounted c Arrivals) b l w)
+  unfolding heldItems
   arrive-becomes =
       record {
         stands = stands-after;
@@ -142,7 +167,10 @@ module _ (c : Cache) (b l w : ℕ) (s : WholeArrays c) (ok : Normal c) (few : c 
               past = past-after;
               absent =
                   λ i m h. let x : Emptied c i = empty i m h (decLe (c .n) i) in
-                  record { dirty = x .dirty; loadCredit = x .loadCredit; writeCredit = x .writeCredit };
+                  record { dirty = x .dirty; loadCredit = x .loadCredit; writeCredit = x .writeCredit; key = x .key };
               clean = λ i m d. spent i m d (decLe (c .n) i);
+              heap = ok .heap;
+              order = ok .order;
+              used = ok .used ∙ sym same-blocks;
             };
       }

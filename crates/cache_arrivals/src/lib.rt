@@ -1,12 +1,12 @@
 // Arrivals and retirements, in place on the state's bytes: the two steps that change the catalog. The small functions store the fields of
-// one item and count what happened to it; specs/InnerStores.antt says which cache the bytes are then. The public ones say where the rule
+// one item and count what happened to it; specs/InnerStores.antt says which cache the bytes are then. The public ones say where the queue
 // stands after it.
 ghost use Rattle.types.specs.declared.Step.the-variants.{Arrive, Retire};
-ghost use Rattle.landlord.specs.Rule.{dropItem};
-ghost use Rattle.landlord.specs.Figures.{moved, took};
-ghost use Rattle.cache_state.specs.Cache.{view};
-ghost use Rattle.cache_state.specs.InnerView.{stateOf};
-ghost use Rattle.layout.specs.Layout.{cacheOf, ValidBytes};
+ghost use Rattle.queue.specs.Machine.{movedIn, dropIn, tookIn};
+ghost use Rattle.cache_state.specs.Cache.{lazy};
+ghost use Rattle.cache_state.specs.InnerView.{queueOf};
+ghost use Rattle.layout.specs.Layout.{cacheOf};
+ghost use Rattle.cache_counts.specs.Inner.{StepReadyAt};
 ghost use Rattle.layout.specs.Inner.{Stands, BecomesAt};
 ghost use Rattle.cache_serve.specs.InnerReady.{ServableAt};
 ghost use Rattle.cache_arrivals.specs.InnerStores.{listedOf, LeftAt};
@@ -28,27 +28,27 @@ fn list_item(b: &mut [u8], blocks: u8, load: u16, write: u16)
 // An arrival in the log: counted as a step, and its item listed.
 pub fn arrive(b: &mut [u8], blocks: u8, load: u16, write: u16)
     requires { ⌜ ArrivableAt (now b) ⌝ }
-    ensures { λ _. ⌜ BecomesAt (took (view (cacheOf (now (b .entry)))) (Arrive (cacheOf (now (b .entry)) .n) blocks load write)) (now (b .exit)) ⌝ }
+    ensures { λ _. ⌜ BecomesAt (tookIn (lazy (cacheOf (now (b .entry)))) (Arrive (cacheOf (now (b .entry)) .n) blocks load write)) (now (b .exit)) ⌝ }
 {
     cache_counts::count_step(b, Total::Arrivals);
     list_item(b, blocks, load, write);
 }
 
-// Item `i` is dropped, if it is held: an eviction, but no other item is charged for it.
+// Item `i` is dropped, if it is held: an eviction, but the level stays, so that no other item is charged for it.
 fn drop_held(b: &mut [u8], i: usize)
     requires { ⌜ ServableAt (now b) i ⌝ }
-    ensures { λ _. ⌜ BecomesAt (moved (view (cacheOf (now (b .entry)))) (dropItem i (stateOf (cacheOf (now (b .entry))))) (cacheOf (now (b .entry)) .closed)) (now (b .exit)) ⌝ }
+    ensures { λ _. ⌜ BecomesAt (movedIn (lazy (cacheOf (now (b .entry)))) (dropIn i (queueOf (cacheOf (now (b .entry))))) (cacheOf (now (b .entry)) .closed)) (now (b .exit)) ⌝ }
 {
     if layout::held(b, i) {
         let dirty = layout::is_dirty(b, i);
-        cache_room::drop_item(b, i);
+        cache_room::let_go(b, i);
         cache_room::count_eviction(b, i, dirty);
     }
 }
 
 // Item `i` is marked as one that has left. A retirement in the log is a step.
 fn mark_left(b: &mut [u8], i: usize)
-    requires { ⌜ ValidBytes (now b) ⌝ }
+    requires { ⌜ StepReadyAt (now b) ⌝ }
     ensures { λ _. ⌜ LeftAt (now (b .entry)) i (now (b .exit)) ⌝ }
 {
     let words = layout::left(b);
@@ -59,7 +59,7 @@ fn mark_left(b: &mut [u8], i: usize)
 // A retirement in the log: the item is dropped, and stays in the catalog, marked.
 pub fn retire(b: &mut [u8], i: usize)
     requires { ⌜ ServableAt (now b) i ⌝ }
-    ensures { λ _. ⌜ BecomesAt (took (view (cacheOf (now (b .entry)))) (Retire i)) (now (b .exit)) ⌝ }
+    ensures { λ _. ⌜ BecomesAt (tookIn (lazy (cacheOf (now (b .entry)))) (Retire i)) (now (b .exit)) ⌝ }
 {
     drop_held(b, i);
     mark_left(b, i);

@@ -13,8 +13,9 @@ use lib.Seq.{getD-drop}
 use borrow.Author.Tests.{eq-eqb, eqb-true, not-false}
 use Rattle.fields.specs.LittleEndian.{fromBytes, numberAt, runFromBytes}
 use Rattle.basis.specs.InnerDecided.{Decided}
+use Rattle.layout.specs.Layout.{numbersAt}
 use Rattle.layout.proofs.Places.{number-at, flag-at}
-use Rattle.cache_check.specs.Inner.{Zeros, BlankRun, BlankFlags}
+use Rattle.cache_check.specs.Inner.{Zeros, ZerosThree, BlankRun, BlankFlags}
 
 -- ---- the loop: `all` is 0 exactly if every byte passed is
 
@@ -57,6 +58,73 @@ passed-all b from to i all e p =
       only = λ z. eq-eqb all 0 (p .only (subst (Zeros b from) (sym e) z));
     }
 
+-- ---- three stretches at once
+
+module _ (b : List ℕ) (x from i : ℕ) where
+  zeros-less : Zeros b (x + from) (x + (i + 1)) → Zeros b (x + from) (x + i)
+  zeros-less z = record { each = λ j l m. z .each j l (omega arith) }
+
+  zeros-last : from ≤ i → Zeros b (x + from) (x + (i + 1)) → getD b (x + i) 0 ≡ 0
+  zeros-last l z = z .each (x + i) (omega arith) (omega arith)
+
+  zeros-more : Zeros b (x + from) (x + i) → getD b (x + i) 0 ≡ 0 → Zeros b (x + from) (x + (i + 1))
+  zeros-more z e = record { each = λ j l m. go j l m (ℕ-discrete j (x + i)) }
+    where
+      go : (j : ℕ) → x + from ≤ j → j < x + (i + 1) → Dec (j ≡ x + i) → getD b j 0 ≡ 0
+      go j l m (yes s) = ap (λ (k : ℕ). getD b k 0) s ∙ e
+      go j l m (no s) = z .each j l (omega arith)
+
+pub record PassedThree (b : List ℕ) (x y z from i all : ℕ) : Type 0 where
+  pub after : from ≤ i
+  pub yes : all ≡ 0 → ZerosThree b x y z from i
+  pub only : ZerosThree b x y z from i → all ≡ 0
+
+none-passed : (b : List ℕ) (x from : ℕ) → Zeros b (x + from) (x + from)
+none-passed b x from = record { each = λ j l m. absurd (let p : x + from ≤ j = l in let q : j < x + from = m in omega arith) }
+
+module _ (b : List ℕ) (x y z from : ℕ) where
+  pub three-none : PassedThree b x y z from from 0
+  three-none =
+      record {
+        after = le-refl from;
+        yes = λ e. record { first = none-passed b x from; second = none-passed b y from; third = none-passed b z from };
+        only = λ o. refl;
+      }
+
+  pub three-more : (i all : ℕ) → PassedThree b x y z from i all → PassedThree b x y z from (i + 1) (bitOr (bitOr (bitOr all (getD b (x + i) 0)) (getD b (y + i) 0)) (getD b (z + i) 0))
+  three-more i all p =
+      record {
+        after = omega (arith, p .after);
+        yes = λ e.
+            let o = or-none (bitOr (bitOr all (getD b (x + i) 0)) (getD b (y + i) 0)) (getD b (z + i) 0) e in
+            let q = or-none (bitOr all (getD b (x + i) 0)) (getD b (y + i) 0) (o .0) in
+            let r = or-none all (getD b (x + i) 0) (q .0) in
+            let s = p .yes (r .0) in
+            record {
+              first = zeros-more b x from i (s .first) (r .1);
+              second = zeros-more b y from i (s .second) (q .1);
+              third = zeros-more b z from i (s .third) (o .1);
+            };
+        only = λ o.
+            let e : all ≡ 0 =
+            p .only (record { first = zeros-less b x from i (o .first); second = zeros-less b y from i (o .second); third = zeros-less b z from i (o .third) })
+            in
+            let u : getD b (x + i) 0 ≡ 0 = zeros-last b x from i (p .after) (o .first) in
+            let v : getD b (y + i) 0 ≡ 0 = zeros-last b y from i (p .after) (o .second) in
+            let w : getD b (z + i) 0 ≡ 0 = zeros-last b z from i (p .after) (o .third) in
+            (λ t. bitOr (bitOr (bitOr (e t) (u t)) (v t)) (w t))
+            ∙ ap (λ (k : ℕ). bitOr (bitOr k 0) 0) (or-zero-l 0)
+            ∙ ap (λ (k : ℕ). bitOr k 0) (or-zero-l 0)
+            ∙ or-zero-l 0;
+      }
+
+  pub three-all : (to i all : ℕ) → i ≡ to → PassedThree b x y z from i all → Decided (ZerosThree b x y z from to) (eqb all 0)
+  three-all to i all e p =
+      record {
+        yes = λ t. subst (ZerosThree b x y z from) e (p .yes (eqb-true all 0 t));
+        only = λ o. eq-eqb all 0 (p .only (subst (ZerosThree b x y z from) (sym e) o));
+      }
+
 -- ---- numbers of bytes 0
 
 from-zero : (w : ℕ) (bs : List ℕ) → ((j : ℕ) → j < w → getD bs j 0 ≡ 0) → fromBytes (take w bs) ≡ 0
@@ -72,7 +140,7 @@ zero-from (suc w) [] e j l = refl
 zero-from (suc w) (x ∷ bs) e zero l = omega arith
 zero-from (suc w) (x ∷ bs) e (suc j) l = zero-from w bs (omega arith) j (omega arith)
 
-run-zero : (b : List ℕ) (at w n : ℕ) → Zeros b (at + n * w) (at + 256 * w) → BlankRun b at w n
+pub run-zero : (b : List ℕ) (at w n : ℕ) → Zeros b (at + n * w) (at + 256 * w) → BlankRun b at w n
 unfolding numberAt
 run-zero b at w n z =
     record {
@@ -96,7 +164,8 @@ zeros-go w (suc m) bs h j l = go (decLt j w) (λ k. zeros-go w m (drop w bs) (λ
         let e : w + (j - w) ≡ j = omega arith in
         ap (λ (x : ℕ). getD bs x 0) (sym e) ∙ sym (getD-drop w bs (j - w) 0) ∙ rest (omega arith)
 
-zero-run : (b : List ℕ) (at w n : ℕ) → n ≤ 256 → BlankRun b at w n → Zeros b (at + n * w) (at + 256 * w)
+pub zero-run : (b : List ℕ) (at w n : ℕ) → n ≤ 256 → BlankRun b at w n → Zeros b (at + n * w) (at + 256 * w)
+unfolding numbersAt
 zero-run b at w n few r =
     record {
       each = λ j l m.
@@ -123,20 +192,15 @@ decided-run b at w n few d = record { yes = λ t. run-zero b at w n (d .yes t); 
 unset : (v : ℕ) → not (eqb v 0) ≡ false → v ≡ 0
 unset v e = eqb-true v 0 (not-false (eqb v 0) e)
 
-pub decided-flags : (b : List ℕ) (at n : ℕ) {r : Bool} → n ≤ 256 → Decided (Zeros b (at + n) (at + 256)) r → Decided (BlankFlags b at n) r
-decided-flags b at n few d =
+pub flags-zero : (b : List ℕ) (at n : ℕ) → Zeros b (at + n) (at + 256) → BlankFlags b at n
+flags-zero b at n z =
+    record { each = λ i l m. flag-at 256 at b i m ∙ ap (λ (v : ℕ). not (eqb v 0)) (z .each (at + i) (omega arith) (omega arith)) }
+
+pub zero-flags : (b : List ℕ) (at n : ℕ) → BlankFlags b at n → Zeros b (at + n) (at + 256)
+zero-flags b at n x =
     record {
-      yes = λ t.
-          record {
-            each = λ i l m.
-                flag-at 256 at b i m ∙ ap (λ (v : ℕ). not (eqb v 0)) (d .yes t .each (at + i) (omega arith) (omega arith));
-          };
-      only = λ x.
-          d .only
-          record {
-            each = λ j l m.
-                let e : at + (j - at) ≡ j = omega arith in
-                ap (λ (z : ℕ). getD b z 0) (sym e)
-                ∙ unset (getD b (at + (j - at)) 0) (sym (flag-at 256 at b (j - at) (omega arith)) ∙ x .each (j - at) (omega arith) (omega arith));
-          };
+      each = λ j l m.
+          let e : at + (j - at) ≡ j = omega arith in
+          ap (λ (z : ℕ). getD b z 0) (sym e)
+          ∙ unset (getD b (at + (j - at)) 0) (sym (flag-at 256 at b (j - at) (omega arith)) ∙ x .each (j - at) (omega arith) (omega arith));
     }

@@ -2,3 +2,4 @@ mod Blanks
 mod Gone
 mod Past
 mod Sums
+mod Whole

@@ -1,6 +1,6 @@
 // The check of a state that is handed in, paper 01's refusal 17: decided on the bytes, in one pass. It takes any bytes: the loops over
 // the items run only where the catalog has at most 256 of them, and the tests of one item, of the totals and of the sums are those of
-// the crate `validity`.
+// the crate `validity`. The heap is looked at last, where it is known how many items are held.
 ghost use mathlib.Core.Path.{_≡_};
 ghost use mathlib.Core.Bool.{cond};
 ghost use Prim.Native.Nat.{_≤_, _<_};
@@ -12,9 +12,9 @@ ghost use Rattle.basis.specs.InnerDecided.{Decided};
 ghost use Rattle.validity.specs.Inner.{CountsOk};
 ghost use Rattle.cache_state.specs.Cache.{Valid};
 ghost use Rattle.cache_state.specs.InnerView.{stateOf, countsOf};
-ghost use Rattle.cache_state.specs.InnerParts.{PastOk, EntriesOk, LeftOk, SumsOf};
+ghost use Rattle.cache_state.specs.InnerParts.{LeftOk, SumsOf};
 ghost use Rattle.layout.specs.Layout.{stateBytes, cacheOf, ValidBytes};
-ghost use Rattle.cache_check.specs.Inner.{Zeros, BlankRun, BlankFlags, BlankMarks, RunAt, CountedItems};
+ghost use Rattle.cache_check.specs.Inner.{Zeros, ThreeAt, ZerosThree, BlankRun, BlankMarks, PastBlank, RunAt, CountedItems, ItemAt, ItemsOk, UsedItems, HeldCounted, HeapParts};
 
 // Whether every byte from one place to another is 0. One test at the end, so that the loop goes by vectors.
 fn zeros(b: &[u8], from: usize, to: usize) -> bool
@@ -38,12 +38,18 @@ fn run_blank(b: &[u8], at: usize, w: usize, n: usize) -> bool
     zeros(b, at + n * w, at + 256 * w)
 }
 
-// Whether the flags past the first `n` of the 256 at a place are false.
-fn flags_blank(b: &[u8], at: usize, n: usize) -> bool
-    requires { ⌜ RunAt (now b) at 1 n ⌝ }
-    ensures { λ r. ⌜ Decided (BlankFlags (now (b .entry)) at n) r ⌝ }
+// The same of three stretches at once, each from `from` to `to` behind a place of its own: the loop's turns are shared.
+fn zeros_three(b: &[u8], x: usize, y: usize, z: usize, from: usize, to: usize) -> bool
+    requires { ⌜ ThreeAt (now b) x y z from to ⌝ }
+    ensures { λ r. ⌜ Decided (ZerosThree (now (b .entry)) x y z from to) r ⌝ }
 {
-    zeros(b, at + n, at + 256)
+    let mut all: u8 = 0;
+    let mut i = from;
+    while i < to {
+        all = all | b[x + i] | b[y + i] | b[z + i];
+        i += 1;
+    }
+    all == 0
 }
 
 // Whether the marks past the first `n` are not set.
@@ -54,36 +60,49 @@ fn marks_blank(words: [u64; 4], n: usize) -> bool
     256 <= marks::next(words, n)
 }
 
-// Whether every place past the catalog is blank.
+// Whether every place past the catalog is blank, and none of them has a place in the heap. Rows of one width go together.
 fn past_ok(b: &[u8], n: usize) -> bool
     requires { ⌜ CountedItems (now b) n ⌝ }
-    ensures { λ r. ⌜ Decided (PastOk (cacheOf (now (b .entry)))) r ⌝ }
+    ensures { λ r. ⌜ Decided (PastBlank (cacheOf (now (b .entry)))) r ⌝ }
 {
-    if !run_blank(b, layout::AT_LOAD_CREDITS, 8, n) {
+    if !zeros_three(
+        b,
+        layout::AT_LOAD_CREDITS,
+        layout::AT_WRITE_CREDITS,
+        layout::AT_KEYS,
+        n * 8,
+        2048,
+    ) {
         return false;
     }
-    if !run_blank(b, layout::AT_WRITE_CREDITS, 8, n) {
+    if !zeros_three(
+        b,
+        layout::AT_MINUTES,
+        layout::AT_ITEM_LOADS,
+        layout::AT_ITEM_WRITEBACKS,
+        n * 4,
+        1024,
+    ) {
         return false;
     }
-    if !run_blank(b, layout::AT_MINUTES, 4, n) {
+    if !zeros_three(
+        b,
+        layout::AT_ITEM_LOAD_COSTS,
+        layout::AT_ITEM_WRITE_COSTS,
+        layout::AT_ITEM_WRITE_COSTS,
+        n * 2,
+        512,
+    ) {
         return false;
     }
-    if !run_blank(b, layout::AT_ITEM_LOADS, 4, n) {
-        return false;
-    }
-    if !run_blank(b, layout::AT_ITEM_WRITEBACKS, 4, n) {
-        return false;
-    }
-    if !run_blank(b, layout::AT_ITEM_LOAD_COSTS, 2, n) {
-        return false;
-    }
-    if !run_blank(b, layout::AT_ITEM_WRITE_COSTS, 2, n) {
-        return false;
-    }
-    if !run_blank(b, layout::AT_BLOCKS, 1, n) {
-        return false;
-    }
-    if !flags_blank(b, layout::AT_HELD, n) {
+    if !zeros_three(
+        b,
+        layout::AT_BLOCKS,
+        layout::AT_HELD,
+        layout::AT_PLACES,
+        n,
+        256,
+    ) {
         return false;
     }
     if !marks_blank(layout::dirty(b), n) {
@@ -92,27 +111,53 @@ fn past_ok(b: &[u8], n: usize) -> bool
     marks_blank(layout::left(b), n)
 }
 
-// Whether every item of the catalog is as it should be.
-fn entries_ok(b: &[u8], n: usize) -> bool
-    requires { ⌜ CountedItems (now b) n ⌝ }
-    ensures { λ r. ⌜ Decided (EntriesOk (cacheOf (now (b .entry)))) r ⌝ }
+// Whether the item at a place of the catalog is as it should be: its marks and credits, its key, and its place in the heap, which is 0
+// where it is not held.
+fn item_ok(b: &[u8], i: usize) -> bool
+    requires { ⌜ (length (now b) ≡ stateBytes) × (i < 256) ⌝ }
+    ensures { λ r. ⌜ Decided (ItemAt (cacheOf (now (b .entry))) i) r ⌝ }
 {
-    let closed = layout::closed(b);
-    let steps = layout::steps(b);
+    let blocks = layout::blocks(b, i);
+    let held = layout::held(b, i);
+    let load = layout::load_credit(b, i);
+    let write = layout::write_credit(b, i);
+    if !validity::entry_ok(
+        blocks,
+        layout::item_load_cost(b, i),
+        layout::item_write_cost(b, i),
+        held,
+        layout::is_dirty(b, i),
+        layout::closed(b),
+        load,
+        write,
+        layout::minutes(b, i),
+        layout::steps(b),
+    ) {
+        return false;
+    }
+    if !validity::key_ok(
+        held,
+        layout::level(b),
+        layout::key(b, i),
+        load + write,
+        blocks,
+    ) {
+        return false;
+    }
+    if held {
+        return true;
+    }
+    cache_heap::place(b, i) == 0
+}
+
+// Whether every item of the catalog is as it should be.
+fn items_ok(b: &[u8], n: usize) -> bool
+    requires { ⌜ CountedItems (now b) n ⌝ }
+    ensures { λ r. ⌜ Decided (ItemsOk (cacheOf (now (b .entry)))) r ⌝ }
+{
     let mut i: usize = 0;
     while i < n {
-        if !validity::entry_ok(
-            layout::blocks(b, i),
-            layout::item_load_cost(b, i),
-            layout::item_write_cost(b, i),
-            layout::held(b, i),
-            layout::is_dirty(b, i),
-            closed,
-            layout::load_credit(b, i),
-            layout::write_credit(b, i),
-            layout::minutes(b, i),
-            steps,
-        ) {
+        if !item_ok(b, i) {
             return false;
         }
         i += 1;
@@ -159,7 +204,7 @@ fn if_held(held: bool, amount: u8) -> u32
 }
 
 // The blocks held, of `n` items.
-pub fn used(b: &[u8], n: usize) -> u32
+fn used(b: &[u8], n: usize) -> u32
     requires { ⌜ CountedItems (now b) n ⌝ }
     ensures { λ r. ⌜ r ≡ used (stateOf (cacheOf (now (b .entry)))) ⌝ }
 {
@@ -216,12 +261,12 @@ fn writebacks_counted(b: &[u8], n: usize) -> u64
 
 // Whether the sums over the items are what the capacity and the totals say.
 fn sums_ok(b: &[u8], n: usize) -> bool
-    requires { ⌜ CountedItems (now b) n ⌝ }
+    requires { ⌜ UsedItems (now b) n ⌝ }
     ensures { λ r. ⌜ Decided (SumsOf (cacheOf (now (b .entry)))) r ⌝ }
 {
     validity::balanced(
         layout::capacity(b),
-        used(b, n),
+        layout::used(b),
         layout::evictions(b),
         held_count(b, n),
         layout::loads(b),
@@ -256,7 +301,24 @@ fn counts_ok(b: &[u8]) -> bool
     )
 }
 
-// Whether the cache that the bytes stand for is valid. The loops come after the test of `n`, which bounds them.
+// Whether the level is in range, and the heap has as many items as are held, in order, and nothing behind them.
+fn heap_ok(b: &[u8]) -> bool
+    requires { ⌜ HeldCounted (now b) ⌝ }
+    ensures { λ r. ⌜ Decided (HeapParts (cacheOf (now (b .entry)))) r ⌝ }
+{
+    let evictions = layout::evictions(b);
+    if !validity::level_ok(layout::level(b), evictions) {
+        return false;
+    }
+    let held = (layout::loads(b) - evictions) as usize;
+    if !run_blank(b, layout::AT_HEAP, 1, held) {
+        return false;
+    }
+    cache_heap::spots_ok(b, held)
+}
+
+// Whether the cache that the bytes stand for is valid. The loops come after the test of `n`, which bounds them, and the heap after the
+// counts, which say how many of its places are in use.
 fn cache_ok(b: &[u8]) -> bool
     requires { ⌜ length (now b) ≡ stateBytes ⌝ }
     ensures { λ r. ⌜ Decided (Valid (cacheOf (now (b .entry)))) r ⌝ }
@@ -268,16 +330,22 @@ fn cache_ok(b: &[u8]) -> bool
     if !past_ok(b, n) {
         return false;
     }
-    if !entries_ok(b, n) {
+    if !items_ok(b, n) {
         return false;
     }
     if !left_ok(b, n) {
         return false;
     }
+    if layout::used(b) != used(b, n) {
+        return false;
+    }
     if !sums_ok(b, n) {
         return false;
     }
-    counts_ok(b)
+    if !counts_ok(b) {
+        return false;
+    }
+    heap_ok(b)
 }
 
 // Whether a state is valid, of any bytes.

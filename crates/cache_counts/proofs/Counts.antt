@@ -2,14 +2,15 @@
 use mathlib.Core.Path.{_≡_, sym, ap, subst, _∙_}
 use mathlib.Core.List.{List}
 use Prim.Native.Nat.{ℕ, _+_}
+use native.Mathlib.Omega.{arith}
 use lib.ListN.{getD}
 use Rattle.cache_state.specs.Cache.{Cache}
 use Rattle.cache_state.specs.InnerWith.{withSteps, withWritebacks, withWriteCost, withItemWritebacks}
-use Rattle.layout.specs.Layout.{cacheOf}
+use Rattle.layout.specs.Layout.{cacheOf, ValidBytes}
 use Rattle.layout.specs.Inner.{Stands}
-use Rattle.layout.proofs.Places.{stands-as}
+use Rattle.layout.proofs.Places.{stands-as, valid-reads}
 use Rattle.cache_counts.specs.declared.Total.{Total}
-use Rattle.cache_counts.specs.Inner.{totalCounted, stepCounted, writebackCounted}
+use Rattle.cache_counts.specs.Inner.{totalCounted, stepCounted, writebackCounted, StepReadyAt}
 
 -- a total, which is known by its getter and its setter
 pub total-counted :
@@ -49,3 +50,20 @@ writeback-counted b b1 b2 after i {own} {writebacks} {paid} {price} eo en ep er 
     (ap (λ (q : Cache). withWriteCost q (paid + price))
     (s2 .cache ∙ ap (λ (q : Cache). withWritebacks q (writebacks + 1)) (s1 .cache))
     ∙ (λ z. withWriteCost (withWritebacks (withItemWritebacks (cacheOf b) i (eo z + 1)) (en z + 1)) (ep z + er z)))
+
+-- valid bytes can take one step more
+pub valid-ready : {b : List ℕ} → ValidBytes b → StepReadyAt b
+valid-ready ok =
+    let s = ok .cache .standing in
+    record {
+      reads = valid-reads ok;
+      counts =
+          record {
+            steps = omega (arith, s .taken);
+            hits = omega (arith, s .steps, s .taken);
+            loads = omega (arith, s .steps, s .taken);
+            flushes = omega (arith, s .steps, s .taken);
+            arrivals = omega (arith, s .steps, s .taken);
+            retirements = omega (arith, s .steps, s .taken);
+          };
+    }

@@ -35,3 +35,16 @@ pub record Payable (i writebacks itemWritebacks writeCost : ℕ) : Type 0 where
 pub record PayableAt (b : List ℕ) (i : ℕ) : Type 0 where
   pub reads : Readable b
   pub counts : Payable i (cacheOf b .writebacks) (getD (cacheOf b .itemwritebacks) i 0) (cacheOf b .writecost)
+
+-- One step more can be counted, in any total: neither the steps nor a total that adds up to them is above 1,000,000.
+pub record StepReady (c : Cache) : Type 0 where
+  pub steps : c .steps ≤ 1000000
+  pub hits : c .hits ≤ 1000000
+  pub loads : c .loads ≤ 1000000
+  pub flushes : c .flushes ≤ 1000000
+  pub arrivals : c .arrivals ≤ 1000000
+  pub retirements : c .retirements ≤ 1000000
+
+pub record StepReadyAt (b : List ℕ) : Type 0 where
+  pub reads : Readable b
+  pub counts : StepReady (cacheOf b)

@@ -1,7 +1,7 @@
 // Counting, in place on the state's bytes: a step, in one of the totals that add up to the steps, and a writeback of an item.
-ghost use Rattle.layout.specs.Layout.{cacheOf, ValidBytes};
+ghost use Rattle.layout.specs.Layout.{cacheOf};
 ghost use Rattle.layout.specs.Inner.{Stands};
-ghost use Rattle.cache_counts.specs.Inner.{stepCounted, writebackCounted, PayableAt};
+ghost use Rattle.cache_counts.specs.Inner.{stepCounted, writebackCounted, PayableAt, StepReadyAt};
 
 // The totals that add up to the steps: each step is counted in one of them.
 pub enum Total {
@@ -14,7 +14,7 @@ pub enum Total {
 
 // One step more, counted in a total.
 pub fn count_step(b: &mut [u8], total: Total)
-    requires { ⌜ ValidBytes (now b) ⌝ }
+    requires { ⌜ StepReadyAt (now b) ⌝ }
     ensures { λ _. ⌜ Stands (now (b .exit)) (stepCounted (cacheOf (now (b .entry))) total) ⌝ }
 {
     let steps = layout::steps(b);

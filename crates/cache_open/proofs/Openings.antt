@@ -4,6 +4,7 @@ use mathlib.Core.Logic.{_≢_}
 use mathlib.Core.Bool.{Bool, true, false, cond, _&&_}
 use mathlib.Core.List.{List}
 use Prim.Native.Nat.{ℕ, _+_, _/_, _%_, _≤_, _<_}
+use native.Mathlib.Decide.{ℕ-discrete}
 use native.Mathlib.Omega.{arith}
 use lib.Dec.{eqb, leb}
 use lib.ListN.{length, set, replicate, getD-replicate, length-replicate}
@@ -12,21 +13,25 @@ use Rattle.types.specs.declared.Deduction.{Deduction}
 use Rattle.types.specs.Types.{deductionOf}
 use Rattle.landlord.specs.Catalog.{CatalogOk, noneLeft}
 use Rattle.landlord.specs.Slot.{splitOf}
-use Rattle.landlord.specs.Figures.{start, opened}
+use Rattle.landlord.specs.Valid.{StandingOk}
 use Rattle.landlord.specs.Calls.{Opening, openingRefusal}
 use Rattle.landlord.specs.Inner.{CapacityFacts, OpeningRanges, OpeningOk}
 use Rattle.landlord.proofs.Valid.{ok-starts}
 use Rattle.landlord.proofs.Ranges.{capacity-facts, capacity-ok, listed-none-left, opening-taken, opening-accepts, range-refused, rule-refused}
+use Rattle.queue.specs.Machine.{standing, lazyAtOpening, lazyStartsAt}
+use Rattle.queue.proofs.Logs.{opening-ok, opening-stands}
 use Rattle.fields.specs.Inner.{Below}
 use Rattle.catalog_bytes.specs.Catalogs.{itemIn, catalogIn}
 use Rattle.catalog_bytes.specs.Inner.{HasItem}
 use Rattle.catalog_bytes.proofs.Laws.{load-lt, write-lt}
-use Rattle.cache_state.specs.Cache.{Cache, EmptyPlace}
+use Rattle.cache_state.specs.Cache.{Cache, lazy, EmptyPlace}
+use Rattle.cache_state.proofs.Tells.{empty-heap}
 use Rattle.cache_state.specs.InnerBecomes.{Becomes}
 use Rattle.cache_state.specs.InnerWith.{withCapacity, withCount, withRule, withCatalog, withBlocks, withItemLoadCost, withItemWriteCost}
-use Rattle.layout.specs.Layout.{stateBytes, cacheOf}
-use Rattle.layout.specs.Inner.{Stands, cleared}
-use Rattle.layout.proofs.Places.{stands-as, stands-on, stands-become, becomes-valid}
+use Rattle.layout.specs.Layout.{stateBytes, cacheOf, ValidBytes}
+use Rattle.layout.specs.Inner.{Stands, BecomesAt, cleared}
+use Rattle.layout.proofs.Places.{stands-as, stands-on, stands-become, becomes-valid, valid-reads, becomes-one}
+use Rattle.layout.proofs.Rounds.{whole}
 use Rattle.basis.specs.InnerStores.{storeTo}
 use Rattle.basis.proofs.Stores.{store-more, store-past, store-at}
 use Rattle.cache_open.specs.Opening.{openingIn, openingNumber, OpenedLent}
@@ -158,7 +163,7 @@ stored-column n f few =
       rest = λ i m u. store-past n f (replicate 256 0) i m ∙ getD-replicate 256 i 0 0 u;
     }
 
-opened-becomes : (k : ℕ) (r : Deduction) (xs : List ℕ) → length xs / 5 ≤ 256 → Becomes (opened (start (splitOf r) k (catalogIn xs))) (openedOf k r xs)
+opened-becomes : (k : ℕ) (r : Deduction) (xs : List ℕ) → length xs / 5 ≤ 256 → Becomes (lazyAtOpening (splitOf r) k (catalogIn xs)) (openedOf k r xs)
 unfolding catalogIn
 opened-becomes k r xs few =
     empty-becomes k (length xs / 5) (itemIn xs) false r _ _ _ few (stored-column (length xs / 5) (λ i. itemIn xs i .blocks) few)
@@ -166,7 +171,7 @@ opened-becomes k r xs few =
 
 -- refused, every byte stays; else the bytes were cleared and capacity, count, rule and items stored
 pub opening-refused : (b : List ℕ) (o : Opening (List ℕ)) (n : ℕ) → n ≡ openingNumber (length b) o → n ≢ 0 → OpenedLent b o n b
-opening-refused b o n e d = record { answer = e; valid = λ z. absurd (d z); stands = λ z. absurd (d z); empty = λ z. absurd (d z); refused = λ z. refl }
+opening-refused b o n e d = record { answer = e; valid = λ z. absurd (d z); stands = λ z. absurd (d z); lazy = λ z. absurd (d z); empty = λ z. absurd (d z); refused = λ z. refl }
 
 pub opening-done :
     (b : List ℕ) (o : Opening (List ℕ)) (n : ℕ) {r : Deduction} {one two three four after : List ℕ} →
@@ -183,6 +188,7 @@ opening-done b o n {after = after} e z p q u is t s =
     let k = o .k in
     let xs = o .catalog in
     let rule = o .rule in
+    let split = splitOf (deductionOf rule) in
     let ranges = right e z in
     let so : Stands after (openedOf k (deductionOf rule) xs) =
     stands-as (stands-on (λ d v. enteredOf d xs v) s (stands-on withRule t (stands-on withCount u (stands-on withCapacity q p)))) (ap (λ (d : Deduction). openedOf k d xs) is)
@@ -190,8 +196,38 @@ opening-done b o n {after = after} e z p q u is t s =
     let stood = stands-become so (opened-becomes k (deductionOf rule) xs (omega (arith, ranges .lengths .few))) in
     record {
       answer = sym z ∙ e;
-      valid = λ w. becomes-valid (ok-starts (openingIn o) (ranges .accepted)) stood;
-      stands = λ w. stood .cache .stands;
+      valid =
+          λ w.
+          becomes-valid (opening-ok split k (catalogIn xs) (ranges .accepted .ranges .catalog))
+          (subst StandingOk (sym (opening-stands split k (catalogIn xs))) (ok-starts (openingIn o) (ranges .accepted))) stood;
+      stands = λ w. ap standing (stood .cache .stands) ∙ opening-stands split k (catalogIn xs);
+      lazy = λ w. stood .cache .stands;
       empty = λ w i l. subst (λ (c : Cache). EmptyPlace c i) (sym (so .cache)) (empty-place k (length xs / 5) _ _ _ false (deductionOf rule) i l);
       refused = λ w. absurd (w refl);
     }
+
+-- An opening leaves no choice: one answer, and one list of bytes, since a heap of nothing has one arrangement.
+pub opening-one :
+    (b d e : List ℕ) (o : Opening (List ℕ)) (n m : ℕ) →
+    Below 256 d →
+    Below 256 e →
+    OpenedLent b o n d →
+    OpenedLent b o m e →
+    (n ≡ m) × (d ≡ e)
+opening-one b d e o n m hd he p q = (same, go (ℕ-discrete n 0))
+  where
+    same : n ≡ m
+    same = p .answer ∙ sym (q .answer)
+
+    becomes : (x : List ℕ) → ValidBytes x → lazy (cacheOf x) ≡ lazyStartsAt (openingIn o) → BecomesAt (lazyStartsAt (openingIn o)) x
+    becomes x ok is = record { reads = valid-reads ok; cache = record { stands = is; fields = ok .cache .fields } }
+
+    unheld : (x : List ℕ) → ValidBytes x → ((i : ℕ) → i < 256 → EmptyPlace (cacheOf x) i) → cacheOf x .heap ≡ replicate 256 0
+    unheld x ok empty = empty-heap (cacheOf x) (ok .cache .fields) (λ i u. empty i u .held) (whole x .heap)
+
+    go : Dec (n ≡ 0) → d ≡ e
+    go (yes z) =
+        let y : m ≡ 0 = sym same ∙ z in
+        becomes-one (lazyStartsAt (openingIn o)) d e hd he (becomes d (p .valid z) (p .lazy z)) (becomes e (q .valid y) (q .lazy y))
+        (unheld d (p .valid z) (p .empty z) ∙ sym (unheld e (q .valid y) (q .empty y)))
+    go (no z) = p .refused z ∙ sym (q .refused (λ y. z (same ∙ y)))

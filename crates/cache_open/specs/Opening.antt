@@ -4,7 +4,8 @@ use Prim.Native.Nat.{ℕ, _%_, _<_}
 use lib.{Dec.{eqb, leb}, ListN.length}
 use Rattle.landlord.specs.{Catalog.Catalog, Calls.{Opening, openingRefusal, startsAt}}
 use Rattle.catalog_bytes.specs.Catalogs.{catalogIn}
-use Rattle.cache_state.specs.Cache.{view, EmptyPlace}
+use Rattle.queue.specs.Machine.{lazyStartsAt}
+use Rattle.cache_state.specs.Cache.{lazy, view, EmptyPlace}
 use Rattle.layout.specs.Layout.{stateBytes, cacheOf, ValidBytes}
 
 -- the opening that is asked for where the catalog is bytes
@@ -22,6 +23,8 @@ pub record OpenedLent (b : List ℕ) (o : Opening (List ℕ)) (number : ℕ) (d 
   pub answer : number ≡ openingNumber (length b) o
   pub valid : number ≡ 0 → ValidBytes d
   pub stands : number ≡ 0 → view (cacheOf d) ≡ startsAt (openingIn o)
+  -- the queue: level 0, and no key
+  pub lazy : number ≡ 0 → lazy (cacheOf d) ≡ lazyStartsAt (openingIn o)
   -- "It has 256 places, one for each sail number, empty at opening"
   pub empty : number ≡ 0 → (i : ℕ) → i < 256 → EmptyPlace (cacheOf d) i
   pub refused : number ≢ 0 → d ≡ b

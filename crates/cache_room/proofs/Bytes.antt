@@ -1,116 +1,42 @@
--- The laws of an eviction for the bytes that it is made on: which cache they are after each store. Assumes nothing.
-use mathlib.Core.Path.{_≡_, sym, ap, subst, _∙_}
-use mathlib.Core.Bool.{Bool, true, false}
-use mathlib.Core.List.{List}
-use Prim.Native.Nat.{ℕ, _+_, _*_, _-_, _/_, _≤_, _<_}
-use native.Mathlib.Nat.{le-refl}
+-- What the functions of this crate store, as the cache that the bytes are then. Assumes nothing.
+use mathlib.Core.Path.{_≡_, refl, sym, ap, subst, _∙_}
+use mathlib.Core.Logic.{_≢_}
+use mathlib.Core.Bool.{Bool, true, false, cond, false≢true}
+use mathlib.Core.List.{List, [], _∷_}
+use Prim.Native.Nat.{ℕ, _+_, _-_, _≤_, _<_}
+use native.Mathlib.Decide.{decLt}
 use native.Mathlib.Omega.{arith}
-use lib.ListN.{getD, set}
-use Rattle.types.specs.declared.Deduction.{Deduction}
-use Rattle.landlord.specs.Slot.{splitOf}
-use Rattle.landlord.specs.Rule.{size, victim, evict}
-use Rattle.landlord.specs.Figures.{moved}
-use Rattle.landlord.specs.Claims.{Least}
-use Rattle.landlord.proofs.Keeps.{victim-least, least-rank, bears-rank}
+use lib.ListN.{length, getD, set, List·getD-eq-default}
+use Rattle.landlord.specs.Fold.{fold}
+use Rattle.landlord.specs.Slot.{held, isDirty}
+use Rattle.landlord.specs.Rule.{evicted, size, heldCount}
+use Rattle.landlord.specs.Figures.{Use}
+use Rattle.landlord.specs.Valid.{StandingOk}
+use Rattle.landlord.proofs.Sums.{sum-longer}
+use Rattle.landlord.proofs.Valid.{line-writebacks}
 use Rattle.marks.specs.Inner.{marks}
-use Rattle.cache_state.specs.Cache.{Cache, dirtyAt, view, Normal, Valid}
-use Rattle.cache_state.specs.InnerView.{stateOf}
-use Rattle.cache_state.specs.InnerWith.{withHeld, withLoadCredit, withWriteCredit, withDirty, withEvictions, withDirtyEvictions}
-use Rattle.cache_state.proofs.Views.{size-is, blocks-is, held-is}
+use Rattle.queue.specs.Queue.{Queue, storedAt, removed, dropped, First}
+use Rattle.queue.specs.Machine.{LazyStanding, standing, movedIn, victimIn, evictIn}
+use Rattle.queue.proofs.Logs.{first-is, first-only}
+use Rattle.heap.specs.Heap.{heapOf, placeOf}
+use Rattle.heap.specs.InnerMoves.{Removed}
+use Rattle.heap.proofs.Uses.{root-key, root-number, root-member}
+use Rattle.cache_state.specs.Cache.{Cache, dirtyAt, heldAt, heldItems, heapAt, catalogOf, slotsOf, keysOf, usesOf, lazy, view, Normal, Valid}
+use Rattle.cache_state.specs.InnerView.{queueOf, stateOf}
+use Rattle.cache_state.specs.InnerBecomes.{Becomes}
+use Rattle.cache_state.specs.InnerWith.{withHeld, withLoadCredit, withWriteCredit, withDirty, withEvictions, withDirtyEvictions, withLevel, withKey, withUsed, withArrangement}
+use Rattle.cache_state.proofs.Views.{size-is, use-is, key-is, count-is, stored-held}
+use Rattle.cache_state.proofs.Stored.{dirty-here}
+use Rattle.cache_state.proofs.Normals.{level-normal}
 use Rattle.layout.specs.Layout.{cacheOf}
-use Rattle.layout.specs.Inner.{Stands, Readable, ValidAt, BecomesAt}
+use Rattle.layout.specs.Inner.{Stands, BecomesAt}
 use Rattle.layout.proofs.Rounds.{whole}
 use Rattle.layout.proofs.Places.{readable, stands-as, valid-reads}
+use Rattle.cache_heap.specs.Inner.{FilledAt, RemovedAt}
 use Rattle.cache_counts.specs.Inner.{writebackCounted, Payable, PayableAt}
-use Rattle.cache_room.specs.Inner.{mostCredit, Ranked, lossAt, borneAt, loadLeft, writeLeft, chargedOf, droppedOf, countedOf, ChargeableAt, DroppedAt, CountableAt, CrowdedAt}
-use Rattle.basis.proofs.Stores.{store-past}
-use Rattle.cache_room.proofs.Views.{rankOf, load-is, write-is, rank-is, ranked, rank-bound, Choosing, Turn}
-use Rattle.cache_room.proofs.Stores.{EvictionSizes, Borne, split-borne, charge-starts, charge-more, charge-skip}
-use Rattle.cache_room.proofs.Evicts.{Leaving, victim-known, countable, evict-becomes}
-
--- ---- the search: an item that is held, with its rank from what is read
-
-pub turn-at :
-    (b : List ℕ) (n : ℕ) {best least i load write blocks here : ℕ} {h : Bool} →
-    ValidAt b n →
-    Choosing (cacheOf b) best least i →
-    i < n →
-    h ≡ getD (cacheOf b .held) i false →
-    h ≡ true →
-    load ≡ getD (cacheOf b .loadcredit) i 0 →
-    write ≡ getD (cacheOf b .writecredit) i 0 →
-    blocks ≡ getD (cacheOf b .blocks) i 0 →
-    here ≡ (load + write) / blocks →
-    Turn (cacheOf b) best least i here
-turn-at b n ok so l eh h el ew eb is =
-    record {
-      fields = ok .valid .cache .fields;
-      soFar = so;
-      below = omega (arith, ok .count);
-      isHeld = sym eh ∙ h;
-      is = is ∙ (λ z. (el z + ew z) / eb z);
-    }
-
--- ---- the charge: the items below i are charged
-
-pub charge-begun : {b : List ℕ} (m : ℕ) → Readable b → Stands b (chargedOf (cacheOf b) m 0)
-charge-begun {b} m s = stands-as s (charge-starts (cacheOf b) m)
-
--- one item more: its numbers are read before they are stored, so they are those that came in; t is what its write credit bears
-module _
-    (c : Cache) (m i : ℕ) (b : List ℕ) {rule : Deduction} {blocks write load t : ℕ} (s : Stands b (chargedOf c m i)) (er : rule ≡ c .rule)
-    (eb : blocks ≡ getD (cacheOf b .blocks) i 0) (ew : write ≡ getD (cacheOf b .writecredit) i 0) (el : load ≡ getD (cacheOf b .loadcredit) i 0)
-    (et : (s : ℕ) → t ≡ splitOf rule s (blocks * m) load write) where
-  b-is : blocks ≡ getD (c .blocks) i 0
-  b-is = eb ∙ ap (λ (q : Cache). getD (q .blocks) i 0) (s .cache)
-
-  w-is : write ≡ getD (c .writecredit) i 0
-  w-is = ew ∙ ap (λ (q : Cache). getD (q .writecredit) i 0) (s .cache) ∙ store-past i (writeLeft c m) (c .writecredit) i (le-refl i)
-
-  l-is : load ≡ getD (c .loadcredit) i 0
-  l-is = el ∙ ap (λ (q : Cache). getD (q .loadcredit) i 0) (s .cache) ∙ store-past i (loadLeft c m) (c .loadcredit) i (le-refl i)
-
-  t-is : t ≡ borneAt c m i
-  t-is = et blocks ∙ (λ j. splitOf (er j) (b-is j) (b-is j * m) (l-is j) (w-is j))
-
-  -- a held item can bear it
-  pub charge-fits :
-      {h : Bool} →
-      h ≡ getD (cacheOf b .held) i false →
-      h ≡ true →
-      (getD (c .held) i false ≡ true → lossAt c m i ≤ getD (c .loadcredit) i 0 + getD (c .writecredit) i 0) →
-      Borne (blocks * m) load write t
-  charge-fits eh is bears =
-      let own : getD (c .held) i false ≡ true = sym (ap (λ (q : Cache). getD (q .held) i false) (s .cache)) ∙ sym eh ∙ is in
-      subst (Borne (blocks * m) load write) (sym (et 0)) (split-borne rule 0 (blocks * m) load write (rw (b-is, l-is, w-is) (bears own)))
-
-  pub charge-stored :
-      (b1 b2 : List ℕ) {x y z : ℕ} →
-      x ≡ write - t →
-      y ≡ blocks * m - t →
-      z ≡ load - y →
-      Stands b1 (withWriteCredit (cacheOf b) i x) →
-      Stands b2 (withLoadCredit (cacheOf b1) i z) →
-      Stands b2 (chargedOf c m (i + 1))
-  charge-stored b1 b2 {x} {y} {z} ex ey ez s1 s2 =
-      stands-as s2 (ap (λ (q : Cache). withLoadCredit q i z) (s1 .cache) ∙ charge-more c (cacheOf b) m i (s .cache) is-load is-write)
-    where
-      is-write : x ≡ writeLeft c m i
-      is-write = ex ∙ (λ j. w-is j - t-is j)
-
-      is-load : z ≡ loadLeft c m i
-      is-load = ez ∙ ap (λ (v : ℕ). load - v) ey ∙ (λ j. l-is j - (b-is j * m - t-is j))
-
--- one item more that is not held
-pub charge-passed :
-    (c : Cache) (m i : ℕ) {b : List ℕ} →
-    Normal c →
-    i < c .n →
-    Stands b (chargedOf c m i) →
-    getD (cacheOf b .held) i false ≡ false →
-    Stands b (chargedOf c m (i + 1))
-charge-passed c m i ok l s h =
-    stands-as s (charge-skip c m i (ok .absent i l (sym (ap (λ (q : Cache). getD (q .held) i false) (s .cache)) ∙ h)))
+use Rattle.cache_room.specs.Inner.{requeued, droppedOf, goneOf, countedOf, DroppedAt, CountableAt, HoldsAt, LetGoAt, CrowdedAt}
+use Rattle.cache_room.proofs.Gone.{RoomSizes, gone-becomes, used-enough, heap-filled}
+use Rattle.cache_room.proofs.Counts.{counted-normal, counted-lazy}
 
 -- ---- the drop and the count
 
@@ -180,66 +106,240 @@ pub counted-clean :
 counted-clean b after v ee s was =
     stands-as s (ap (λ (x : ℕ). withEvictions (cacheOf b) (x + 1)) ee ∙ ap (countedOf (cacheOf b) v) (sym was))
 
--- ---- the eviction of the victim v, of rank m
+-- ---- an item that goes
 
-module _ (b : List ℕ) (n : ℕ) {v : ℕ} (p : CrowdedAt b n) (is : v ≡ victim (stateOf (cacheOf b))) where
-  known : v < cacheOf b .n
-  known = victim-known (cacheOf b) (p .some) is
+room-sizes : (b : List ℕ) → RoomSizes (cacheOf b)
+room-sizes b = record { held = whole b .held; load = whole b .loadcredit; write = whole b .writecredit; keys = whole b .keys }
 
-  pub victim-place : v < 256
-  victim-place = omega (arith, known, p .valid .valid .cache .fields .few)
+module _ (b : List ℕ) (v : ℕ) (p : HoldsAt b v) where
+  pub holds-place : v < 256
+  holds-place = omega (arith, p .known, p .fields .few)
 
-  pub victim-ranked : Ranked (getD (cacheOf b .loadcredit) v 0) (getD (cacheOf b .writecredit) v 0) (getD (cacheOf b .blocks) v 0)
-  victim-ranked = ranked (cacheOf b) (p .valid .valid .cache) v known
-
-  -- no item has a lower rank, so each that is held can bear the victim's
-  victim-bears : (i : ℕ) → i < n → getD (cacheOf b .held) i false ≡ true → lossAt (cacheOf b) (rankOf (cacheOf b) v) i ≤ getD (cacheOf b .loadcredit) i 0 + getD (cacheOf b .writecredit) i 0
-  victim-bears i l h =
-      let q : Cache = cacheOf b in
-      let ok : Valid q = p .valid .valid .cache in
-      let m : i < q .n = omega (arith, p .valid .count) in
-      let k : i < size (stateOf q) = omega (arith, size-is q) in
-      let low : Least (stateOf q) (victim (stateOf q)) = victim-least (stateOf q) (p .some) in
-      rw (← rank-is q (ok .fields) v known, ← load-is q (ok .fields) i m, ← write-is q (ok .fields) i m, ← blocks-is q i m, is)
-      (bears-rank (q .k) (stateOf q) (victim (stateOf q)) i (ok .standing .kept) k (least-rank low i k (held-is q i m ∙ h)))
-
-  pub chargeable : {m : ℕ} → m ≡ rankOf (cacheOf b) v → ChargeableAt b n m
-  chargeable e =
+  pub holds-filled : (n at : ℕ) → n ≡ heldItems (cacheOf b) → at ≡ getD (cacheOf b .places) v 0 → FilledAt b n at
+  holds-filled n at e f =
       record {
-        reads = valid-reads (p .valid .valid);
-        count = p .valid .count;
-        fields = p .valid .valid .cache .fields;
-        rank = rw e (rank-bound (cacheOf b) (p .valid .valid .cache) v known);
-        bears = λ i l h. rw e (victim-bears i l h);
+        reads = p .counted .reads;
+        filled = rw f (heap-filled (cacheOf b) v n (p .fields) (p .known) (p .isHeld) e);
       }
 
-  -- what the eviction leaves when the others are charged, and then when v is dropped
-  module _ (m : ℕ) (b1 b2 : List ℕ) (s1 : Stands b1 (chargedOf (cacheOf b) m n)) (s2 : DroppedAt b1 v b2) where
-    leaves : Leaving (cacheOf b) v m (cacheOf b1) (cacheOf b2)
-    leaves = record { charge = s1 .cache ∙ ap (chargedOf (cacheOf b) m) (p .valid .count); drop = s2 .cache }
+  pub holds-used : getD (cacheOf b .blocks) v 0 ≤ cacheOf b .used
+  holds-used = used-enough (cacheOf b) v (p .fields) (p .known) (p .isHeld)
 
-    pub countable-at : CountableAt b2 v
-    countable-at = record { reads = s2 .reads; counts = countable (cacheOf b) (cacheOf b1) (cacheOf b2) (p .valid .valid .cache) known leaves }
+  pub let-go-at :
+      (b1 b2 b3 next : List ℕ) (n at used blocks : ℕ) →
+      n ≡ heldItems (cacheOf b) →
+      at ≡ getD (cacheOf b .places) v 0 →
+      used ≡ cacheOf b .used →
+      blocks ≡ getD (cacheOf b .blocks) v 0 →
+      RemovedAt b n at b1 →
+      Stands b2 (withUsed (cacheOf b1) (used - blocks)) →
+      Stands b3 (withKey (cacheOf b2) v 0) →
+      DroppedAt b3 v next →
+      LetGoAt b v next
+  let-go-at b1 b2 b3 next n at used blocks en ea eu eb s1 s2 s3 s4 =
+      record { reads = s4 .reads; cache = record { fields = fields; becomes = subst (Becomes (requeued (lazy c) (removed (queueOf c) v))) (sym fields) whole-becomes } }
+    where
+      c : Cache
+      c = cacheOf b
 
-    pub evicted-at :
-        {d : Bool} (after : List ℕ) →
-        m ≡ rankOf (cacheOf b) v →
-        d ≡ dirtyAt (cacheOf b) v →
-        Stands after (countedOf (cacheOf b2) v d) →
-        BecomesAt (moved (view (cacheOf b)) (evict (splitOf (cacheOf b .rule)) (stateOf (cacheOf b))) (cacheOf b .closed)) after
-    evicted-at after worth was s3 =
-        record {
-          reads = readable s3;
-          cache =
-              evict-becomes (cacheOf b) (cacheOf b1) (cacheOf b2) (cacheOf after) sizes (p .valid .valid .cache .fields) (p .some) is worth was leaves
-              (s3 .cache);
-        }
-      where
-        sizes : EvictionSizes (cacheOf b)
-        sizes =
+      hs : List ℕ
+      hs = cacheOf b1 .heap
+
+      ps : List ℕ
+      ps = cacheOf b1 .places
+
+      three : cacheOf b3 ≡ withKey (withUsed (withArrangement c hs ps) (c .used - getD (c .blocks) v 0)) v 0
+      three =
+          s3 .cache
+          ∙ ap (λ (q : Cache). withKey q v 0) (s2 .cache ∙ (λ z. withUsed (s1 .only .rest z) (eu z - eb z)))
+
+      all : cacheOf next ≡ goneOf c v (cacheOf next .dirty) hs ps
+      all = s4 .cache .fields ∙ ap (λ (q : Cache). droppedOf q v (cacheOf next .dirty)) three
+
+      fields : cacheOf next ≡ goneOf c v (cacheOf next .dirty) (cacheOf next .heap) (cacheOf next .places)
+      fields =
+          all
+          ∙ (λ z. goneOf c v (cacheOf next .dirty) (sym (ap (λ (q : Cache). q .heap) all) z) (sym (ap (λ (q : Cache). q .places) all) z))
+
+      un : marks (cacheOf next .dirty) ≡ set (marks (c .dirty)) v false
+      un = s4 .cache .unmarked ∙ ap (λ (q : Cache). set (marks (q .dirty)) v false) three
+
+      rem : Removed (c .keys) (heapAt c) (placeOf (heapAt c) v) (heapOf (cacheOf next .heap) (cacheOf next .places) (heldItems c - 1))
+      rem =
+          rw (ap (λ (q : Cache). q .heap) all, ap (λ (q : Cache). q .places) all)
+          (rw (en, ea) at (s1 .removed))
+
+      whole-becomes : Becomes (requeued (lazy c) (removed (queueOf c) v)) (goneOf c v (cacheOf next .dirty) (cacheOf next .heap) (cacheOf next .places))
+      whole-becomes =
+          gone-becomes c v (cacheOf next .dirty) (cacheOf next .heap) (cacheOf next .places) (room-sizes b) (p .fields) (p .known) (p .isHeld) un rem
+
+-- ---- the eviction
+
+-- only items of the catalog are held
+held-known : (c : Cache) (i : ℕ) → length (c .held) ≡ 256 → Normal c → heldAt c i ≡ true → i < c .n
+held-known c i e ok h = go (decLt i (c .n)) (decLt i 256)
+  where
+    go : Dec (i < c .n) → Dec (i < 256) → i < c .n
+    go (yes l) d = l
+    go (no l) (yes b) = absurd (false≢true (sym (ok .past i (omega arith) b .place .held) ∙ h))
+    go (no l) (no b) = absurd (false≢true (sym (List·getD-eq-default (c .held) false (omega arith)) ∙ h))
+
+-- as many items are held as the rule says
+held-items : (c : Cache) → Normal c → heldCount (stateOf c) ≡ heldItems c
+unfolding heldItems
+held-items c ok =
+    count-is c
+    ∙ sym (sum-longer (c .n) 256 (λ i. cond (heldAt c i) 1 0) (λ i. cond (heldAt c i) 1 0) (ok .few) (λ i l. refl)
+    (λ i l b. ap (λ (t : Bool). cond t 1 0) (ok .past i l b .place .held)))
+
+module _ (b : List ℕ) (p : CrowdedAt b) where
+  c : Cache
+  c = cacheOf b
+
+  ok : Valid (cacheOf b)
+  ok = p .valid .cache
+
+  -- the root of the heap is held
+  root-held : {v : ℕ} → v ≡ getD (cacheOf b .heap) 0 0 → heldAt (cacheOf b) v ≡ true
+  root-held e =
+      let f : First (queueOf (cacheOf b)) (victimIn (queueOf (cacheOf b))) = first-is (queueOf (cacheOf b)) (p .some) in
+      let l : victimIn (queueOf (cacheOf b)) < cacheOf b .n = omega (arith, f .below, size-is (cacheOf b)) in
+      ap (heldAt (cacheOf b)) e
+      ∙ root-member (cacheOf b .keys) (heldAt (cacheOf b)) (heapAt (cacheOf b)) (ok .fields .heap) (ok .fields .order) (victimIn (queueOf (cacheOf b)))
+      (omega (arith, ok .fields .few)) (sym (stored-held (cacheOf b) (victimIn (queueOf (cacheOf b))) l) ∙ f .isHeld)
+
+  pub root-known : {v : ℕ} → v ≡ getD (cacheOf b .heap) 0 0 → v < cacheOf b .n
+  root-known e = held-known (cacheOf b) _ (whole b .held) (ok .fields) (root-held e)
+
+  -- and it is the one that goes
+  pub root-first : {v : ℕ} → v ≡ getD (cacheOf b .heap) 0 0 → victimIn (queueOf (cacheOf b)) ≡ v
+  root-first {v} e = first-only (queueOf (cacheOf b)) v first
+    where
+      q : Cache
+      q = cacheOf b
+
+      known : v < q .n
+      known = root-known e
+
+      small : getD (q .heap) 0 0 < 256
+      small = omega (arith, known, ok .fields .few)
+
+      member : (i : ℕ) → i < q .n → held (storedAt (queueOf q) i) ≡ true → heldAt q i ≡ true
+      member i l h = sym (stored-held q i l) ∙ h
+
+      first : First (queueOf q) v
+      first =
+          record {
+            below = omega (arith, known, size-is q);
+            isHeld = stored-held q v known ∙ root-held e;
+            least =
+                λ i l h.
+                let m : i < q .n = omega (arith, size-is q) in
+                rw (key-is q v known, key-is q i m, e)
+                (root-key (q .keys) (heldAt q) (heapAt q) (ok .fields .heap) (ok .fields .order) i (omega (arith, ok .fields .few)) small (member i m h));
+            first =
+                λ i l h.
+                let m : i < q .n = omega (arith, known) in
+                rw (key-is q v known, key-is q i m, e)
+                (root-number (q .keys) (heldAt q) (heapAt q) (ok .fields .heap) (ok .fields .order) i (omega (arith, e)) small (member i m h));
+          }
+
+  pub crowded-holds : {v : ℕ} → v ≡ getD (cacheOf b .heap) 0 0 → HoldsAt b v
+  crowded-holds e =
+      record {
+        counted = record { reads = valid-reads (p .valid); count = omega (arith, ok .standing .evictions, held-items (cacheOf b) (ok .fields)) };
+        fields = ok .fields;
+        known = root-known e;
+        isHeld = root-held e;
+      }
+
+-- a cache on another level
+abbrev leveled : Queue → ℕ → Queue
+leveled q x = record { catalog = q .catalog; slots = q .slots; keys = q .keys; level = x }
+
+level-lazy : (e : Cache) (w : LazyStanding) (x : ℕ) → lazy e ≡ w → lazy (withLevel e x) ≡ requeued w (leveled (w .queue) x)
+unfolding catalogOf slotsOf keysOf usesOf
+level-lazy e w x is = ap (λ (u : LazyStanding). requeued u (leveled (u .queue) x)) is
+
+-- the whole: item v, which goes first, is let go, the level rises to its key, and that is counted
+module _ (b b1 b2 : List ℕ) (p : CrowdedAt b) {v key : ℕ} {d : Bool} (is : v ≡ getD (cacheOf b .heap) 0 0) (ek : key ≡ getD (cacheOf b .keys) v 0) (ed : d ≡ dirtyAt (cacheOf b) v) (s1 : LetGoAt b v b1) (s2 : Stands b2 (withLevel (cacheOf b1) key)) where
+  known : v < cacheOf b .n
+  known = root-known b p is
+
+  -- the counts are those of before
+  two : cacheOf b2 ≡ withLevel (goneOf (cacheOf b) v (cacheOf b1 .dirty) (cacheOf b1 .heap) (cacheOf b1 .places)) key
+  two = s2 .cache ∙ ap (λ (q : Cache). withLevel q key) (s1 .cache .fields)
+
+  pub evict-countable : CountableAt b2 v
+  evict-countable =
+      record {
+        reads = readable s2;
+        counts =
             record {
-              held = whole b .held;
-              load = whole b .loadcredit;
-              write = whole b .writecredit;
-              writebacks = whole b .itemwritebacks;
-            }
+              evictions = omega (arith, ap (λ (q : Cache). q .evictions) two, r .steps, r .taken, r .evictions);
+              dirtyEvictions = omega (arith, ap (λ (q : Cache). q .dirtyevictions) two, r .steps, r .taken, r .evictions, r .dirtyEvictions);
+              writeback =
+                  record {
+                    place = omega (arith, known, ok b p .fields .few);
+                    total = omega (arith, ap (λ (q : Cache). q .writebacks) two, r .taken, r .writebacks);
+                    own =
+                        let l : v < size (stateOf (cacheOf b)) = rw size-is known in
+                        omega (
+                          arith,
+                          ap (λ (q : Cache). getD (q .itemwritebacks) v 0) two,
+                          r .taken,
+                          r .writebacks,
+                          line-writebacks (view (cacheOf b)) v r l,
+                          ap (λ (u : Use). u .writebacks) (use-is (cacheOf b) v known),
+                        );
+                    cost = omega (arith, ap (λ (q : Cache). q .writecost) two, r .taken, r .writebacks, r .writeCost);
+                  };
+            };
+      }
+    where
+      r : StandingOk (view (cacheOf b))
+      r = ok b p .standing
+
+  pub evicted-at :
+      (next : List ℕ) →
+      Stands next (countedOf (cacheOf b2) v d) →
+      BecomesAt (movedIn (lazy (cacheOf b)) (evictIn (queueOf (cacheOf b))) (cacheOf b .closed)) next
+  unfolding fold
+  evicted-at next s3 =
+      record {
+        reads = readable s3;
+        cache =
+            subst (Becomes (movedIn (lazy c₀) (evictIn (queueOf c₀)) (c₀ .closed))) (sym (s3 .cache))
+            (record { stands = stands; fields = counted-normal e v (whole b2 .itemwritebacks) fields l d });
+      }
+    where
+      c₀ : Cache
+      c₀ = cacheOf b
+
+      e : Cache
+      e = cacheOf b2
+
+      fields : Normal e
+      fields = subst Normal (sym (s2 .cache)) (level-normal (cacheOf b1) key (s1 .cache .becomes .fields))
+
+      l : v < e .n
+      l = subst (λ (k : ℕ). v < k) (sym (ap (λ (q : Cache). q .n) two)) known
+
+      -- where it stands before the eviction is counted
+      before : lazy e ≡ requeued (lazy c₀) (dropped (queueOf c₀) v)
+      before =
+          ap lazy (s2 .cache)
+          ∙ level-lazy (cacheOf b1) (requeued (lazy c₀) (removed (queueOf c₀) v)) key (s1 .cache .becomes .stands)
+          ∙ ap (λ (x : ℕ). requeued (lazy c₀) (leveled (removed (queueOf c₀) v) x)) (ek ∙ sym (key-is c₀ v known))
+
+      counts : lazy (countedOf e v d) ≡ movedIn (lazy e) (record { queue = lazy e .queue; events = evicted v d ∷ [] }) (e .closed)
+      counts = counted-lazy e v (whole b2 .itemwritebacks) fields l d
+
+      stands : lazy (countedOf e v d) ≡ movedIn (lazy c₀) (evictIn (queueOf c₀)) (c₀ .closed)
+      stands =
+          counts
+          ∙ ap (λ (u : LazyStanding). movedIn u (record { queue = u .queue; events = evicted v d ∷ [] }) (u .closed)) before
+          ∙ ap (λ (t : Bool). movedIn (lazy c₀) (record { queue = dropped (queueOf c₀) v; events = evicted v t ∷ [] }) (c₀ .closed))
+          (ed ∙ sym (dirty-here c₀ (ok b p .fields) v known))
+          ∙ ap (λ (w : ℕ). movedIn (lazy c₀) (record { queue = dropped (queueOf c₀) w; events = evicted w (isDirty (storedAt (queueOf c₀) w)) ∷ [] }) (c₀ .closed))
+          (sym (root-first b p is))

@@ -1,6 +1,6 @@
-pub mod Laws
-pub mod Views
-pub mod Stores
-pub mod Evicts
-pub mod Rooms
+pub mod Gone
+pub mod Counts
 pub mod Bytes
+pub mod Rooms
+pub mod Rekeys
+pub mod Reckons

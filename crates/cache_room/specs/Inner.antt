@@ -1,43 +1,17 @@
 -- What the functions of this crate ask for, and the caches that they hand back, field by field. Assumes nothing.
 use mathlib.Core.{Path._≡_, Bool.{Bool, true, false}, List.List}
-use Prim.Native.Nat.{ℕ, _+_, _*_, _-_, _≤_, _<_}
+use Prim.Native.Nat.{ℕ, _+_, _-_, _≤_, _<_, _^_}
 use lib.ListN.{getD, set}
-use Rattle.landlord.specs.{Catalog.full, Slot.splitOf, Rule.used}
 use Rattle.marks.specs.Inner.{marks}
-use Rattle.cache_state.specs.{Cache.{Cache, Normal}, InnerView.stateOf}
-use Rattle.layout.specs.{Layout.{cacheOf, ValidBytes}, Inner.{Readable, ValidAt}}
+use Rattle.queue.specs.{Queue.{Queue, removed, reckoned}, Machine.{LazyStanding, usedIn}}
+use Rattle.cache_state.specs.{Cache.{Cache, Normal, lazy, heldAt, dirtyAt, heldItems}, InnerView.{queueOf, slotFrom}, InnerBecomes.Becomes}
+use Rattle.layout.specs.{Layout.{cacheOf, ValidBytes}, Inner.Readable}
 use Rattle.cache_counts.specs.Inner.{writebackCounted, Payable}
-use Rattle.basis.specs.InnerStores.{storeTo}
-use Rattle.cache_state.specs.InnerWith.{withSlots, withEvictions, withDirtyEvictions}
+use Rattle.cache_state.specs.InnerWith.{withSlots, withEvictions, withDirtyEvictions, withQueue, withArrangement, withKey}
 
--- no credit is greater than this
-abbrev pub mostCredit : ℕ
-mostCredit = full 65535
-
--- credits and blocks of which a rank can be told
-pub record Ranked (a b blocks : ℕ) : Type 0 where
-  pub some : 1 ≤ blocks
-  pub load : a ≤ mostCredit
-  pub write : b ≤ mostCredit
-
--- what item i loses where each block loses m
-abbrev pub lossAt : Cache → ℕ → ℕ → ℕ
-lossAt c m i = getD (c .blocks) i 0 * m
-
--- the part of it that the write credit bears
-abbrev pub borneAt : Cache → ℕ → ℕ → ℕ
-borneAt c m i = splitOf (c .rule) (getD (c .blocks) i 0) (lossAt c m i) (getD (c .loadcredit) i 0) (getD (c .writecredit) i 0)
-
--- its credits after that: the load credit bears the rest
-abbrev pub writeLeft : Cache → ℕ → ℕ → ℕ
-writeLeft c m i = getD (c .writecredit) i 0 - borneAt c m i
-
-abbrev pub loadLeft : Cache → ℕ → ℕ → ℕ
-loadLeft c m i = getD (c .loadcredit) i 0 - (lossAt c m i - borneAt c m i)
-
--- the items below n have lost m for each block
-abbrev pub chargedOf : Cache → ℕ → ℕ → Cache
-chargedOf c m n = withSlots c (c .held) (storeTo n (loadLeft c m) (c .loadcredit)) (storeTo n (writeLeft c m) (c .writecredit)) (c .dirty)
+-- where the lazy form stands, with another queue
+abbrev pub requeued : LazyStanding → Queue → LazyStanding
+requeued v q = record { k = v .k; queue = q; figures = v .figures; closed = v .closed; split = v .split }
 
 -- item v is dropped; d are the words of the dirty marks
 abbrev pub droppedOf : Cache → ℕ → List ℕ → Cache
@@ -46,6 +20,10 @@ droppedOf c v d = withSlots c (set (c .held) v false) (set (c .loadcredit) v 0) 
 pub record Dropped (c : Cache) (v : ℕ) (r : Cache) : Type 0 where
   pub fields : r ≡ droppedOf c v (r .dirty)
   pub unmarked : marks (r .dirty) ≡ set (marks (c .dirty)) v false
+
+-- item v is gone: from the heap, of which hs and ps are the arrangement then, and from its slot
+abbrev pub goneOf : Cache → ℕ → List ℕ → List ℕ → List ℕ → Cache
+goneOf c v d hs ps = droppedOf (withQueue c (c .level) (set (c .keys) v 0) hs ps (c .used - getD (c .blocks) v 0)) v d
 
 -- the eviction of item v is counted, and if it was dirty its writeback
 abbrev pub countedOf : Cache → ℕ → Bool → Cache
@@ -60,15 +38,10 @@ pub record Countable (c : Cache) (v : ℕ) : Type 0 where
 
 -- ---- of the bytes of a state
 
--- bytes of n items that can be charged: what is not held has no credit, a rank is at most the two credits, and what is held can bear it
-pub record ChargeableAt (b : List ℕ) (n m : ℕ) : Type 0 where
+-- bytes whose figures tell how many items are held
+pub record CountedHeld (b : List ℕ) : Type 0 where
   pub reads : Readable b
-  pub count : n ≡ cacheOf b .n
-  pub fields : Normal (cacheOf b)
-  pub rank : m ≤ mostCredit + mostCredit
-  pub bears :
-      (i : ℕ) → i < n → getD (cacheOf b .held) i false ≡ true →
-      lossAt (cacheOf b) m i ≤ getD (cacheOf b .loadcredit) i 0 + getD (cacheOf b .writecredit) i 0
+  pub count : cacheOf b .evictions + heldItems (cacheOf b) ≡ cacheOf b .loads
 
 -- item v is dropped
 pub record DroppedAt (b : List ℕ) (v : ℕ) (after : List ℕ) : Type 0 where
@@ -80,13 +53,51 @@ pub record CountableAt (b : List ℕ) (v : ℕ) : Type 0 where
   pub reads : Readable b
   pub counts : Countable (cacheOf b) v
 
--- valid bytes of n items of which something is held
-pub record CrowdedAt (b : List ℕ) (n : ℕ) : Type 0 where
-  pub valid : ValidAt b n
-  pub some : 1 ≤ used (stateOf (cacheOf b))
+-- tidy bytes that hold item v
+pub record HoldsAt (b : List ℕ) (v : ℕ) : Type 0 where
+  pub counted : CountedHeld b
+  pub fields : Normal (cacheOf b)
+  pub known : v < cacheOf b .n
+  pub isHeld : heldAt (cacheOf b) v ≡ true
+
+-- item v is gone, and nothing else has changed
+pub record LetGo (c : Cache) (v : ℕ) (r : Cache) : Type 0 where
+  pub fields : r ≡ goneOf c v (r .dirty) (r .heap) (r .places)
+  pub becomes : Becomes (requeued (lazy c) (removed (queueOf c) v)) r
+
+pub record LetGoAt (b : List ℕ) (v : ℕ) (next : List ℕ) : Type 0 where
+  pub reads : Readable next
+  pub cache : LetGo (cacheOf b) v (cacheOf next)
+
+-- valid bytes of which something is held
+pub record CrowdedAt (b : List ℕ) : Type 0 where
+  pub valid : ValidBytes b
+  pub some : 1 ≤ usedIn (queueOf (cacheOf b))
 
 -- valid bytes, and an item that such a cache can hold
 pub record WantedAt (b : List ℕ) (i : ℕ) : Type 0 where
   pub valid : ValidBytes b
   pub known : i < cacheOf b .n
   pub fits : getD (cacheOf b .blocks) i 0 ≤ cacheOf b .k
+
+-- a queue with another key of item i
+abbrev pub rekeyed : Queue → ℕ → ℕ → Queue
+rekeyed q i key = record { catalog = q .catalog; slots = q .slots; keys = set (q .keys) i key; level = q .level }
+
+-- the key of item i is another, the heap is in order, and nothing else has changed
+pub record RekeyedAt (b : List ℕ) (i key : ℕ) (next : List ℕ) : Type 0 where
+  pub reads : Readable next
+  pub fields : cacheOf next ≡ withArrangement (withKey (cacheOf b) i key) (cacheOf next .heap) (cacheOf next .places)
+  pub becomes : Becomes (requeued (lazy (cacheOf b)) (rekeyed (queueOf (cacheOf b)) i key)) (cacheOf next)
+
+-- tidy bytes that hold item i, and credits that it can have: a clean item has no write credit, and the key has room in its word
+pub record ReckonableAt (b : List ℕ) (i load write : ℕ) : Type 0 where
+  pub holds : HoldsAt b i
+  pub clean : dirtyAt (cacheOf b) i ≡ false → write ≡ 0
+  pub some : 1 ≤ getD (cacheOf b .blocks) i 0
+  pub fits : cacheOf b .level + (load + write) < 2 ^ 64
+
+-- the credits of item i are reckoned anew, and nothing else has changed
+pub record ReckonedAt (b : List ℕ) (i load write : ℕ) (next : List ℕ) : Type 0 where
+  pub reads : Readable next
+  pub becomes : Becomes (requeued (lazy (cacheOf b)) (reckoned (queueOf (cacheOf b)) i (slotFrom true (dirtyAt (cacheOf b) i) load write))) (cacheOf next)

@@ -1,70 +1,20 @@
-// Room for an item, in place on the state's bytes: the victim, its eviction, and evictions until the item fits.
+// Room for an item, in place on the state's bytes: the item of least key, its eviction, and evictions until the item fits.
 ghost use Prim.Native.Nat.{_+_, _-_, _/_, _<_};
 ghost use mathlib.Core.Path.{_≡_};
 ghost use lib.ListN.{getD};
-ghost use Rattle.landlord.specs.Slot.{splitOf};
-ghost use Rattle.landlord.specs.Rule.{victim, evict, makeRoom};
-ghost use Rattle.landlord.specs.Figures.{moved};
-ghost use Rattle.cache_state.specs.Cache.{view};
-ghost use Rattle.cache_state.specs.InnerView.{stateOf};
+ghost use Rattle.queue.specs.Machine.{movedIn, evictIn, makeRoomIn, victimIn};
+ghost use Rattle.cache_state.specs.Cache.{lazy, heldItems};
+ghost use Rattle.cache_state.specs.InnerView.{queueOf};
 ghost use Rattle.layout.specs.Layout.{cacheOf};
-ghost use Rattle.layout.specs.Inner.{Stands, Readable, ValidAt, BecomesAt};
-ghost use Rattle.cache_room.specs.Inner.{Ranked, ChargeableAt, DroppedAt, CountableAt, CrowdedAt, WantedAt, chargedOf, countedOf};
+ghost use Rattle.layout.specs.Inner.{Stands, Readable, BecomesAt};
+ghost use Rattle.cache_room.specs.Inner.{DroppedAt, CountableAt, CountedHeld, HoldsAt, LetGoAt, RekeyedAt, ReckonableAt, ReckonedAt, CrowdedAt, WantedAt, countedOf};
 
-// The credits of an item a block: what its place in the cache is still worth. Credits are multiples of the blocks, so nothing is
-// rounded.
-fn rank(load: u64, write: u64, blocks: u8) -> u64
-    requires { ⌜ Ranked load write blocks ⌝ }
-    ensures { λ r. ⌜ r ≡ (load + write) / blocks ⌝ }
+// How many items are held: what was loaded and not dropped.
+pub fn held_items(b: &[u8]) -> usize
+    requires { ⌜ CountedHeld (now b) ⌝ }
+    ensures { λ r. ⌜ r ≡ heldItems (cacheOf (now (b .entry))) ⌝ }
 {
-    (load + write) / (blocks as u64)
-}
-
-// The held item of least rank, the lowest number first; the count of items if none is held. An equal rank does not go before the best
-// so far, so that the lowest number stays.
-pub fn victim(b: &[u8], n: usize) -> usize
-    requires { ⌜ ValidAt (now b) n ⌝ }
-    ensures { λ r. ⌜ r ≡ victim (stateOf (cacheOf (now (b .entry)))) ⌝ }
-{
-    let mut best = n;
-    let mut least: u64 = 0;
-    let mut i = 0;
-    while i < n {
-        if layout::held(b, i) {
-            let here = rank(
-                layout::load_credit(b, i),
-                layout::write_credit(b, i),
-                layout::blocks(b, i),
-            );
-            if best == n || here < least {
-                best = i;
-                least = here;
-            }
-        }
-        i += 1;
-    }
-    best
-}
-
-// Each held item loses `rank` for each of its blocks, from its two credits as the cache's rule of deduction splits it. No rank is less, so
-// the two credits can bear it. An item that is not held has no credit to lose.
-fn charge(b: &mut [u8], n: usize, rank: u64)
-    requires { ⌜ ChargeableAt (now b) n rank ⌝ }
-    ensures { λ _. ⌜ Stands (now (b .exit)) (chargedOf (cacheOf (now (b .entry))) rank n) ⌝ }
-{
-    let rule = layout::rule(b);
-    let mut i = 0;
-    while i < n {
-        if layout::held(b, i) {
-            let loss = (layout::blocks(b, i) as u64) * rank;
-            let write = layout::write_credit(b, i);
-            let load = layout::load_credit(b, i);
-            let borne = landlord::split(rule, loss, load, write);
-            layout::put_write_credit(b, i, write - borne);
-            layout::put_load_credit(b, i, load - (loss - borne));
-        }
-        i += 1;
-    }
+    (layout::loads(b) - layout::evictions(b)) as usize
 }
 
 // Item `v` is dropped: its place is empty, clean and without credit.
@@ -94,40 +44,75 @@ pub fn count_eviction(b: &mut [u8], v: usize, dirty: bool)
     }
 }
 
-// Evicts the held item of least rank, at the cost of that rank to each block of the others, and answers how many blocks that frees.
-// Its own credits, which are its blocks × that rank, are used up by the same charge.
-pub fn evict(b: &mut [u8], n: usize) -> u8
-    requires { ⌜ CrowdedAt (now b) n ⌝ }
-    ensures { λ r. ⌜ r ≡ getD (cacheOf (now (b .entry)) .blocks) (victim (stateOf (cacheOf (now (b .entry))))) 0 ⌝ }
-    ensures { λ _. ⌜ BecomesAt (moved (view (cacheOf (now (b .entry)))) (evict (splitOf (cacheOf (now (b .entry)) .rule)) (stateOf (cacheOf (now (b .entry))))) (cacheOf (now (b .entry)) .closed)) (now (b .exit)) ⌝ }
+// Held item `v` goes: it leaves the heap, its place is empty, and its blocks are free, which are the answer. No other key and no credit
+// moves, and the level stays.
+pub fn let_go(b: &mut [u8], v: usize) -> u8
+    requires { ⌜ HoldsAt (now b) v ⌝ }
+    ensures { λ r. ⌜ r ≡ getD (cacheOf (now (b .entry)) .blocks) v 0 ⌝ }
+    ensures { λ _. ⌜ LetGoAt (now (b .entry)) v (now (b .exit)) ⌝ }
 {
-    let v = victim(b, n);
+    let n = held_items(b);
+    let at = cache_heap::place(b, v);
     let blocks = layout::blocks(b, v);
-    let least = rank(
-        layout::load_credit(b, v),
-        layout::write_credit(b, v),
-        blocks,
-    );
-    let dirty = layout::is_dirty(b, v);
-    charge(b, n, least);
+    let used = layout::used(b);
+    cache_heap::remove(b, n, at);
+    layout::put_used(b, used - blocks as u32);
+    layout::put_key(b, v, 0);
     drop_item(b, v);
+    blocks
+}
+
+// Evicts the held item of least key: the level rises to its key, at which each block of the others has lost its rank. Answers how many
+// blocks that frees.
+pub fn evict(b: &mut [u8]) -> u8
+    requires { ⌜ CrowdedAt (now b) ⌝ }
+    ensures { λ r. ⌜ r ≡ getD (cacheOf (now (b .entry)) .blocks) (victimIn (queueOf (cacheOf (now (b .entry))))) 0 ⌝ }
+    ensures { λ _. ⌜ BecomesAt (movedIn (lazy (cacheOf (now (b .entry)))) (evictIn (queueOf (cacheOf (now (b .entry))))) (cacheOf (now (b .entry)) .closed)) (now (b .exit)) ⌝ }
+{
+    let v = cache_heap::root(b);
+    let key = layout::key(b, v);
+    let dirty = layout::is_dirty(b, v);
+    let blocks = let_go(b, v);
+    layout::put_level(b, key);
     count_eviction(b, v, dirty);
     blocks
 }
 
-// Makes room for item `i`, if it is not held: the item of least rank goes, until the free blocks are enough.
+// Makes room for item `i`, if it is not held: the item of least key goes, until the free blocks are enough.
 pub fn make_room(b: &mut [u8], i: usize)
     requires { ⌜ WantedAt (now b) i ⌝ }
-    ensures { λ _. ⌜ BecomesAt (moved (view (cacheOf (now (b .entry)))) (makeRoom (splitOf (cacheOf (now (b .entry)) .rule)) (cacheOf (now (b .entry)) .k) i (stateOf (cacheOf (now (b .entry))))) (cacheOf (now (b .entry)) .closed)) (now (b .exit)) ⌝ }
+    ensures { λ _. ⌜ BecomesAt (movedIn (lazy (cacheOf (now (b .entry)))) (makeRoomIn (cacheOf (now (b .entry)) .k) i (queueOf (cacheOf (now (b .entry))))) (cacheOf (now (b .entry)) .closed)) (now (b .exit)) ⌝ }
 {
     if layout::held(b, i) {
         return;
     }
-    let n = layout::count(b);
     let k = layout::capacity(b);
     let blocks = layout::blocks(b, i) as u32;
-    let mut used = cache_check::used(b, n);
+    let mut used = layout::used(b);
     while used + blocks > k {
-        used -= evict(b, n) as u32;
+        used -= evict(b) as u32;
     }
+}
+
+// The key of held item `i` changes, and the heap is put in order.
+pub fn rekey(b: &mut [u8], i: usize, key: u64)
+    requires { ⌜ HoldsAt (now b) i ⌝ }
+    ensures { λ _. ⌜ RekeyedAt (now (b .entry)) i key (now (b .exit)) ⌝ }
+{
+    let n = held_items(b);
+    let at = cache_heap::place(b, i);
+    layout::put_key(b, i, key);
+    cache_heap::fix(b, n, at);
+}
+
+// The credits of held item `i` are reckoned anew: they are stored, and the key is theirs a block, plus the level.
+pub fn reckon(b: &mut [u8], i: usize, load: u64, write: u64)
+    requires { ⌜ ReckonableAt (now b) i load write ⌝ }
+    ensures { λ _. ⌜ ReckonedAt (now (b .entry)) i load write (now (b .exit)) ⌝ }
+{
+    let blocks = layout::blocks(b, i) as u64;
+    let key = layout::level(b) + (load + write) / blocks;
+    layout::put_load_credit(b, i, load);
+    layout::put_write_credit(b, i, write);
+    rekey(b, i, key);
 }

@@ -16,6 +16,8 @@ use Rattle.landlord.specs.Claims.{AllowedLog, WithinBound, SplitOk}
 use Rattle.landlord.proofs.Slots.{deduction-ok}
 use Rattle.landlord.proofs.Calls.{log-allowed, joins-either, logged-allowed, same-refusal, one-call, closing-ends}
 use Rattle.landlord.proofs.Competitive.{competitive-bound}
+use Rattle.queue.specs.Machine.{LazyStanding, lazyFrom, afterIn}
+use Rattle.queue.proofs.Calls.{one-call-in}
 use Rattle.cache_open.specs.Opening.{openingIn, OpenedLent}
 use Rattle.cache_open.proofs.Openings.{right}
 use Rattle.cache.specs.Contract.{Kind, lent}
@@ -37,6 +39,7 @@ module _ {C : Type 0} (kind : Kind C) (o : Opening Catalog) (good : CatalogOk (o
   record Leads (l : Log) (calls : List Call) (numbers : List ℕ) (d : C) : Type 0 where
     valid : kind .Valid d
     stands : kind .view d ≡ ruleFrom o (fold (joins k cat) l calls)
+    lazy : kind .lazy d ≡ lazyFrom o (fold (joins k cat) l calls)
     count : length numbers ≡ length calls
     each : (i : ℕ) → i < length calls → getD numbers i 0 ≡ refusalIn k cat (fold (joins k cat) l (take i calls)) (getD calls i close)
 
@@ -45,18 +48,21 @@ module _ {C : Type 0} (kind : Kind C) (o : Opening Catalog) (good : CatalogOk (o
       AllowedLog k cat (l .steps) →
       kind .Valid c →
       kind .view c ≡ ruleFrom o l →
+      kind .lazy c ≡ lazyFrom o l →
       Follows kind c calls numbers d →
       Leads l calls numbers d
   unfolding fold
-  leads l a ok at none = record { valid = ok; stands = at; count = refl; each = λ i b. absurd (let z : i < 0 = b in omega arith) }
-  leads l {c = c} a ok at (then {call = call} {calls = calls} {answer = answer} {numbers = numbers} h f) =
+  leads l a ok at now none = record { valid = ok; stands = at; lazy = now; count = refl; each = λ i b. absurd (let z : i < 0 = b in omega arith) }
+  leads l {c = c} a ok at now (then {call = call} {calls = calls} {answer = answer} {numbers = numbers} h f) =
       let m : Log = joins k cat l call in
       let next = h .fine ok .stands ∙ ap (λ (v : Standing). after v call) at ∙ one-call (startOf o) (split-ok o) good l call a in
       let open' : AllowedLog k cat (m .steps) = joins-either k cat l call (λ z. AllowedLog k cat (z .steps)) (λ e. logged-allowed k cat l call a e) a in
-      let rest = leads m open' (h .fine ok .valid) next f in
+      let on = h .fine ok .lazy ∙ ap (λ (v : LazyStanding). afterIn v call) now ∙ one-call-in o good l call a in
+      let rest = leads m open' (h .fine ok .valid) next on f in
       record {
         valid = rest .valid;
         stands = rest .stands;
+        lazy = rest .lazy;
         count = ap suc (rest .count);
         each = answers (h .fine ok .answer ∙ ap (λ (v : Standing). refusalNow v call) at ∙ same-refusal (startOf o) (split-ok o) good l call a) (rest .each);
       }
@@ -99,15 +105,16 @@ pub season-theorem :
     BeginsAt kind o first →
     Follows kind first calls numbers d →
     Season kind o calls numbers d
-unfolding fold ruleOver
+unfolding fold ruleOver lazyFrom
 season-theorem kind {o = o} {d = d} {calls = calls} {numbers = numbers} begins follows =
     let good : CatalogOk (o .catalog) = begins .fine .ranges .catalog in
-    let so = leads kind o good noLog (log-allowed (o .k) (o .catalog) []) (begins .valid) (begins .stands) follows in
+    let so = leads kind o good noLog (log-allowed (o .k) (o .catalog) []) (begins .valid) (begins .stands) (begins .lazy) follows in
     let answers : TableAnswers o calls numbers = record { count = so .count; each = so .each } in
     record {
       answers = answers;
       valid = so .valid;
       stands = so .stands;
+      lazy = so .lazy;
       cost = λ closing. bounded o calls numbers (kind .view d) good (so .stands) answers closing;
     }
 
@@ -139,13 +146,13 @@ pub season-prefix :
 season-prefix kind o first calls numbers d begins follows i =
     let p : Parted kind first calls numbers d i = parted kind i follows in
     let s : Season kind o (take i calls) (take i numbers) (p .state) = season-theorem kind begins (p .reached) in
-    record { state = p .state; reached = p .reached; rest = p .rest; valid = s .valid; stands = s .stands }
+    record { state = p .state; reached = p .reached; rest = p .rest; valid = s .valid; stands = s .stands; lazy = s .lazy }
 
 -- ---- in lent bytes
 
 -- an opening that was not refused
 pub lent-begins : (b first : List ℕ) (o : Opening (List ℕ)) → OpenedLent b o 0 first → BeginsAt lent (openingIn o) first
-lent-begins b first o h = record { fine = right (h .answer) refl .accepted; valid = h .valid refl; stands = h .stands refl }
+lent-begins b first o h = record { fine = right (h .answer) refl .accepted; valid = h .valid refl; stands = h .stands refl; lazy = h .lazy refl }
 
 pub season-lent : (o : Opening (List ℕ)) (calls : List Call) (numbers d : List ℕ) → ChainLent o calls numbers d → SeasonLent (openingIn o) calls numbers d
 season-lent o calls numbers d chain =

@@ -3,6 +3,7 @@ use mathlib.Core.{Path._≡_, List.List}
 use Prim.Native.Nat.{ℕ}
 use lib.Seq.{sets}
 use Rattle.landlord.specs.{Catalog.Catalog, Inner.OpeningOk, Calls.{Opening, startsAt, Call}}
+use Rattle.queue.specs.Machine.{lazyStartsAt}
 use Rattle.cache.specs.Contract.{Kind}
 use Rattle.cache_run.specs.Season.{Follows}
 
@@ -18,3 +19,4 @@ pub record BeginsAt {C : Type 0} (kind : Kind C) (o : Opening Catalog) (first : 
   pub fine : OpeningOk o
   pub valid : kind .Valid first
   pub stands : kind .view first ≡ startsAt o
+  pub lazy : kind .lazy first ≡ lazyStartsAt o

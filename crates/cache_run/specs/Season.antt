@@ -3,6 +3,7 @@ use mathlib.Core.{Path._≡_, Logic._≢_, List.{List, [], _∷_}}
 use Prim.Native.Nat.{ℕ, _<_, _+_}
 use lib.{ListN.{length, getD, take, drop}, Seq.sets}
 use Rattle.landlord.specs.{Figures.totalCost, Calls.{Opening, Call, close, logOf, refusal, ruleFrom, seasonFrom}, Catalog.Catalog, Claims.WithinBound}
+use Rattle.queue.specs.Machine.{lazyFrom}
 use Rattle.fields.specs.LittleEndian.{numberAt}
 use Rattle.cache_open.specs.Opening.{openingIn, openingNumber, OpenedLent}
 use Rattle.cache.specs.Contract.{Kind, lent, Called}
@@ -42,6 +43,8 @@ pub record Season {C : Type 0} (kind : Kind C) (o : Opening Catalog) (calls : Li
   pub answers : TableAnswers o calls numbers
   pub valid : kind .Valid d
   pub stands : kind .view d ≡ ruleFrom o (logOf (o .k) (o .catalog) calls)
+  -- and level, keys and stored credits are the lazy form's over that log
+  pub lazy : kind .lazy d ≡ lazyFrom o (logOf (o .k) (o .catalog) calls)
   pub cost : Closing calls numbers → Bounded o calls (totalCost (kind .view d .figures))
 
 -- The state after the first i calls of a list: it is on the way, valid, and stands where the rule stands over the log of those calls.
@@ -51,6 +54,7 @@ pub record Prefix {C : Type 0} (kind : Kind C) (o : Opening Catalog) (first : C)
   pub rest : Follows kind state (drop i calls) (drop i numbers) d
   pub valid : kind .Valid state
   pub stands : kind .view state ≡ ruleFrom o (logOf (o .k) (o .catalog) (take i calls))
+  pub lazy : kind .lazy state ≡ lazyFrom o (logOf (o .k) (o .catalog) (take i calls))
 
 -- the list starts from an opening that was not refused; nothing else writes the bytes meanwhile
 pub record ChainLent (o : Opening (List ℕ)) (calls : List Call) (numbers d : List ℕ) : Type 0 where

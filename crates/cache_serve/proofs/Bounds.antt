@@ -50,6 +50,3 @@ module _ (c : Cache) (ok : Valid c) (i : ℕ) (l : i < c .n) where
 
   pub item-ok : ItemFacts (itemOf c i)
   item-ok = rw (item-is c i l) at (catalog-facts (catalogOf c) (ok .standing .kept .catalog) .each i inside)
-
-  pub write-small : getD (c .write) i 0 ≤ 65535
-  write-small = item-ok .write

@@ -1,6 +1,5 @@
--- A cache that differs from another at one item and in its totals: what the rule sees of the difference, where one event is
--- counted. Assumes nothing.
-use mathlib.Core.Path.{_≡_, sym, ap, _∙_}
+-- What is counted of a cache, and a mark of it: what the queue sees of the difference. Assumes nothing.
+use mathlib.Core.Path.{_≡_, refl, sym, ap, _∙_}
 use mathlib.Core.Logic.{_≢_}
 use mathlib.Core.Bool.{Bool, true, false, cond, false≢true}
 use mathlib.Core.List.{List, [], _∷_}
@@ -11,84 +10,20 @@ use native.Mathlib.Omega.{arith}
 use lib.ListN.{length, getD, set}
 use lib.Dec.{eqb}
 use borrow.Author.Tests.{eq-eqb, ne-eqb}
-use Rattle.types.specs.declared.Deduction.{Deduction}
 use Rattle.landlord.specs.Fold.{tab, fold}
-use Rattle.landlord.specs.Slot.{splitOf}
-use Rattle.landlord.specs.Rule.{Event, putSlot}
-use Rattle.landlord.specs.Figures.{Use, useOf, usage, isAbout, plusTotals, plusUse, noUse, useAt, adds, linesAfter, tally, moved}
+use Rattle.landlord.specs.Slot.{Slot, splitOf}
+use Rattle.landlord.specs.Rule.{Event}
+use Rattle.landlord.specs.Figures.{Use, Totals, useOf, usage, isAbout, plusTotals, plusUse, noUse, useAt, adds, linesAfter, tally}
 use Rattle.landlord.proofs.Folds.{tab-set, tab-eq}
-use Rattle.marks.specs.Marks.{marked}
-use Rattle.cache_state.specs.Cache.{Cache, dirtyAt, slotOf, catalogOf, slotsOf, usesOf, view, Blank, Emptied, Normal}
-use Rattle.cache_state.specs.InnerView.{usageOf, slotFrom, stateOf, countsOf, figuresOf}
+use Rattle.marks.specs.Inner.{marks}
+use Rattle.marks.proofs.Laws.{marked-set-same, marked-set-other}
+use Rattle.queue.specs.Queue.{Queue}
+use Rattle.queue.specs.Machine.{movedIn}
+use Rattle.cache_state.specs.Cache.{Cache, dirtyAt, heldAt, heldItems, heldBlocks, slotOf, catalogOf, slotsOf, keysOf, usesOf, lazy, Blank, Emptied, Normal}
+use Rattle.cache_state.specs.InnerView.{usageOf, slotFrom, queueOf, countsOf, figuresOf}
+use Rattle.cache_state.specs.InnerWith.{withFigures, withDirty}
 use Rattle.cache_state.proofs.Views.{size-is, use-is}
-
--- nothing of item j has changed
-pub record SameAt (c r : Cache) (j : ℕ) : Type 0 where
-  pub held : getD (r .held) j false ≡ getD (c .held) j false
-  pub loadCredit : getD (r .loadcredit) j 0 ≡ getD (c .loadcredit) j 0
-  pub writeCredit : getD (r .writecredit) j 0 ≡ getD (c .writecredit) j 0
-  pub dirty : dirtyAt r j ≡ dirtyAt c j
-  pub minutes : getD (r .minutes) j 0 ≡ getD (c .minutes) j 0
-  pub loads : getD (r .itemloads) j 0 ≡ getD (c .itemloads) j 0
-  pub writebacks : getD (r .itemwritebacks) j 0 ≡ getD (c .itemwritebacks) j 0
-
--- what no request changes, and no flush
-pub record Fixed : Type 0 where
-  pub k : ℕ
-  pub n : ℕ
-  pub blocks : List ℕ
-  pub load : List ℕ
-  pub write : List ℕ
-  pub closed : Bool
-  pub rule : Deduction
-  pub left : List ℕ
-
-abbrev pub fixedOf : Cache → Fixed
-fixedOf c =
-    record {
-      k = c .k;
-      n = c .n;
-      blocks = c .blocks;
-      load = c .load;
-      write = c .write;
-      closed = c .closed;
-      rule = c .rule;
-      left = c .left;
-    }
-
--- nothing has changed but item i, and the totals
-pub record OnlyAt (c r : Cache) (i : ℕ) : Type 0 where
-  pub fixed : fixedOf r ≡ fixedOf c
-  pub others : (j : ℕ) → j < 256 → j ≢ i → SameAt c r j
-
-same-n : (c r : Cache) (i : ℕ) → OnlyAt c r i → r .n ≡ c .n
-same-n c r i o = ap (λ (x : Fixed). x .n) (o .fixed)
-
-slot-same : (c r : Cache) (j : ℕ) → SameAt c r j → slotOf r j ≡ slotOf c j
-slot-same c r j s = λ z. slotFrom (s .held z) (s .dirty z) (s .loadCredit z) (s .writeCredit z)
-
-use-same : (c r : Cache) (j : ℕ) → SameAt c r j → usageOf r j ≡ usageOf c j
-use-same c r j s = λ z. useOf (s .minutes z) (s .loads z) (s .writebacks z)
-
-catalog-same : (c r : Cache) (i : ℕ) → OnlyAt c r i → catalogOf r ≡ catalogOf c
-unfolding catalogOf
-catalog-same c r i o =
-    let e : fixedOf r ≡ fixedOf c = o .fixed in
-    λ z.
-    tab (e z .n)
-    (λ j.
-    record {
-      blocks = getD (e z .blocks) j 0;
-      load = getD (e z .load) j 0;
-      write = getD (e z .write) j 0;
-      left = marked (e z .left) j;
-    })
-
-slots-but : (c r : Cache) (i : ℕ) → OnlyAt c r i → c .n ≤ 256 → i < c .n → slotsOf r ≡ set (slotsOf c) i (slotOf r i)
-unfolding slotsOf
-slots-but c r i o few l =
-    ap (λ (m : ℕ). tab m (slotOf r)) (same-n c r i o)
-    ∙ sym (tab-set (c .n) (slotOf c) (slotOf r) i l (λ j b e. sym (slot-same c r j (o .others j (omega arith) e))))
+use Rattle.cache_room.specs.Inner.{requeued}
 
 -- a line to which nothing is added
 pub plus-none : (u : Use) → u ≡ plusUse u noUse
@@ -111,99 +46,156 @@ uses-by c r e same lines each =
     after : ℕ → Use
     after j = plusUse (useAt (figuresOf c) j) (cond (isAbout j e) (usage e) noUse)
 
--- an event about item i is counted in its line alone
-uses-but :
+-- an event of item i that is counted in its line alone
+pub about-one :
     (c r : Cache) (i : ℕ) (e : Event) →
-    OnlyAt c r i →
-    c .n ≤ 256 →
-    linesAfter (catalogOf c) e ≡ length (catalogOf c) →
     ((j : ℕ) → isAbout j e ≡ eqb j i) →
+    ((j : ℕ) → j ≢ i → usageOf r j ≡ usageOf c j) →
     usageOf r i ≡ plusUse (usageOf c i) (usage e) →
-    usesOf r ≡ tally (catalogOf c) (figuresOf c) e .uses
-uses-but c r i e o few lines about here = uses-by c r e (same-n c r i o) lines (λ j l. at j l (ℕ-discrete j i))
+    (j : ℕ) → usageOf r j ≡ plusUse (usageOf c j) (cond (isAbout j e) (usage e) noUse)
+about-one c r i e about other here j = at (ℕ-discrete j i)
   where
-    after : ℕ → Bool → Use
-    after j t = plusUse (usageOf c j) (cond t (usage e) noUse)
+    after : Bool → Use
+    after t = plusUse (usageOf c j) (cond t (usage e) noUse)
 
-    at : (j : ℕ) → j < c .n → Dec (j ≡ i) → usageOf r j ≡ plusUse (usageOf c j) (cond (isAbout j e) (usage e) noUse)
-    at j l (yes q) =
-        ap (usageOf r) q ∙ here ∙ ap (λ (m : ℕ). plusUse (usageOf c m) (usage e)) (sym q) ∙ sym (ap (after j) (about j ∙ eq-eqb j i q))
-    at j l (no q) =
-        use-same c r j (o .others j (omega arith) q) ∙ plus-none (usageOf c j) ∙ sym (ap (after j) (about j ∙ ne-eqb j i q))
+    at : Dec (j ≡ i) → usageOf r j ≡ plusUse (usageOf c j) (cond (isAbout j e) (usage e) noUse)
+    at (yes q) =
+        ap (usageOf r) q ∙ here ∙ ap (λ (m : ℕ). plusUse (usageOf c m) (usage e)) (sym q) ∙ sym (ap after (about j ∙ eq-eqb j i q))
+    at (no q) = other j q ∙ plus-none (usageOf c j) ∙ sym (ap after (about j ∙ ne-eqb j i q))
 
--- What a store of one item is to the rule, where it is counted as one event.
-pub stands-but :
-    (c r : Cache) (i : ℕ) (e : Event) →
-    OnlyAt c r i →
-    c .n ≤ 256 →
-    i < c .n →
-    linesAfter (catalogOf c) e ≡ length (catalogOf c) →
-    ((j : ℕ) → isAbout j e ≡ eqb j i) →
-    countsOf r ≡ plusTotals (countsOf c) (adds (catalogOf c) e) →
-    usageOf r i ≡ plusUse (usageOf c i) (usage e) →
-    view r ≡ moved (view c) (record { state = putSlot (stateOf c) i (slotOf r i); events = e ∷ [] }) (c .closed)
-unfolding fold
-stands-but c r i e o few l lines about total here =
-    λ z.
-    record {
-      k = o .fixed z .k;
-      state = record { catalog = catalog-same c r i o z; slots = slots-but c r i o few l z };
-      figures = record { totals = total z; uses = uses-but c r i e o few lines about here z };
-      closed = o .fixed z .closed;
-      split = splitOf (o .fixed z .rule);
-    }
+-- ---- what is counted
 
--- The fields stay normal, if they are at item i.
-pub normal-but :
-    (c r : Cache) (i : ℕ) →
-    OnlyAt c r i →
-    Normal c →
-    i < c .n →
-    getD (r .held) i false ≡ true →
-    (dirtyAt r i ≡ false → getD (r .writecredit) i 0 ≡ 0) →
-    Normal r
-normal-but c r i o ok l here spent =
-    record {
-      few = rw n (ok .few);
-      past = λ j b m. past j (rw n at b) m;
-      absent = λ j b e. absent j (rw n at b) e (ℕ-discrete j i);
-      clean = λ j b e. clean j (rw n at b) e (ℕ-discrete j i);
-    }
-  where
-    n : r .n ≡ c .n
-    n = same-n c r i o
+module _ (c : Cache) (ms ls ws : List ℕ) (t : Totals) where
+  abbrev counted : Cache
+  counted = withFigures c ms ls ws t
 
-    emptied : (j : ℕ) → SameAt c r j → Emptied c j → Emptied r j
-    emptied j s x =
-        record { dirty = s .dirty ∙ x .dirty; loadCredit = s .loadCredit ∙ x .loadCredit; writeCredit = s .writeCredit ∙ x .writeCredit }
+  pub counts-lazy :
+      (e : Event) →
+      linesAfter (catalogOf c) e ≡ length (catalogOf c) →
+      countsOf (withFigures c ms ls ws t) ≡ plusTotals (countsOf c) (adds (catalogOf c) e) →
+      ((j : ℕ) → j < c .n → usageOf (withFigures c ms ls ws t) j ≡ plusUse (usageOf c j) (cond (isAbout j e) (usage e) noUse)) →
+      lazy (withFigures c ms ls ws t) ≡ movedIn (lazy c) (record { queue = queueOf c; events = e ∷ [] }) (c .closed)
+  unfolding fold catalogOf slotsOf keysOf
+  counts-lazy e lines total each =
+      λ z.
+      record {
+        k = c .k;
+        queue = queueOf c;
+        figures = record { totals = total z; uses = uses-by c counted e refl lines each z };
+        closed = c .closed;
+        split = splitOf (c .rule);
+      }
 
-    past : (j : ℕ) → c .n ≤ j → j < 256 → Blank r j
-    past j b m =
-        let s : SameAt c r j = o .others j m (omega arith) in
-        let x : Blank c j = ok .past j b m in
-        record {
-          place =
-              record {
-                held = s .held ∙ x .place .held;
-                slot = emptied j s (x .place .slot);
-                minutes = s .minutes ∙ x .place .minutes;
-                loads = s .loads ∙ x .place .loads;
-                writebacks = s .writebacks ∙ x .place .writebacks;
-              };
-          blocks = ap (λ (y : Fixed). getD (y .blocks) j 0) (o .fixed) ∙ x .blocks;
-          load = ap (λ (y : Fixed). getD (y .load) j 0) (o .fixed) ∙ x .load;
-          write = ap (λ (y : Fixed). getD (y .write) j 0) (o .fixed) ∙ x .write;
-          left = ap (λ (y : Fixed). marked (y .left) j) (o .fixed) ∙ x .left;
-        }
+  -- the fields stay tidy, if nothing is counted past the catalog
+  pub counts-normal :
+      Normal c →
+      ((i : ℕ) → c .n ≤ i → i < 256 → getD ms i 0 ≡ 0) →
+      ((i : ℕ) → c .n ≤ i → i < 256 → getD ls i 0 ≡ 0) →
+      ((i : ℕ) → c .n ≤ i → i < 256 → getD ws i 0 ≡ 0) →
+      Normal (withFigures c ms ls ws t)
+  unfolding heldItems heldBlocks
+  counts-normal ok noMinutes noLoads noBacks =
+      record {
+        few = ok .few;
+        past =
+            λ i l m.
+            let x : Blank c i = ok .past i l m in
+            record {
+              place =
+                  record {
+                    held = x .place .held;
+                    slot = same i (x .place .slot);
+                    minutes = noMinutes i l m;
+                    loads = noLoads i l m;
+                    writebacks = noBacks i l m;
+                  };
+              blocks = x .blocks;
+              load = x .load;
+              write = x .write;
+              left = x .left;
+            };
+        absent = λ i l e. same i (ok .absent i l e);
+        clean = ok .clean;
+        heap = ok .heap;
+        order = ok .order;
+        used = ok .used;
+      }
+    where
+      same : (i : ℕ) → Emptied c i → Emptied counted i
+      same i x = record { dirty = x .dirty; loadCredit = x .loadCredit; writeCredit = x .writeCredit; key = x .key }
 
-    absent : (j : ℕ) → j < c .n → getD (r .held) j false ≡ false → Dec (j ≡ i) → Emptied r j
-    absent j b e (yes q) = absurd (false≢true (sym e ∙ ap (λ (m : ℕ). getD (r .held) m false) q ∙ here))
-    absent j b e (no q) =
-        let s : SameAt c r j = o .others j (omega (arith, ok .few)) q in
-        emptied j s (ok .absent j b (sym (s .held) ∙ e))
+-- ---- a mark
 
-    clean : (j : ℕ) → j < c .n → dirtyAt r j ≡ false → Dec (j ≡ i) → getD (r .writecredit) j 0 ≡ 0
-    clean j b e (yes q) = ap (λ (m : ℕ). getD (r .writecredit) m 0) q ∙ spent (ap (dirtyAt r) (sym q) ∙ e)
-    clean j b e (no q) =
-        let s : SameAt c r j = o .others j (omega (arith, ok .few)) q in
-        s .writeCredit ∙ ok .clean j b (sym (s .dirty) ∙ e)
+-- a queue with another slot of item i, as it is stored
+abbrev pub restored : Queue → ℕ → Slot → Queue
+restored q i s = record { catalog = q .catalog; slots = set (q .slots) i s; keys = q .keys; level = q .level }
+
+module _
+    (c : Cache) (i : ℕ) (ws : List ℕ) (f : Bool) (ok : Normal c) (l : i < c .n) (isHeld : heldAt c i ≡ true)
+    (m : marks ws ≡ set (marks (c .dirty)) i f) where
+  abbrev markedNow : Cache
+  markedNow = withDirty c ws
+
+  place : i < 256
+  place = omega (arith, ok .few)
+
+  here : dirtyAt markedNow i ≡ f
+  here = marked-set-same (c .dirty) ws i f m place
+
+  other : (j : ℕ) → j < 256 → j ≢ i → dirtyAt markedNow j ≡ dirtyAt c j
+  other j b e = marked-set-other (c .dirty) ws i f m j b e
+
+  slots-after : slotsOf markedNow ≡ set (slotsOf c) i (slotFrom true f (getD (c .loadcredit) i 0) (getD (c .writecredit) i 0))
+  unfolding slotsOf
+  slots-after =
+      sym (ap (λ (s : Slot). set (tab (c .n) (slotOf c)) i s)
+      (sym (λ z. slotFrom (isHeld z) (here z) (getD (c .loadcredit) i 0) (getD (c .writecredit) i 0)))
+      ∙ tab-set (c .n) (slotOf c) (slotOf markedNow) i l
+      (λ j b e. sym (λ z. slotFrom (heldAt c j) (other j (omega (arith, ok .few)) e z) (getD (c .loadcredit) j 0) (getD (c .writecredit) j 0))))
+
+  pub marks-lazy :
+      lazy (withDirty c ws) ≡ requeued (lazy c) (restored (queueOf c) i (slotFrom true f (getD (c .loadcredit) i 0) (getD (c .writecredit) i 0)))
+  unfolding catalogOf keysOf usesOf
+  marks-lazy = λ z. requeued (lazy c) (record { catalog = catalogOf c; slots = slots-after z; keys = keysOf c; level = c .level })
+
+  pub marks-normal : (f ≡ false → getD (c .writecredit) i 0 ≡ 0) → Normal (withDirty c ws)
+  unfolding heldItems heldBlocks
+  marks-normal spent =
+      record {
+        few = ok .few;
+        past =
+            λ j b s.
+            let x : Blank c j = ok .past j b s in
+            record {
+              place =
+                  record {
+                    held = x .place .held;
+                    slot = emptied j s (x .place .held) (x .place .slot);
+                    minutes = x .place .minutes;
+                    loads = x .place .loads;
+                    writebacks = x .place .writebacks;
+                  };
+              blocks = x .blocks;
+              load = x .load;
+              write = x .write;
+              left = x .left;
+            };
+        absent = λ j b h. emptied j (omega (arith, ok .few)) h (ok .absent j b h);
+        clean = λ j b d. unwritten j b d (ℕ-discrete j i);
+        heap = ok .heap;
+        order = ok .order;
+        used = ok .used;
+      }
+    where
+      emptied : (j : ℕ) → j < 256 → heldAt c j ≡ false → Emptied c j → Emptied markedNow j
+      emptied j b h x =
+          record {
+            dirty = other j b (λ e. false≢true (sym h ∙ ap (heldAt c) e ∙ isHeld)) ∙ x .dirty;
+            loadCredit = x .loadCredit;
+            writeCredit = x .writeCredit;
+            key = x .key;
+          }
+
+      unwritten : (j : ℕ) → j < c .n → dirtyAt markedNow j ≡ false → Dec (j ≡ i) → getD (c .writecredit) j 0 ≡ 0
+      unwritten j b d (yes e) = ap (λ (k : ℕ). getD (c .writecredit) k 0) e ∙ spent (sym here ∙ ap (dirtyAt markedNow) (sym e) ∙ d)
+      unwritten j b d (no e) = ok .clean j b (sym (other j (omega (arith, ok .few)) e) ∙ d)

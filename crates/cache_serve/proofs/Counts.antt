@@ -5,51 +5,39 @@ use mathlib.Core.Bool.{true, false}
 use mathlib.Core.List.{List}
 use Prim.Native.Nat.{ℕ, _+_}
 use lib.ListN.{getD, set}
-use Rattle.landlord.specs.Catalog.{full}
 use Rattle.marks.specs.Inner.{marks}
 use Rattle.cache_state.specs.Cache.{Cache}
-use Rattle.cache_state.specs.InnerWith.{withLoadCost, withHeld, withDirty, withLoadCredit, withWriteCredit, withMinutes, withItemLoads}
+use Rattle.cache_state.specs.InnerWith.{withLoadCost, withDirty, withMinutes, withItemLoads}
 use Rattle.layout.specs.Layout.{cacheOf}
 use Rattle.layout.specs.Inner.{Stands}
 use Rattle.layout.proofs.Places.{readable, stands-as}
 use Rattle.cache_counts.specs.declared.Total.the-variants.{Loads}
 use Rattle.cache_counts.specs.Inner.{stepCounted, writebackCounted}
-use Rattle.cache_serve.specs.InnerStores.{loadedOf, refilledOf, writtenOf, wroteBackOf, WroteAt, WroteBackAt}
+use Rattle.cache_serve.specs.InnerStores.{loadedOf, writtenOf, wroteBackOf, WroteAt, WroteBackAt}
 
-pub item-loaded :
-    (b b1 b2 b3 after : List ℕ) (i : ℕ) {own paid price : ℕ} →
+pub load-counted :
+    (b b1 b2 after : List ℕ) (i : ℕ) {own paid price : ℕ} →
     own ≡ getD (cacheOf b .itemloads) i 0 →
     paid ≡ cacheOf b .loadcost →
     price ≡ getD (cacheOf b .load) i 0 →
     Stands b1 (stepCounted (cacheOf b) Loads) →
-    Stands b2 (withHeld (cacheOf b1) i true) →
-    Stands b3 (withItemLoads (cacheOf b2) i (own + 1)) →
-    Stands after (withLoadCost (cacheOf b3) (paid + price)) →
+    Stands b2 (withItemLoads (cacheOf b1) i (own + 1)) →
+    Stands after (withLoadCost (cacheOf b2) (paid + price)) →
     Stands after (loadedOf (cacheOf b) i)
-item-loaded b b1 b2 b3 after i {own} {paid} {price} eo ep er s1 s2 s3 s4 =
-    stands-as s4
-    (ap (λ (q : Cache). withLoadCost q (paid + price))
-    (s3 .cache ∙ ap (λ (q : Cache). withItemLoads q i (own + 1)) (s2 .cache ∙ ap (λ (q : Cache). withHeld q i true) (s1 .cache)))
-    ∙ (λ z. withLoadCost (withItemLoads (withHeld (stepCounted (cacheOf b) Loads) i true) i (eo z + 1)) (ep z + er z)))
-
-pub credit-filled :
-    (b after : List ℕ) (i : ℕ) {credit : ℕ} →
-    credit ≡ full (getD (cacheOf b .load) i 0) →
-    Stands after (withLoadCredit (cacheOf b) i credit) →
-    Stands after (refilledOf (cacheOf b) i)
-credit-filled b after i ec s = stands-as s (λ z. withLoadCredit (cacheOf b) i (ec z))
+load-counted b b1 b2 after i {own} {paid} {price} eo ep er s1 s2 s3 =
+    stands-as s3
+    (ap (λ (q : Cache). withLoadCost q (paid + price)) (s2 .cache ∙ ap (λ (q : Cache). withItemLoads q i (own + 1)) (s1 .cache))
+    ∙ (λ z. withLoadCost (withItemLoads (stepCounted (cacheOf b) Loads) i (eo z + 1)) (ep z + er z)))
 
 pub write-counted :
-    (b b1 b2 after : List ℕ) (i minutes : ℕ) {words marked : List ℕ} {credit sofar : ℕ} →
+    (b b1 after : List ℕ) (i minutes : ℕ) {words marked : List ℕ} {sofar : ℕ} →
     words ≡ cacheOf b .dirty →
-    credit ≡ full (getD (cacheOf b .write) i 0) →
     sofar ≡ getD (cacheOf b .minutes) i 0 →
     marks marked ≡ set (marks words) i true →
     Stands b1 (withDirty (cacheOf b) marked) →
-    Stands b2 (withWriteCredit (cacheOf b1) i credit) →
-    Stands after (withMinutes (cacheOf b2) i (sofar + minutes)) →
+    Stands after (withMinutes (cacheOf b1) i (sofar + minutes)) →
     WroteAt b i minutes after
-write-counted b b1 b2 after i minutes {words} {marked} {credit} {sofar} ew ec es mark s1 s2 s3 =
+write-counted b b1 after i minutes {words} {marked} {sofar} ew es mark s1 s3 =
     record {
       reads = readable s3;
       cache =
@@ -62,23 +50,22 @@ write-counted b b1 b2 after i minutes {words} {marked} {credit} {sofar} ew ec es
     is : cacheOf after ≡ writtenOf (cacheOf b) i minutes marked
     is =
         s3 .cache
-        ∙ ap (λ (q : Cache). withMinutes q i (sofar + minutes)) (s2 .cache ∙ ap (λ (q : Cache). withWriteCredit q i credit) (s1 .cache))
-        ∙ (λ z. withMinutes (withWriteCredit (withDirty (cacheOf b) marked) i (ec z)) i (es z + minutes))
+        ∙ ap (λ (q : Cache). withMinutes q i (sofar + minutes)) (s1 .cache)
+        ∙ (λ z. withMinutes (withDirty (cacheOf b) marked) i (es z + minutes))
 
     words-are : cacheOf after .dirty ≡ marked
     words-are = ap (λ (q : Cache). q .dirty) is
 
 pub written-back :
-    (b b1 b2 after : List ℕ) (i : ℕ) {words marked : List ℕ} →
+    (b b1 after : List ℕ) (i : ℕ) {words marked : List ℕ} →
     Stands b1 (writebackCounted (cacheOf b) i) →
     words ≡ cacheOf b1 .dirty →
     marks marked ≡ set (marks words) i false →
-    Stands b2 (withDirty (cacheOf b1) marked) →
-    Stands after (withWriteCredit (cacheOf b2) i 0) →
+    Stands after (withDirty (cacheOf b1) marked) →
     WroteBackAt b i after
-written-back b b1 b2 after i {words} {marked} s1 ew mark s2 s3 =
+written-back b b1 after i {words} {marked} s1 ew mark s2 =
     record {
-      reads = readable s3;
+      reads = readable s2;
       cache =
           record {
             store = is ∙ ap (wroteBackOf (cacheOf b) i) (sym words-are);
@@ -87,7 +74,7 @@ written-back b b1 b2 after i {words} {marked} s1 ew mark s2 s3 =
     }
   where
     is : cacheOf after ≡ wroteBackOf (cacheOf b) i marked
-    is = s3 .cache ∙ ap (λ (q : Cache). withWriteCredit q i 0) (s2 .cache ∙ ap (λ (q : Cache). withDirty q marked) (s1 .cache))
+    is = s2 .cache ∙ ap (λ (q : Cache). withDirty q marked) (s1 .cache)
 
     words-are : cacheOf after .dirty ≡ marked
     words-are = ap (λ (q : Cache). q .dirty) is

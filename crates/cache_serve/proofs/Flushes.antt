@@ -1,17 +1,20 @@
--- Laws of a flush on the rule's side: item by item, from the lowest number on. Assumes nothing.
+-- A flush of the queue, item by item: the lowest dirty item is reckoned without its write credit, and then the rest. Assumes nothing.
 use mathlib.Core.Path.{_≡_, refl, sym, ap, _∙_}
 use mathlib.Core.Logic.{_≢_}
-use mathlib.Core.Bool.{Bool, true, false, cond, false≢true}
+use mathlib.Core.Bool.{Bool, true, false, cond}
 use mathlib.Core.List.{[], _∷_, _++_}
 use Prim.Native.Nat.{ℕ, zero, suc, _<_}
 use native.Mathlib.Decide.{ℕ-discrete}
 use native.Mathlib.Omega.{arith}
 use lib.ListN.{length}
-use Rattle.landlord.specs.Fold.{tab}
-use Rattle.landlord.specs.Slot.{Slot, absent, clean, dirty, isDirty, flushed}
-use Rattle.landlord.specs.Rule.{State, wroteBack, Moved, stay, joined, size, slotAt, putSlot, writeBacks, flush}
+use lib.Seq.{getD-set-same, getD-set-other}
+use Rattle.landlord.specs.Fold.{fold}
+use Rattle.landlord.specs.Slot.{Split, absent, isDirty, flushed}
+use Rattle.landlord.specs.Rule.{wroteBack, writeBacks}
 use Rattle.landlord.proofs.Folds.{tab-eq, tab-of}
-use Rattle.landlord.proofs.Keeps.{put-same, put-other}
+use Rattle.landlord.proofs.Slots.{flush-clean}
+use Rattle.queue.specs.Queue.{Queue, storedAt, keyAt, blocksOf, nowAt, slotNow, keyNow, reckoned}
+use Rattle.queue.specs.Machine.{LazyStanding, MovedIn, stayIn, joinedIn, movedIn, landedSlot, landedKey, flushIn}
 
 -- none is due
 backs-none : (n : ℕ) (isDue : ℕ → Bool) → ((j : ℕ) → j < n → isDue j ≡ false) → writeBacks n isDue ≡ []
@@ -47,76 +50,107 @@ backs-first (suc n) i isDue still l due done none others =
         ∙ sym (λ z. wroteBack i ∷ (after z ++ cond (done-n z) (wroteBack n ∷ []) []))
     go (no e) below = λ z. below (omega arith) z ++ cond (others n (omega arith) z) (wroteBack n ∷ []) []
 
-flushed-dirty : (s : Slot) → isDirty (flushed s) ≡ false
-flushed-dirty absent = refl
-flushed-dirty (clean a) = refl
-flushed-dirty (dirty a b) = refl
-
-flushed-twice : (s : Slot) → flushed (flushed s) ≡ flushed s
-flushed-twice absent = refl
-flushed-twice (clean a) = refl
-flushed-twice (dirty a b) = refl
-
-flushed-clean : (s : Slot) → isDirty s ≡ false → flushed s ≡ s
-flushed-clean absent e = refl
-flushed-clean (clean a) e = refl
-flushed-clean (dirty a b) e = absurd (false≢true (sym e))
-
 -- one writeback
-abbrev pub writeBack : ℕ → State → Moved
-writeBack i x = record { state = putSlot x i (flushed (slotAt x i)); events = wroteBack i ∷ [] }
+abbrev pub backOne : Split → ℕ → Queue → MovedIn
+backOne split i q = record { queue = reckoned q i (flushed (nowAt split q i)); events = wroteBack i ∷ [] }
 
--- a flush begins with the lowest dirty item, and goes on with the rest
-pub flush-first :
-    (x : State) (i : ℕ) →
-    length (x .slots) ≡ size x →
-    i < size x →
-    isDirty (slotAt x i) ≡ true →
-    ((j : ℕ) → j < i → isDirty (slotAt x j) ≡ false) →
-    flush x ≡ joined (writeBack i x) (flush (writeBack i x .state))
-unfolding flush
-flush-first x i whole l due none =
-    λ z.
-    record {
-      state = record { catalog = x .catalog; slots = slots z };
-      events = backs-first (size x) i (λ j. isDirty (slotAt x j)) (λ j. isDirty (slotAt y j)) l due done none others z;
-    }
-  where
-    y : State
-    y = putSlot x i (flushed (slotAt x i))
+-- the whole of it, from where the lazy form stands
+abbrev pub flushFrom : LazyStanding → LazyStanding
+flushFrom v = movedIn v (flushIn (v .split) (v .queue)) (v .closed)
 
-    here : slotAt y i ≡ flushed (slotAt x i)
-    here = put-same x i (flushed (slotAt x i)) (omega arith)
+module _ (split : Split) (q : Queue) (slots : length (q .slots) ≡ length (q .catalog)) (keys : length (q .keys) ≡ length (q .catalog)) where
+  -- a flush begins with the lowest dirty item, and goes on with the rest
+  module _ (i : ℕ) (l : i < length (q .catalog)) (due : isDirty (storedAt q i) ≡ true) where
+    abbrev y : Queue
+    y = reckoned q i (flushed (nowAt split q i))
 
-    done : isDirty (slotAt y i) ≡ false
-    done = ap isDirty here ∙ flushed-dirty (slotAt x i)
+    here : storedAt y i ≡ flushed (nowAt split q i)
+    here = getD-set-same (q .slots) i (flushed (nowAt split q i)) absent (omega arith)
 
-    others : (j : ℕ) → j ≢ i → isDirty (slotAt x j) ≡ isDirty (slotAt y j)
-    others j e = sym (ap isDirty (put-other x i j (flushed (slotAt x i)) e))
+    key-here : keyAt y i ≡ keyNow (blocksOf q i) (q .level) (flushed (nowAt split q i))
+    key-here = getD-set-same (q .keys) i (keyNow (blocksOf q i) (q .level) (flushed (nowAt split q i))) 0 (omega arith)
 
-    same : (j : ℕ) → Dec (j ≡ i) → flushed (slotAt x j) ≡ flushed (slotAt y j)
-    same j (yes e) =
-        ap (λ (m : ℕ). flushed (slotAt x m)) e
-        ∙ sym (ap flushed here ∙ flushed-twice (slotAt x i))
-        ∙ ap (λ (m : ℕ). flushed (slotAt y m)) (sym e)
-    same j (no e) = sym (ap flushed (put-other x i j (flushed (slotAt x i)) e))
+    done : isDirty (storedAt y i) ≡ false
+    done = ap isDirty here ∙ flush-clean (nowAt split q i)
 
-    slots : tab (size x) (λ j. flushed (slotAt x j)) ≡ tab (size x) (λ j. flushed (slotAt y j))
-    slots = tab-eq (size x) _ _ (λ j b. same j (ℕ-discrete j i))
+    there : (j : ℕ) → j ≢ i → storedAt y j ≡ storedAt q j
+    there j e = getD-set-other (q .slots) i j (flushed (nowAt split q i)) absent e
 
--- with no dirty item a flush changes nothing
-pub flush-none :
-    (x : State) →
-    length (x .slots) ≡ size x →
-    ((j : ℕ) → j < size x → isDirty (slotAt x j) ≡ false) →
-    flush x ≡ stay x
-unfolding flush
-flush-none x whole none =
-    λ z.
-    record {
-      state = record { catalog = x .catalog; slots = slots z };
-      events = backs-none (size x) (λ j. isDirty (slotAt x j)) none z;
-    }
-  where
-    slots : tab (size x) (λ j. flushed (slotAt x j)) ≡ x .slots
-    slots = sym (tab-of (x .slots) (size x) _ absent whole (λ j l. sym (flushed-clean (slotAt x j) (none j l))))
+    key-there : (j : ℕ) → j ≢ i → keyAt y j ≡ keyAt q j
+    key-there j e = getD-set-other (q .keys) i j (keyNow (blocksOf q i) (q .level) (flushed (nowAt split q i))) 0 e
+
+    slot-same : (j : ℕ) → Dec (j ≡ i) → landedSlot split q j ≡ landedSlot split y j
+    slot-same j (yes e) =
+        ap (landedSlot split q) e
+        ∙ ap (λ (t : Bool). cond t (flushed (nowAt split q i)) (storedAt q i)) due
+        ∙ sym here
+        ∙ sym (ap (λ (t : Bool). cond t (flushed (nowAt split y i)) (storedAt y i)) done)
+        ∙ ap (landedSlot split y) (sym e)
+    slot-same j (no e) =
+        sym (λ z. cond (isDirty (there j e z)) (flushed (slotNow split (blocksOf q j) (q .level) (key-there j e z) (there j e z))) (there j e z))
+
+    key-same : (j : ℕ) → Dec (j ≡ i) → landedKey split q j ≡ landedKey split y j
+    key-same j (yes e) =
+        ap (landedKey split q) e
+        ∙ ap (λ (t : Bool). cond t (keyNow (blocksOf q i) (q .level) (flushed (nowAt split q i))) (keyAt q i)) due
+        ∙ sym key-here
+        ∙ sym (ap (λ (t : Bool). cond t (keyNow (blocksOf q i) (q .level) (flushed (nowAt split y i))) (keyAt y i)) done)
+        ∙ ap (landedKey split y) (sym e)
+    key-same j (no e) =
+        sym (λ z.
+        cond (isDirty (there j e z))
+        (keyNow (blocksOf q j) (q .level) (flushed (slotNow split (blocksOf q j) (q .level) (key-there j e z) (there j e z)))) (key-there j e z))
+
+    pub flush-first :
+        ((j : ℕ) → j < i → isDirty (storedAt q j) ≡ false) →
+        flushIn split q ≡ joinedIn (backOne split i q) (flushIn split (backOne split i q .queue))
+    unfolding flushIn
+    flush-first none =
+        λ z.
+        record {
+          queue =
+              record {
+                catalog = q .catalog;
+                slots = tab-eq (length (q .catalog)) (landedSlot split q) (landedSlot split y) (λ j b. slot-same j (ℕ-discrete j i)) z;
+                keys = tab-eq (length (q .catalog)) (landedKey split q) (landedKey split y) (λ j b. key-same j (ℕ-discrete j i)) z;
+                level = q .level;
+              };
+          events =
+              backs-first (length (q .catalog)) i (λ j. isDirty (storedAt q j)) (λ j. isDirty (storedAt y j)) l due done none
+              (λ j e. sym (ap isDirty (there j e))) z;
+        }
+
+  -- with no dirty item a flush changes nothing
+  pub flush-none : ((j : ℕ) → j < length (q .catalog) → isDirty (storedAt q j) ≡ false) → flushIn split q ≡ stayIn q
+  unfolding flushIn
+  flush-none none =
+      λ z.
+      record {
+        queue =
+            record {
+              catalog = q .catalog;
+              slots =
+                  sym (tab-of (q .slots) (length (q .catalog)) (landedSlot split q) absent slots
+                  (λ j l. sym (ap (λ (t : Bool). cond t (flushed (nowAt split q j)) (storedAt q j)) (none j l)))) z;
+              keys =
+                  sym (tab-of (q .keys) (length (q .catalog)) (landedKey split q) 0 keys
+                  (λ j l. sym (ap (λ (t : Bool). cond t (keyNow (blocksOf q j) (q .level) (flushed (nowAt split q j))) (keyAt q j)) (none j l)))) z;
+              level = q .level;
+            };
+        events = backs-none (length (q .catalog)) (λ j. isDirty (storedAt q j)) none z;
+      }
+
+-- the same of where the lazy form stands
+module _ (v : LazyStanding) (slots : length (v .queue .slots) ≡ length (v .queue .catalog)) (keys : length (v .queue .keys) ≡ length (v .queue .catalog)) where
+  pub from-first :
+      (i : ℕ) →
+      i < length (v .queue .catalog) →
+      isDirty (storedAt (v .queue) i) ≡ true →
+      ((j : ℕ) → j < i → isDirty (storedAt (v .queue) j) ≡ false) →
+      flushFrom (movedIn v (backOne (v .split) i (v .queue)) (v .closed)) ≡ flushFrom v
+  unfolding fold
+  from-first i l due none = sym (ap (λ (m : MovedIn). movedIn v m (v .closed)) (flush-first (v .split) (v .queue) slots keys i l due none))
+
+  pub from-none : ((j : ℕ) → j < length (v .queue .catalog) → isDirty (storedAt (v .queue) j) ≡ false) → flushFrom v ≡ v
+  unfolding fold
+  from-none none = ap (λ (m : MovedIn). movedIn v m (v .closed)) (flush-none (v .split) (v .queue) slots keys none)

@@ -1,9 +1,10 @@
--- The laws that the functions' proofs cite.
-pub mod Changes
-pub mod Bounds
 pub mod Shares
+pub mod Bounds
+pub mod Losses
+pub mod Counts
+pub mod Changes
+pub mod Enters
+pub mod Queues
 pub mod Serves
 pub mod Flushes
 pub mod Writebacks
-pub mod Counts
-pub mod InPlace

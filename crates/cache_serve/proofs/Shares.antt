@@ -9,8 +9,6 @@ use lib.ListN.{getD}
 use Rattle.landlord.specs.Catalog.{full, unit, sharesPerBlock}
 use Rattle.basis.proofs.Tables.{tabulates, entry-is}
 use Rattle.landlord.proofs.Slots.{share-fact, sixteen-divide}
-use Rattle.cache_state.specs.Cache.{Cache}
-use Rattle.cache_serve.specs.InnerReady.{Refillable}
 
 -- a cost times a quotient of the unit, whatever the blocks
 pub shares-small : (price s : ℕ) → price ≤ 65535 → sharesPerBlock price s ≤ 65535 * unit
@@ -33,5 +31,5 @@ pub whole-again : (price s : ℕ) {r : ℕ} → 1 ≤ s → s ≤ 16 → r ≡ s
 whole-again price s low high e = ap (λ (z : ℕ). z * s) e ∙ share-fact price s (sixteen-divide s low high)
 
 -- what is read as an item's blocks is 1 to 16
-pub blocks-read : {c : Cache} {i r : ℕ} → Refillable c i → r ≡ getD (c .blocks) i 0 → (1 ≤ r) × (r ≤ 16)
-blocks-read p e = subst (λ (s : ℕ). (1 ≤ s) × (s ≤ 16)) (sym e) (p .some, p .small)
+pub blocks-read : {x r : ℕ} → 1 ≤ x → x ≤ 16 → r ≡ x → (1 ≤ r) × (r ≤ 16)
+blocks-read low high e = subst (λ (s : ℕ). (1 ≤ s) × (s ≤ 16)) (sym e) (low, high)

@@ -6,26 +6,34 @@ use mathlib.Core.List.{List, _∷_}
 use Prim.Native.Nat.{ℕ, zero, suc, _+_, _-_, _≤_, _<_}
 use native.Mathlib.Numerals.{add-one}
 use native.Mathlib.Omega.{arith}
-use lib.ListN.{getD}
+use lib.ListN.{length, getD}
 use Rattle.landlord.specs.Fold.{sumTo}
 use Rattle.landlord.specs.Catalog.{itemAt}
-use Rattle.landlord.specs.Slot.{isDirty, loadCredit, writeCredit}
+use Rattle.landlord.specs.Slot.{isDirty, loadCredit, writeCredit, held, splitOf}
 use Rattle.landlord.specs.Rule.{size, slotAt}
 use Rattle.landlord.specs.Figures.{Use, useAt}
 use Rattle.landlord.specs.Claims.{SlotKept}
+use Rattle.landlord.proofs.Slots.{lose-dirty, deduction-ok}
+use Rattle.queue.specs.Queue.{storedAt, keyAt, blocksOf, KeyOk, QueueOk}
+use Rattle.queue.specs.Machine.{LazyOk}
+use Rattle.queue.proofs.Losses.{now-kept, deduction-adds}
 use Rattle.landlord.specs.Valid.{dirtyCount, leftCount, StandingOk}
 use Rattle.landlord.specs.Inner.{ItemFacts}
+use Rattle.landlord.specs.Catalog.{CatalogOk}
+use Rattle.landlord.proofs.Folds.{tab-length}
 use Rattle.landlord.proofs.Sums.{sum-eq}
 use Rattle.landlord.proofs.Ranges.{catalog-facts, catalog-ok, capacity-facts, capacity-ok}
 use Rattle.marks.specs.Marks.{marked}
 use Rattle.marks.specs.Inner.{marksFrom, marks, countSet}
-use Rattle.cache_state.specs.Cache.{Cache, dirtyAt, leftAt, catalogOf, view, Normal, Valid}
-use Rattle.cache_state.specs.InnerView.{itemOf, stateOf, countsOf, figuresOf}
+use Rattle.cache_state.specs.Cache.{Cache, dirtyAt, heldAt, catalogOf, lazy, view, Normal, Valid}
+use Rattle.cache_state.specs.InnerView.{itemOf, queueOf, stateOf, countsOf, figuresOf}
 use Rattle.validity.specs.Inner.{CountsOk}
-use Rattle.cache_state.specs.InnerParts.{PastOk, EntryAt, EntriesOk, LeftOk, SumsOf}
+use Rattle.cache_state.specs.InnerParts.{PastOk, EntryAt, EntriesOk, KeyAt, KeysOk, QueueParts, LeftOk, SumsOf}
 use Rattle.basis.specs.InnerDecided.{Decided}
 use Rattle.basis.proofs.Decides.{no, sure, denied}
-use Rattle.cache_state.proofs.Views.{size-is, slots-length, uses-length, item-is, slot-is, use-is, left-is, held-is, from-dirty, from-load, from-write}
+use Rattle.cache_state.proofs.Views.{size-is, slots-length, keys-length, uses-length, item-is, slot-is, key-is, blocks-is, stored-held, use-is, left-is, held-is}
+use Rattle.cache_state.proofs.Stored.{load-here, write-here}
+use Rattle.cache_state.proofs.Stored as stored
 
 -- ---- sums, as the loops make them
 
@@ -70,18 +78,10 @@ count-sum (suc n) f i =
     one true bs = omega arith
     one false bs = omega arith
 
-module _ (c : Cache) (i : ℕ) (l : i < c .n) where
-  pub dirty-is : (getD (c .held) i false ≡ false → dirtyAt c i ≡ false) → isDirty (slotAt (stateOf c) i) ≡ dirtyAt c i
-  dirty-is h = ap isDirty (slot-is c i l) ∙ from-dirty (getD (c .held) i false) (dirtyAt c i) (getD (c .loadcredit) i 0) (getD (c .writecredit) i 0) h
-
-  pub load-is : (getD (c .held) i false ≡ false → getD (c .loadcredit) i 0 ≡ 0) → loadCredit (slotAt (stateOf c) i) ≡ getD (c .loadcredit) i 0
-  load-is h = ap loadCredit (slot-is c i l) ∙ from-load (getD (c .held) i false) (dirtyAt c i) (getD (c .loadcredit) i 0) (getD (c .writecredit) i 0) h
-
-  pub write-is :
-      (getD (c .held) i false ≡ false → getD (c .writecredit) i 0 ≡ 0) →
-      (dirtyAt c i ≡ false → getD (c .writecredit) i 0 ≡ 0) →
-      writeCredit (slotAt (stateOf c) i) ≡ getD (c .writecredit) i 0
-  write-is h g = ap writeCredit (slot-is c i l) ∙ from-write (getD (c .held) i false) (dirtyAt c i) (getD (c .loadcredit) i 0) (getD (c .writecredit) i 0) h g
+-- a loss changes no mark: an item is dirty as it is marked
+module _ (c : Cache) (v : Normal c) (i : ℕ) (l : i < c .n) where
+  pub dirty-here : isDirty (slotAt (stateOf c) i) ≡ dirtyAt c i
+  dirty-here = ap isDirty (slot-is c i l) ∙ lose-dirty (splitOf (c .rule)) _ _ (storedAt (queueOf c) i) ∙ stored.dirty-here c v i l
 
 -- of marks that are set below n only, as many are set as those below n
 count-below : (ws : List ℕ) (n : ℕ) → n ≤ 256 → ((i : ℕ) → n ≤ i → i < 256 → marked ws i ≡ false) → sumTo n (λ i. cond (marked ws i) 1 0) ≡ countSet (marks ws)
@@ -97,7 +97,7 @@ pub dirty-count : (c : Cache) → Normal c → dirtyCount (stateOf c) ≡ countS
 unfolding dirtyCount
 dirty-count c v =
     ap (λ (m : ℕ). sumTo m (λ i. cond (isDirty (slotAt (stateOf c) i)) 1 0)) (size-is c)
-    ∙ sum-eq (c .n) _ _ (λ i l. λ z. cond (dirty-is c i l (λ a. v .absent i l a .dirty) z) 1 0)
+    ∙ sum-eq (c .n) _ _ (λ i l. λ z. cond (dirty-here c v i l z) 1 0)
     ∙ count-below (c .dirty) (c .n) (v .few) (λ i l b. v .past i l b .place .slot .dirty)
 
 pub left-count : (c : Cache) → Normal c → leftCount (catalogOf c) ≡ countSet (marks (c .left))
@@ -123,6 +123,8 @@ pub record Parts (c : Cache) : Type 0 where
   pub few : c .n ≤ 256
   pub past : PastOk c
   pub entries : EntriesOk c
+  pub keys : KeysOk c
+  pub queue : QueueParts c
   pub left : LeftOk c
   pub sums : SumsOf c
   pub counts : CountsOk (c .k) (countsOf c)
@@ -142,23 +144,16 @@ normal-of c p =
             dirty = p .entries .each i l .marks .absentClean e;
             loadCredit = p .entries .each i l .marks .absentEmpty e;
             writeCredit = p .entries .each i l .marks .cleanEmpty (p .entries .each i l .marks .absentClean e);
+            key = p .keys .each i l .none e;
           };
       clean = λ i l e. p .entries .each i l .marks .cleanEmpty e;
+      heap = p .queue .heap;
+      order = p .queue .order;
+      used = p .queue .used;
     }
 
--- what the rule reads off the fields of a tidy cache
-module _ (c : Cache) (v : Normal c) (i : ℕ) (l : i < c .n) where
-  pub dirty-here : isDirty (slotAt (stateOf c) i) ≡ dirtyAt c i
-  dirty-here = dirty-is c i l (λ a. v .absent i l a .dirty)
-
-  pub load-here : loadCredit (slotAt (stateOf c) i) ≡ getD (c .loadcredit) i 0
-  load-here = load-is c i l (λ a. v .absent i l a .loadCredit)
-
-  pub write-here : writeCredit (slotAt (stateOf c) i) ≡ getD (c .writecredit) i 0
-  write-here = write-is c i l (λ a. v .absent i l a .writeCredit) (λ e. v .clean i l e)
-
 -- a slot's credits, by the rule and on the fields
-slot-of : (c : Cache) → Normal c → (i : ℕ) → i < c .n → EntryAt c i → SlotKept (itemAt (catalogOf c) i) (slotAt (stateOf c) i)
+slot-of : (c : Cache) → Normal c → (i : ℕ) → i < c .n → EntryAt c i → SlotKept (itemAt (catalogOf c) i) (storedAt (queueOf c) i)
 slot-of c v i l o =
     rw (item-is c i l)
     record {
@@ -167,6 +162,15 @@ slot-of c v i l o =
       loadTop = rw (load-here c v i l) (o .loads .top);
       writeTop = rw (write-here c v i l) (o .writes .top);
     }
+
+-- a key that fits, by the queue and on the fields
+key-of : (c : Cache) → Normal c → (i : ℕ) → i < c .n → KeyAt c i → held (storedAt (queueOf c) i) ≡ true → KeyOk (blocksOf (queueOf c) i) (c .level) (keyAt (queueOf c) i) (storedAt (queueOf c) i)
+key-of c v i l o h =
+    rw (blocks-is c i l, key-is c i l)
+    (record {
+      due = rw (load-here c v i l, write-here c v i l) (o .due (sym (stored-held c i l) ∙ h));
+      within = o .within (sym (stored-held c i l) ∙ h);
+    })
 
 sum-loads : (c : Cache) → sumTo (size (stateOf c)) (λ i. useAt (figuresOf c) i .loads) ≡ sumTo (c .n) (λ i. getD (c .itemloads) i 0)
 sum-loads c =
@@ -179,7 +183,7 @@ sum-writebacks c =
     ∙ sum-eq (c .n) _ _ (λ i l. ap (λ (u : Use). u .writebacks) (use-is c i l))
 
 pub valid-of : (c : Cache) → Costs c → Parts c → Valid c
-valid-of c w p = record { fields = v; standing = standing }
+valid-of c w p = record { fields = v; lazy = requeued; standing = standing }
   where
     v : Normal c
     v = normal-of c p
@@ -192,15 +196,35 @@ valid-of c w p = record { fields = v; standing = standing }
         let o : EntryAt c i = p .entries .each i l in
         rw (item-is c i l) record { some = o .some; small = o .small; load = w .load i; write = w .write i }
 
+    catalog : CatalogOk (catalogOf c)
+    catalog = catalog-ok (catalogOf c) (record { few = rw (size-is c) (p .few); each = λ i l. item i (below i l) })
+
+    queue : QueueOk (queueOf c)
+    queue =
+        record {
+          slots = slots-length c ∙ sym (size-is c);
+          keys = keys-length c ∙ sym (size-is c);
+          slot = λ i l. slot-of c v i (below i l) (p .entries .each i (below i l));
+          key = λ i l h. key-of c v i (below i l) (p .keys .each i (below i l)) h;
+          unkeyed = λ i l h. key-is c i (below i l) ∙ p .keys .each i (below i l) .none (sym (stored-held c i (below i l)) ∙ h);
+        }
+
+    requeued : LazyOk (lazy c)
+    requeued = record { catalog = catalog; queue = queue; level = p .queue .level }
+
     standing : StandingOk (view c)
     standing =
         record {
           capacity = capacity-ok (c .k) (record { low = p .counts .low; high = p .counts .high });
           kept =
               record {
-                catalog = catalog-ok (catalogOf c) (record { few = rw (size-is c) (p .few); each = λ i l. item i (below i l) });
-                slots = slots-length c ∙ sym (size-is c);
-                slot = λ i l. slot-of c v i (below i l) (p .entries .each i (below i l));
+                catalog = catalog;
+                slots = tab-length (length (catalogOf c)) _;
+                slot =
+                    λ i l.
+                    rw (slot-is c i (below i l))
+                    (now-kept (splitOf (c .rule)) (deduction-ok (c .rule)) (deduction-adds (c .rule)) (itemAt (catalogOf c) i) (item i (below i l) .some) (c .level)
+                    (keyAt (queueOf c) i) (storedAt (queueOf c) i) (queue .slot i l) (λ h. queue .key i l h));
                 room = p .sums .room;
                 left = λ i l e. held-is c i (below i l) ∙ p .left .each i (below i l) (sym (left-is c i (below i l)) ∙ e);
               };
@@ -243,8 +267,22 @@ entry-of c o i l =
     m : i < size (stateOf c)
     m = rw (size-is c) l
 
-    s : SlotKept (itemOf c i) (slotAt (stateOf c) i)
-    s = rw (item-is c i l) at (o .standing .kept .slot i m)
+    s : SlotKept (itemOf c i) (storedAt (queueOf c) i)
+    s = rw (item-is c i l) at (o .lazy .queue .slot i m)
+
+keys-of : (c : Cache) → Valid c → (i : ℕ) → i < c .n → KeyAt c i
+keys-of c o i l =
+    record {
+      none = λ e. o .fields .absent i l e .key;
+      within = λ e. ok e .within;
+      due = λ e. rw (load-here c (o .fields) i l, write-here c (o .fields) i l) at (ok e .due);
+    }
+  where
+    m : i < size (stateOf c)
+    m = rw (size-is c) l
+
+    ok : heldAt c i ≡ true → KeyOk (getD (c .blocks) i 0) (c .level) (getD (c .keys) i 0) (storedAt (queueOf c) i)
+    ok e = rw (blocks-is c i l, key-is c i l) at (o .lazy .queue .key i m (stored-held c i l ∙ e))
 
 pub parts-of : (c : Cache) → Valid c → Parts c
 parts-of c o =
@@ -252,6 +290,8 @@ parts-of c o =
       few = o .fields .few;
       past = record { each = o .fields .past };
       entries = record { each = entry-of c o };
+      keys = record { each = keys-of c o };
+      queue = record { heap = o .fields .heap; order = o .fields .order; used = o .fields .used; level = o .lazy .level };
       left = record { each = λ i l e. sym (held-is c i l) ∙ o .standing .kept .left i (rw (size-is c) l) (left-is c i l ∙ e) };
       sums =
           record {

@@ -1,4 +1,5 @@
 pub mod Views
-pub mod Checks
-pub mod Normals
+pub mod Stored
 pub mod Tells
+pub mod Normals
+pub mod Checks

@@ -1,25 +1,30 @@
--- The contracts by `view` leave no choice: caches with tidy fields (`Normal`) at which the rule stands alike are one and the same.
+-- The contracts by `lazy` leave no choice but how the heap is arranged: caches with tidy fields (`Normal`) at which the lazy form stands
+-- alike, and whose heaps are arranged alike, are one and the same.
 -- Assumes nothing.
-use mathlib.Core.Path.{_≡_, sym, ap, _∙_}
-use mathlib.Core.Bool.{false}
+use mathlib.Core.Path.{_≡_, refl, sym, ap, _∙_}
+use mathlib.Core.Bool.{Bool, true, false, cond}
+use Rattle.landlord.specs.Fold.{sumTo}
 use mathlib.Core.List.{List}
 use Prim.Native.Nat.{ℕ, _^_, _≤_, _<_}
 use native.Mathlib.Decide.{decLe}
 use native.Mathlib.Omega.{arith}
-use lib.ListN.{length, getD}
+use lib.ListN.{length, getD, replicate, getD-replicate, length-replicate}
 use lib.Seq.{ext-getD}
 use Rattle.landlord.specs.Catalog.{Item, itemAt}
 use Rattle.landlord.specs.Slot.{held, isDirty, loadCredit, writeCredit}
-use Rattle.landlord.specs.Rule.{size, slotAt}
-use Rattle.landlord.specs.Figures.{Standing, Use, useAt}
+use Rattle.landlord.specs.Figures.{Use, useAt}
+use Rattle.queue.specs.Queue.{storedAt, keyAt}
+use Rattle.queue.specs.Machine.{LazyStanding}
+use Rattle.heap.specs.Heap.{placeOf}
 use Rattle.landlord.proofs.Slots.{deduction-one}
+use Rattle.landlord.proofs.Sums.{sum-zero}
 use Rattle.marks.specs.Inner.{marks}
 use Rattle.marks.proofs.Laws.{length-marks, marked-at, marks-tell}
-use Rattle.cache_state.specs.Cache.{Cache, view, Normal, Valid}
-use Rattle.cache_state.specs.InnerView.{itemOf, usageOf, stateOf}
+use Rattle.cache_state.specs.Cache.{Cache, lazy, heldAt, heldItems, heldBlocks, heapAt, Normal, Valid}
+use Rattle.cache_state.specs.InnerView.{itemOf, usageOf, queueOf}
 use Rattle.cache_state.specs.InnerBecomes.{Becomes}
-use Rattle.cache_state.proofs.Views.{size-is, item-is, use-is, held-is}
-use Rattle.cache_state.proofs.Checks.{dirty-here, load-here, write-here}
+use Rattle.cache_state.proofs.Views.{size-is, item-is, use-is, key-is, stored-held}
+use Rattle.cache_state.proofs.Stored.{dirty-here, load-here, write-here}
 
 -- what the types of its fields say of a cache: a place for each of 256 items, and four words of 64 bits
 pub record Sizes (c : Cache) : Type 0 where
@@ -34,12 +39,14 @@ pub record Sizes (c : Cache) : Type 0 where
   pub minutes : length (c .minutes) ≡ 256
   pub loads : length (c .itemloads) ≡ 256
   pub writebacks : length (c .itemwritebacks) ≡ 256
+  pub keys : length (c .keys) ≡ 256
+  pub places : length (c .places) ≡ 256
   pub left : length (c .left) ≡ 4
   pub leftWords : (k : ℕ) → getD (c .left) k 0 < 2 ^ 64
 
-module _ (c d : Cache) (sc : Sizes c) (sd : Sizes d) (nc : Normal c) (nd : Normal d) (e : view c ≡ view d) where
+module _ (c d : Cache) (sc : Sizes c) (sd : Sizes d) (nc : Normal c) (nd : Normal d) (e : lazy c ≡ lazy d) (arranged : c .heap ≡ d .heap) where
   same-n : c .n ≡ d .n
-  same-n = sym (size-is c) ∙ ap (λ (v : Standing). size (v .state)) e ∙ size-is d
+  same-n = sym (size-is c) ∙ ap (λ (v : LazyStanding). length (v .queue .catalog)) e ∙ size-is d
 
   -- two arrays that agree below the catalog's end, and have nothing past it
   agree :
@@ -58,13 +65,13 @@ module _ (c d : Cache) (sc : Sizes c) (sd : Sizes d) (nc : Normal c) (nd : Norma
 
   -- the rule's item, line and slot of a number, read off either cache
   item : (i : ℕ) → i < c .n → i < d .n → itemOf c i ≡ itemOf d i
-  item i l m = sym (item-is c i l) ∙ ap (λ (v : Standing). itemAt (v .state .catalog) i) e ∙ item-is d i m
+  item i l m = sym (item-is c i l) ∙ ap (λ (v : LazyStanding). itemAt (v .queue .catalog) i) e ∙ item-is d i m
 
-  line : (i : ℕ) → i < c .n → i < d .n → usageOf c i ≡ usageOf d i
-  line i l m = sym (use-is c i l) ∙ ap (λ (v : Standing). useAt (v .figures) i) e ∙ use-is d i m
+  usage : (i : ℕ) → i < c .n → i < d .n → usageOf c i ≡ usageOf d i
+  usage i l m = sym (use-is c i l) ∙ ap (λ (v : LazyStanding). useAt (v .figures) i) e ∙ use-is d i m
 
-  slot : (i : ℕ) → slotAt (stateOf c) i ≡ slotAt (stateOf d) i
-  slot i = ap (λ (v : Standing). slotAt (v .state) i) e
+  slot : (i : ℕ) → storedAt (queueOf c) i ≡ storedAt (queueOf d) i
+  slot i = ap (λ (v : LazyStanding). storedAt (v .queue) i) e
 
   same-blocks : c .blocks ≡ d .blocks
   same-blocks =
@@ -80,7 +87,7 @@ module _ (c d : Cache) (sc : Sizes c) (sd : Sizes d) (nc : Normal c) (nd : Norma
 
   same-held : c .held ≡ d .held
   same-held =
-      agree false (c .held) (d .held) (sc .held) (sd .held) (λ i l m. sym (held-is c i l) ∙ ap held (slot i) ∙ held-is d i m) (λ i l b. nc .past i l b .place .held) (λ i l b. nd .past i l b .place .held)
+      agree false (c .held) (d .held) (sc .held) (sd .held) (λ i l m. sym (stored-held c i l) ∙ ap held (slot i) ∙ stored-held d i m) (λ i l b. nc .past i l b .place .held) (λ i l b. nd .past i l b .place .held)
 
   same-loadcredit : c .loadcredit ≡ d .loadcredit
   same-loadcredit =
@@ -92,15 +99,15 @@ module _ (c d : Cache) (sc : Sizes c) (sd : Sizes d) (nc : Normal c) (nd : Norma
 
   same-minutes : c .minutes ≡ d .minutes
   same-minutes =
-      agree 0 (c .minutes) (d .minutes) (sc .minutes) (sd .minutes) (λ i l m. ap (λ (u : Use). u .minutes) (line i l m)) (λ i l b. nc .past i l b .place .minutes) (λ i l b. nd .past i l b .place .minutes)
+      agree 0 (c .minutes) (d .minutes) (sc .minutes) (sd .minutes) (λ i l m. ap (λ (u : Use). u .minutes) (usage i l m)) (λ i l b. nc .past i l b .place .minutes) (λ i l b. nd .past i l b .place .minutes)
 
   same-itemloads : c .itemloads ≡ d .itemloads
   same-itemloads =
-      agree 0 (c .itemloads) (d .itemloads) (sc .loads) (sd .loads) (λ i l m. ap (λ (u : Use). u .loads) (line i l m)) (λ i l b. nc .past i l b .place .loads) (λ i l b. nd .past i l b .place .loads)
+      agree 0 (c .itemloads) (d .itemloads) (sc .loads) (sd .loads) (λ i l m. ap (λ (u : Use). u .loads) (usage i l m)) (λ i l b. nc .past i l b .place .loads) (λ i l b. nd .past i l b .place .loads)
 
   same-itemwritebacks : c .itemwritebacks ≡ d .itemwritebacks
   same-itemwritebacks =
-      agree 0 (c .itemwritebacks) (d .itemwritebacks) (sc .writebacks) (sd .writebacks) (λ i l m. ap (λ (u : Use). u .writebacks) (line i l m)) (λ i l b. nc .past i l b .place .writebacks) (λ i l b. nd .past i l b .place .writebacks)
+      agree 0 (c .itemwritebacks) (d .itemwritebacks) (sc .writebacks) (sd .writebacks) (λ i l m. ap (λ (u : Use). u .writebacks) (usage i l m)) (λ i l b. nc .past i l b .place .writebacks) (λ i l b. nd .past i l b .place .writebacks)
 
   same-marks : marks (c .dirty) ≡ marks (d .dirty)
   same-marks =
@@ -127,7 +134,30 @@ module _ (c d : Cache) (sc : Sizes c) (sd : Sizes d) (nc : Normal c) (nd : Norma
   same-left = marks-tell (c .left) (d .left) (sc .left) (sd .left) (sc .leftWords) (sd .leftWords) same-gone
 
   same-rule : c .rule ≡ d .rule
-  same-rule = deduction-one (c .rule) (d .rule) (ap (λ (v : Standing). v .split) e)
+  same-rule = deduction-one (c .rule) (d .rule) (ap (λ (v : LazyStanding). v .split) e)
+
+  same-keys : c .keys ≡ d .keys
+  same-keys =
+      agree 0 (c .keys) (d .keys) (sc .keys) (sd .keys) (λ i l m. sym (key-is c i l) ∙ ap (λ (v : LazyStanding). keyAt (v .queue) i) e ∙ key-is d i m) (λ i l b. nc .past i l b .place .slot .key) (λ i l b. nd .past i l b .place .slot .key)
+
+  same-count : heldItems c ≡ heldItems d
+  unfolding heldItems
+  same-count = ap (λ (hs : List Bool). sumTo 256 (λ i. cond (getD hs i false) 1 0)) same-held
+
+  same-used : c .used ≡ d .used
+  unfolding heldBlocks
+  same-used = nc .used ∙ (λ z. sumTo 256 (λ i. cond (getD (same-held z) i false) (getD (same-blocks z) i 0) 0)) ∙ sym (nd .used)
+
+  -- the places are told by the heap: each held item stands where the heap has it, and others have place 0
+  same-places : c .places ≡ d .places
+  same-places = ext-getD 0 (c .places) (d .places) (sc .places ∙ sym (sd .places)) (λ i l. at i (omega (arith, sc .places)) (heldAt c i) refl)
+    where
+      at : (i : ℕ) → i < 256 → (b : Bool) → heldAt c i ≡ b → getD (c .places) i 0 ≡ getD (d .places) i 0
+      at i l true h =
+          let low : placeOf (heapAt c) i < heldItems d = rw same-count at (nc .heap .low i l h) in
+          let there : getD (d .heap) (placeOf (heapAt c) i) 0 ≡ i = ap (λ (xs : List ℕ). getD xs (placeOf (heapAt c) i) 0) (sym arranged) ∙ nc .heap .all i l h in
+          sym (nd .heap .placed (placeOf (heapAt c) i) low) ∙ ap (λ (j : ℕ). getD (d .places) j 0) there
+      at i l false h = nc .heap .none i l h ∙ sym (nd .heap .none i l (ap (λ (hs : List Bool). getD hs i false) (sym same-held) ∙ h))
 
   pub tells : c ≡ d
   tells =
@@ -159,12 +189,27 @@ module _ (c d : Cache) (sc : Sizes c) (sd : Sizes d) (nc : Normal c) (nd : Norma
         left = same-left j;
         arrivals = e j .figures .totals .arrivals;
         retirements = e j .figures .totals .retirements;
+        level = e j .queue .level;
+        keys = same-keys j;
+        heap = arranged j;
+        places = same-places j;
+        used = same-used j;
       }
 
--- there is one cache that stands where the rule stands
-pub becomes-one : (v : Standing) (c d : Cache) → Sizes c → Sizes d → Becomes v c → Becomes v d → c ≡ d
+-- there is one cache that stands where the lazy form stands, for each arrangement of the heap
+pub becomes-one : (v : LazyStanding) (c d : Cache) → Sizes c → Sizes d → Becomes v c → Becomes v d → c .heap ≡ d .heap → c ≡ d
 becomes-one v c d sc sd bc bd = tells c d sc sd (bc .fields) (bd .fields) (bc .stands ∙ sym (bd .stands))
 
--- and so there is one valid cache with a given view
-pub valid-one : (c d : Cache) → Sizes c → Sizes d → Valid c → Valid d → view c ≡ view d → c ≡ d
+-- and so there is one valid cache with a given line, for each arrangement of the heap
+pub valid-one : (c d : Cache) → Sizes c → Sizes d → Valid c → Valid d → lazy c ≡ lazy d → c .heap ≡ d .heap → c ≡ d
 valid-one c d sc sd vc vd e = tells c d sc sd (vc .fields) (vd .fields) e
+
+-- a cache that holds nothing has one arrangement: every place of its heap is 0
+pub empty-heap : (c : Cache) → Normal c → ((i : ℕ) → i < 256 → heldAt c i ≡ false) → length (c .heap) ≡ 256 → c .heap ≡ replicate 256 0
+unfolding heldItems
+empty-heap c ok none long =
+    ext-getD 0 (c .heap) (replicate 256 0) (long ∙ sym (length-replicate {A = ℕ} 256 0))
+    (λ i l. ok .heap .past i (omega (arith, size)) ∙ sym (getD-replicate 256 i 0 0 (omega (arith, long))))
+  where
+    size : sumTo 256 (λ i. cond (heldAt c i) 1 0) ≡ 0
+    size = sum-zero 256 (λ i. cond (heldAt c i) 1 0) (λ i u. ap (λ (t : Bool). cond t 1 0) (none i u))

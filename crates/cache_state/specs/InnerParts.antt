@@ -1,12 +1,14 @@
 -- What the parts of the check of validity decide, on the fields of a cache: that the places past the catalog are blank, and what the
 -- tests of the crate `validity` find. proofs/Checks.antt shows that together they are validity. Assumes nothing.
-use Prim.Native.Nat.{ℕ, _≤_, _<_}
+use Prim.Native.Nat.{ℕ, _+_, _*_, _≤_, _<_}
 use mathlib.Core.{Path._≡_, Bool.{true, false}}
+use Rattle.queue.specs.Queue.{mostRise}
+use Rattle.heap.specs.Heap.{weightAt, Contains, Ordered}
 use lib.ListN.{getD}
 use Rattle.landlord.specs.{Fold.sumTo, Rule.{used, heldCount}}
 use Rattle.marks.specs.Inner.{marks, countSet}
-use Rattle.validity.specs.Inner.{EntryOk, SumsOk}
-use Rattle.cache_state.specs.{Cache.{Cache, Blank, dirtyAt, leftAt}, InnerView.stateOf}
+use Rattle.validity.specs.Inner.{EntryOk, KeyFits, SumsOk}
+use Rattle.cache_state.specs.{Cache.{Cache, Blank, dirtyAt, leftAt, heldAt, heldBlocks, heapAt}, InnerView.stateOf}
 
 -- every place past the catalog is blank
 pub record PastOk (c : Cache) : Type 0 where
@@ -21,6 +23,21 @@ EntryAt c i =
 -- every item of the catalog is as it should be
 pub record EntriesOk (c : Cache) : Type 0 where
   pub each : (i : ℕ) → i < c .n → EntryAt c i
+
+-- what is asked of the key of the item at place i: what `key_ok` decides of its numbers
+abbrev pub KeyAt : Cache → ℕ → Type 0
+KeyAt c i = KeyFits (heldAt c i) (c .level) (getD (c .keys) i 0) (getD (c .loadcredit) i 0 + getD (c .writecredit) i 0) (getD (c .blocks) i 0)
+
+-- the key of every item of the catalog is as it should be
+pub record KeysOk (c : Cache) : Type 0 where
+  pub each : (i : ℕ) → i < c .n → KeyAt c i
+
+-- the heap, the level and the blocks held
+pub record QueueParts (c : Cache) : Type 0 where
+  pub heap : Contains (heldAt c) (heapAt c)
+  pub order : Ordered (weightAt (c .keys) (heapAt c)) (heapAt c .size)
+  pub used : c .used ≡ heldBlocks c
+  pub level : c .level ≤ c .evictions * mostRise
 
 -- no item that has left is held
 pub record LeftOk (c : Cache) : Type 0 where

@@ -1,9 +1,10 @@
 -- The parts of where the rule stands in a cache (specs/Cache.antt), by names of their own. Assumes nothing.
 use lib.ListN.{getD}
 use Rattle.landlord.specs.{Catalog.Item, Figures.{Use, useOf, Totals, Figures}, Slot.{Slot, absent, clean, dirty}, Rule.State}
+use Rattle.queue.specs.Queue.{Queue}
 use mathlib.Core.Bool.{Bool, cond}
 use Prim.Native.Nat.{ℕ}
-use Rattle.cache_state.specs.Cache.{Cache, leftAt, view}
+use Rattle.cache_state.specs.Cache.{Cache, leftAt, lazy, view}
 
 -- item i of the catalog
 abbrev pub itemOf : Cache → ℕ → Item
@@ -16,6 +17,9 @@ usageOf c i = useOf (getD (c .minutes) i 0) (getD (c .itemloads) i 0) (getD (c .
 -- a slot from its marks and credits
 abbrev pub slotFrom : Bool → Bool → ℕ → ℕ → Slot
 slotFrom isHeld isDirty a b = cond isHeld (cond isDirty (dirty a b) (clean a)) absent
+
+abbrev pub queueOf : Cache → Queue
+queueOf c = lazy c .queue
 
 abbrev pub stateOf : Cache → State
 stateOf c = view c .state

@@ -37,6 +37,11 @@ withCatalog c capacity count sizes loads writes gone =
       left = gone;
       arrivals = c .arrivals;
       retirements = c .retirements;
+      level = c .level;
+      keys = c .keys;
+      heap = c .heap;
+      places = c .places;
+      used = c .used;
     }
 
 -- a cache with other slots: which items are held, the two credits, and the marks of the dirty ones
@@ -69,6 +74,11 @@ withSlots c holds loads writes marked =
       left = c .left;
       arrivals = c .arrivals;
       retirements = c .retirements;
+      level = c .level;
+      keys = c .keys;
+      heap = c .heap;
+      places = c .places;
+      used = c .used;
     }
 
 -- a cache with other figures: minutes, loads and writebacks of each item, and the totals
@@ -101,6 +111,11 @@ withFigures c minutesNow loads writes t =
       left = c .left;
       arrivals = t .arrivals;
       retirements = t .retirements;
+      level = c .level;
+      keys = c .keys;
+      heap = c .heap;
+      places = c .places;
+      used = c .used;
     }
 
 -- a cache closed or not, and of a rule of deduction
@@ -133,7 +148,71 @@ withMode c isClosed r =
       left = c .left;
       arrivals = c .arrivals;
       retirements = c .retirements;
+      level = c .level;
+      keys = c .keys;
+      heap = c .heap;
+      places = c .places;
+      used = c .used;
     }
+
+-- a cache with another queue: the level, the keys, the heap with the place of each item, and the blocks held
+abbrev pub withQueue : Cache → ℕ → List ℕ → List ℕ → List ℕ → ℕ → Cache
+withQueue c levelNow keysNow heapNow placesNow usedNow =
+    record {
+      k = c .k;
+      n = c .n;
+      blocks = c .blocks;
+      load = c .load;
+      write = c .write;
+      held = c .held;
+      loadcredit = c .loadcredit;
+      writecredit = c .writecredit;
+      dirty = c .dirty;
+      minutes = c .minutes;
+      itemloads = c .itemloads;
+      itemwritebacks = c .itemwritebacks;
+      steps = c .steps;
+      hits = c .hits;
+      loads = c .loads;
+      loadcost = c .loadcost;
+      evictions = c .evictions;
+      dirtyevictions = c .dirtyevictions;
+      writebacks = c .writebacks;
+      writecost = c .writecost;
+      flushes = c .flushes;
+      closed = c .closed;
+      rule = c .rule;
+      left = c .left;
+      arrivals = c .arrivals;
+      retirements = c .retirements;
+      level = levelNow;
+      keys = keysNow;
+      heap = heapNow;
+      places = placesNow;
+      used = usedNow;
+    }
+
+abbrev pub withLevel : Cache → ℕ → Cache
+withLevel c v = withQueue c v (c .keys) (c .heap) (c .places) (c .used)
+
+-- the key of item i
+abbrev pub withKey : Cache → ℕ → ℕ → Cache
+withKey c i v = withQueue c (c .level) (set (c .keys) i v) (c .heap) (c .places) (c .used)
+
+-- the heap arranged otherwise
+abbrev pub withArrangement : Cache → List ℕ → List ℕ → Cache
+withArrangement c items places = withQueue c (c .level) (c .keys) items places (c .used)
+
+-- the item at place i of the heap
+abbrev pub withHeapItem : Cache → ℕ → ℕ → Cache
+withHeapItem c i v = withArrangement c (set (c .heap) i v) (c .places)
+
+-- the place of item i
+abbrev pub withPlace : Cache → ℕ → ℕ → Cache
+withPlace c i v = withArrangement c (c .heap) (set (c .places) i v)
+
+abbrev pub withUsed : Cache → ℕ → Cache
+withUsed c v = withQueue c (c .level) (c .keys) (c .heap) (c .places) v
 
 abbrev pub withClosed : Cache → Bool → Cache
 withClosed c isClosed = withMode c isClosed (c .rule)

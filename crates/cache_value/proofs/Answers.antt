@@ -18,7 +18,7 @@ use Rattle.cache_value.specs.declared.Cache.{Cache}
 use Rattle.cache_value.specs.declared.Answered.{Answered}
 use Rattle.cache_value.specs.Contract.{byValue, answerTold, answerNumber, CalledBy, OpenedBy}
 use Rattle.cache_value.specs.Inner.{Opened}
-use Rattle.cache_value.proofs.Openings.{atOpening}
+use Rattle.cache_value.proofs.Openings.{atOpening, lazyOpened}
 
 -- ---- the number is at most 20
 
@@ -94,10 +94,17 @@ opened-as o n c r h t e =
       tells = t ∙ ap (λ (m : ℕ). telling m 0 0) (h .answer);
       valid = p .valid;
       stands = p .stands ∙ ap (atOpening o) (p .answer);
+      lazy = p .lazy ∙ ap (lazyOpened o) (p .answer);
       empty = p .empty;
     }
 
 pub opened-by : (o : Opening Catalog) (r : Answered) → OpenedBy o r → Opened o (answerNumber (r .answer)) (r .cache)
 opened-by o r h =
     let n = number-told 0 (h .tells) in
-    record { answer = n; valid = h .valid; stands = h .stands ∙ ap (atOpening o) (sym n); empty = h .empty }
+    record {
+      answer = n;
+      valid = h .valid;
+      stands = h .stands ∙ ap (atOpening o) (sym n);
+      lazy = h .lazy ∙ ap (lazyOpened o) (sym n);
+      empty = h .empty;
+    }

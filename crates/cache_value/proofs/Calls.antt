@@ -10,7 +10,8 @@ use Rattle.types.specs.declared.Numbers.{Numbers}
 use Rattle.types.specs.Types.{numbersOf}
 use Rattle.landlord.specs.Figures.{Standing}
 use Rattle.landlord.specs.Calls.{Call, stepCall, close, callOf, refusalNow, after}
-use Rattle.cache_state.specs.Cache.{view, Valid}
+use Rattle.queue.specs.Machine.{LazyStanding, afterIn}
+use Rattle.cache_state.specs.Cache.{lazy, view, Valid}
 use Rattle.layout.specs.Layout.{cacheOf, ValidBytes}
 use Rattle.layout.specs.Inner.{Stands}
 use Rattle.types.specs.declared.Refusal.the-variants.{InvalidState}
@@ -39,6 +40,9 @@ module _ {b : List ℕ} (c : Cache) (s : Stands b (recordOf c)) where
   pub same-view : view (cacheOf b) ≡ view (recordOf c)
   same-view = ap view (s .cache)
 
+  pub same-lazy : lazy (cacheOf b) ≡ lazy (recordOf c)
+  same-lazy = ap lazy (s .cache)
+
   -- refused in place, the struct is handed back as it was
   pub refused-called : {next : List ℕ} (call : Call) (n : ℕ) → Called lent b call n next → n ≢ 0 → Called byValue c call n c
   refused-called call n h d =
@@ -57,6 +61,7 @@ module _ {b : List ℕ} (c : Cache) (s : Stands b (recordOf c)) where
               answer = sym z ∙ a .answer ∙ ap (λ (v : Standing). refusalNow v call) same-view;
               valid = subst Valid (sym e) (a .valid .cache);
               stands = ap view e ∙ a .stands ∙ ap (λ (v : Standing). after v call) same-view;
+              lazy = ap lazy e ∙ a .lazy ∙ ap (λ (v : LazyStanding). afterIn v call) same-lazy;
               refused = λ w. absurd (w refl);
             };
         invalid = λ bad. absurd (let y : _≡_ {A = ℕ} 17 0 = sym (h .invalid (λ ok. bad (valid-here ok)) .0) ∙ z in omega arith);

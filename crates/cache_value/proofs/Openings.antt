@@ -16,7 +16,7 @@ use Rattle.types.specs.declared.Deduction.the-variants.{WriteFirst}
 use Rattle.types.specs.Types.{deductionOf}
 use Rattle.landlord.specs.Fold.{tabFrom, fold}
 use Rattle.landlord.specs.Catalog.{Catalog, Item, itemAt, noItem, listed, noneLeft, CapacityOk, CatalogOk, allInRange, catalogInRange}
-use Rattle.landlord.specs.Slot.{writeFirst}
+use Rattle.landlord.specs.Slot.{writeFirst, splitOf}
 use Rattle.landlord.specs.Rule.{flush, writeBacks}
 use Rattle.landlord.specs.Figures.{Standing, start, opened, closes}
 use Rattle.landlord.specs.Calls.{Opening, opening, openingRefusal, startsAt}
@@ -24,9 +24,11 @@ use Rattle.landlord.specs.Valid.{StandingOk}
 use Rattle.landlord.proofs.Folds.{tab-length, tab-at, tab-more}
 use Rattle.landlord.proofs.Valid.{ok-opened, ok-closes}
 use Rattle.landlord.proofs.Ranges.{range-refused}
+use Rattle.queue.specs.Machine.{LazyStanding, LazyOk, standing, lazyAtOpening, lazyStartsAt}
+use Rattle.queue.proofs.Logs.{opening-ok, opening-stands}
 use Rattle.catalog_bytes.specs.Inner.{catalogOfFirst, itemBytes}
 use Rattle.catalog_bytes.proofs.Laws.{none-first, one-more}
-use Rattle.cache_state.specs.Cache.{view, Valid, EmptyPlace, Blank}
+use Rattle.cache_state.specs.Cache.{lazy, view, Valid, EmptyPlace, Blank}
 use Rattle.cache_state.specs.InnerView.{itemOf}
 use Rattle.cache_state.specs.InnerBecomes.{Becomes}
 use Rattle.cache_state.specs.Cache as records
@@ -38,27 +40,48 @@ use Rattle.cache_open.proofs.Blocks.{catalog-few}
 use Rattle.cache_open.proofs.Empty.{empty-place, empty-becomes}
 use Rattle.cache_open.proofs.Openings.{asks}
 use Rattle.cache_value.specs.declared.Cache.{Cache}
-use Rattle.cache_value.specs.Contract.{recordOf, catalogFrom, refusedOpening}
+use Rattle.cache_value.specs.Contract.{recordOf, byValue, catalogFrom, refusedOpening, refusedLazy}
 use Rattle.cache_value.specs.Inner.{nothingOpened, Opened}
 
 -- where an opening stands, by the number of its answer
 abbrev pub atOpening : Opening Catalog → ℕ → Standing
 atOpening o number = cond (eqb number 0) (startsAt o) refusedOpening
 
+abbrev pub lazyOpened : Opening Catalog → ℕ → LazyStanding
+lazyOpened o number = cond (eqb number 0) (lazyStartsAt o) refusedLazy
+
+-- the rule stands where that stands for
+refused-stands : standing refusedLazy ≡ refusedOpening
+unfolding tabFrom
+refused-stands = refl
+
+opened-stands : (o : Opening Catalog) (number : ℕ) → standing (lazyOpened o number) ≡ atOpening o number
+opened-stands o number = go (eqb number 0)
+  where
+    go :
+        (t : Bool) →
+        standing (cond t (lazyStartsAt o) refusedLazy)
+        ≡ cond t (startsAt o) refusedOpening
+    go true = opening-stands (splitOf (deductionOf (o .rule))) (o .k) (o .catalog)
+    go false = refused-stands
+
 -- a struct that stands there in order, empty in all its places
 stood :
     (o : Opening Catalog) (number : ℕ) (c : Cache) {k n : ℕ} {blocks load write : List ℕ} {isClosed : Bool} {r : Deduction} →
     number ≡ openingRefusal o →
+    LazyOk (lazyOpened o number) →
     StandingOk (atOpening o number) →
-    Becomes (atOpening o number) (emptyWith k n blocks load write isClosed r) →
+    Becomes (lazyOpened o number) (emptyWith k n blocks load write isClosed r) →
     recordOf c ≡ emptyWith k n blocks load write isClosed r →
     Opened o number c
-stood o number c {k = k} {n = n} {blocks = blocks} {load = load} {write = write} {isClosed = isClosed} {r = r} asked ok h e =
-    let so : Becomes (atOpening o number) (recordOf c) = subst (Becomes (atOpening o number)) (sym e) h in
+stood o number c {k = k} {n = n} {blocks = blocks} {load = load} {write = write} {isClosed = isClosed} {r = r} asked fit ok h e =
+    let so : Becomes (lazyOpened o number) (recordOf c) = subst (Becomes (lazyOpened o number)) (sym e) h in
+    let at : byValue .view c ≡ atOpening o number = ap standing (so .stands) ∙ opened-stands o number in
     record {
       answer = asked;
-      valid = record { fields = so .fields; standing = subst StandingOk (sym (so .stands)) ok };
-      stands = so .stands;
+      valid = record { fields = so .fields; lazy = subst LazyOk (sym (so .stands)) fit; standing = subst StandingOk (sym at) ok };
+      stands = at;
+      lazy = so .stands;
       empty = λ i l. subst (λ (z : records.Cache). EmptyPlace z i) (sym e) (empty-place k n blocks load write isClosed r i l);
     }
 
@@ -71,6 +94,9 @@ refused-ok = unfold closes flush writeBacks tabFrom fold in ok-closes (opened (s
 
     none : CatalogOk []
     none = unfold catalogInRange allInRange in refl
+
+refused-fits : LazyOk refusedLazy
+refused-fits = let l = opening-ok writeFirst 1 [] (unfold catalogInRange allInRange in refl) in record { catalog = l .catalog; queue = l .queue; level = l .level }
 
 no-column : (f : ℕ → ℕ) → Column 0 f (replicate 256 0)
 no-column f = record { front = λ i l. absurd (let z : i < 0 = l in omega arith); rest = λ i l u. getD-replicate 256 i 0 0 u }
@@ -94,7 +120,7 @@ module _ (k rule n : ℕ) (blocks load write : List ℕ) where
       Opened asked number c
   unfolding tabFrom
   refused-with number c same some e =
-      stood asked number c same (rw some refused-ok)
+      stood asked number c same (rw some refused-fits) (rw some refused-ok)
       (rw some
       (empty-becomes 1 0 item true WriteFirst (replicate 256 0) (replicate 256 0) (replicate 256 0) (omega arith) (no-column (λ i. item i .blocks)) (no-column (λ i. item i .load)) (no-column (λ i. item i .write)) (λ i. refl)))
       e
@@ -119,6 +145,9 @@ module _ (k rule n : ℕ) (blocks load write : List ℕ) where
 
     -- what the opening left in the bytes, read as a struct: its blocks and costs are those of the items, and 0 past them
     module _ (d : Cache) (none : number ≡ 0) (read : recordOf d ≡ cacheOf after) where
+      begins : lazy (recordOf d) ≡ lazyOpened asked 0
+      begins = ap lazy read ∙ h .lazy none ∙ ap (λ (x : Catalog). lazyAtOpening (splitOf (deductionOf rule)) k x) same
+
       starts : view (recordOf d) ≡ startsAt asked
       starts = ap view read ∙ h .stands none ∙ ap (λ (x : Catalog). startsAt (opening k rule x)) same
 
@@ -140,7 +169,7 @@ module _ (k rule n : ℕ) (blocks load write : List ℕ) where
       pub open-taken : {r : Deduction} (c : Cache) → r ≡ deductionOf rule → recordOf c ≡ emptyWith k n (d .blocks) (d .load) (d .write) false r → Opened asked 0 c
       unfolding catalogFrom
       open-taken c is e =
-          stood asked 0 c (sym none ∙ table) (subst StandingOk starts (fine .standing))
+          stood asked 0 c (sym none ∙ table) (subst LazyOk begins (fine .lazy)) (subst StandingOk starts (fine .standing))
           (empty-becomes k n item false (deductionOf rule) (d .blocks) (d .load) (d .write) few
           (record { front = λ i l. ap (λ (x : Item). x .blocks) (at i l); rest = λ i m u. past i m u .blocks })
           (record { front = λ i l. ap (λ (x : Item). x .load) (at i l); rest = λ i m u. past i m u .load })

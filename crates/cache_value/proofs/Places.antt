@@ -9,7 +9,7 @@ use lib.ListN.{length, take, drop, getD, set, replicate, length-replicate, drop-
 use lib.Seq.{take-all}
 use Rattle.cache_state.specs.Cache.{Cache}
 use Rattle.cache_state.specs.InnerView.{countsOf}
-use Rattle.cache_state.specs.InnerWith.{withCatalog, withSlots, withFigures}
+use Rattle.cache_state.specs.InnerWith.{withCatalog, withSlots, withFigures, withQueue}
 use Rattle.layout.specs.InnerRows.{WholeArrays}
 use Rattle.cache_value.specs.Inner.{firstOf, placesBy, placesTo}
 
@@ -46,11 +46,13 @@ module _ (c : Cache) (w : WholeArrays c) where
       ((xs : List Bool) → length xs ≡ 256 → g xs ≡ k xs) →
       placesBy f g c ≡ placesBy h k c
   places-same e d = λ j.
-      withFigures
+      withQueue
+      (withFigures
       (withSlots
       (withCatalog c (c .k) (c .n) (e (c .blocks) (w .blocks) j) (e (c .load) (w .load) j) (e (c .write) (w .write) j) (c .left))
       (d (c .held) (w .held) j) (e (c .loadcredit) (w .loadcredit) j) (e (c .writecredit) (w .writecredit) j) (c .dirty))
-      (e (c .minutes) (w .minutes) j) (e (c .itemloads) (w .itemloads) j) (e (c .itemwritebacks) (w .itemwritebacks) j) (countsOf c)
+      (e (c .minutes) (w .minutes) j) (e (c .itemloads) (w .itemloads) j) (e (c .itemwritebacks) (w .itemwritebacks) j) (countsOf c))
+      (c .level) (e (c .keys) (w .keys) j) (e (c .heap) (w .heap) j) (e (c .places) (w .places) j) (c .used)
 
   -- one place more
   pub place-more : (i : ℕ) → i < 256 → placesBy (λ xs. set (firstOf 0 i xs) i (getD xs i 0)) (λ xs. set (firstOf false i xs) i (getD xs i false)) c ≡ placesTo (i + 1) c

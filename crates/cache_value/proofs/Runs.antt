@@ -9,7 +9,7 @@ use Rattle.landlord.specs.Catalog.{Catalog}
 use Rattle.landlord.specs.Figures.{Standing, totalCost}
 use Rattle.landlord.specs.Calls.{Opening, Call}
 use Rattle.landlord.proofs.Ranges.{opening-taken}
-use Rattle.cache_state.specs.Cache.{view, Valid}
+use Rattle.cache_state.specs.Cache.{lazy, view, Valid}
 use Rattle.layout.specs.Layout.{cacheOf}
 use Rattle.layout.specs.Inner.{Stands}
 use Rattle.cache.specs.Contract.{lent}
@@ -21,9 +21,9 @@ use Rattle.cache_value.specs.declared.Answered.{Answered}
 use Rattle.cache_value.specs.declared.Answer.the-variants.{Taken}
 use Rattle.cache_value.specs.Inner.{Opened}
 use Rattle.cache_value.specs.Contract.{recordOf, byValue, answerTold, SeasonByValue, Ran}
-use Rattle.cache_value.proofs.Openings.{atOpening}
+use Rattle.cache_value.proofs.Openings.{atOpening, lazyOpened}
 use Rattle.cache_value.proofs.Answers.{number-told, opened-as}
-use Rattle.cache_value.proofs.Calls.{valid-there, same-view}
+use Rattle.cache_value.proofs.Calls.{valid-there, same-view, same-lazy}
 
 pub run-refused :
     (o : Opening Catalog) (calls : List Call) (before : List ℕ) (n : ℕ) (c : Cache) (r : Answered) →
@@ -47,6 +47,7 @@ bytes-begin o n c b h z s =
       fine = opening-taken o (sym (h .answer) ∙ z);
       valid = valid-there c s (h .valid);
       stands = same-view c s ∙ h .stands ∙ ap (atOpening o) z;
+      lazy = same-lazy c s ∙ h .lazy ∙ ap (lazyOpened o) z;
     }
 
 -- the conclusions for bytes are those for the struct that they stand for
@@ -63,6 +64,7 @@ season-carried o calls numbers last d e s = record { season = season; cost = sea
           answers = s .answers;
           valid = subst Valid (sym e) (s .valid .cache);
           stands = ap view e ∙ s .stands;
+          lazy = ap lazy e ∙ s .lazy;
           cost = λ closing. subst (λ (v : Standing). Bounded o calls (totalCost (v .figures))) (sym (ap view e)) (s .cost closing);
         }
 

@@ -19,7 +19,7 @@ use Rattle.cache_value.proofs.Answers.{opened-by}
 
 -- an opening that was not refused
 value-begins : (o : Opening Catalog) (first : Cache) → Opened o 0 first → BeginsAt byValue o first
-value-begins o first h = record { fine = opening-taken o (sym (h .answer)); valid = h .valid; stands = h .stands }
+value-begins o first h = record { fine = opening-taken o (sym (h .answer)); valid = h .valid; stands = h .stands; lazy = h .lazy }
 
 -- Demand 3 by value.
 pub season-by-value : (o : Opening Catalog) (calls : List Call) (numbers : List ℕ) (d : Cache) → Chain o calls numbers d → SeasonByValue o calls numbers d

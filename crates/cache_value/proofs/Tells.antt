@@ -1,5 +1,6 @@
--- The contracts of the methods leave no choice: there is exactly one valid struct that stands where the rule stands, and one answer
--- that tells so much. And a report's text is within its page. Assumes nothing.
+-- The contracts of the methods leave no choice but how the heap is arranged: for each arrangement there is exactly one valid struct where
+-- the lazy form stands; and there is one answer that tells so much. At an opening the heap is empty, and nothing is free. And a report's
+-- text is within its page. Assumes nothing.
 use mathlib.Core.Path.{_≡_, refl, sym, ap, subst, _∙_}
 use mathlib.Core.Logic.{⊎-elim}
 use mathlib.Core.List.{List}
@@ -7,7 +8,8 @@ use Prim.Native.Nat.{ℕ, _≤_, _<_}
 use native.Mathlib.Omega.{arith}
 use lib.ListN.{length}
 use Rattle.types.specs.Types.{Told, telling}
-use Rattle.landlord.specs.Calls.{Call, callItem}
+use Rattle.landlord.specs.Catalog.{Catalog}
+use Rattle.landlord.specs.Calls.{Call, callItem, Opening}
 use Rattle.types.proofs.Refusals.{refusal-one, refused-some}
 use Rattle.cache_state.proofs.Tells.{Sizes}
 use Rattle.cache_state.proofs.Tells as records
@@ -21,7 +23,7 @@ use Rattle.cache_value.specs.declared.Cache.{Cache}
 use Rattle.cache_value.specs.declared.Answer.{Answer}
 use Rattle.cache_value.specs.declared.Answer.the-variants.{Taken, Refused}
 use Rattle.cache_value.specs.declared.Answered.{Answered}
-use Rattle.cache_value.specs.Contract.{recordOf, byValue, answerTold, CalledBy, ReportedBy}
+use Rattle.cache_value.specs.Contract.{recordOf, byValue, answerTold, CalledBy, OpenedBy, ReportedBy}
 
 -- structs that are one record are one struct
 pub record-one : (c d : Cache) → recordOf c ≡ recordOf d → c ≡ d
@@ -53,20 +55,26 @@ record-one c d e = λ j.
       left = e j .left;
       arrivals = e j .arrivals;
       retirements = e j .retirements;
+      level = e j .level;
+      keys = e j .keys;
+      heap = e j .heap;
+      places = e j .places;
+      used = e j .used;
     }
 
-pub valid-one : (c d : Cache) → Sizes (recordOf c) → Sizes (recordOf d) → byValue .Valid c → byValue .Valid d → byValue .view c ≡ byValue .view d → c ≡ d
-valid-one c d sc sd ok so e = record-one c d (records.valid-one (recordOf c) (recordOf d) sc sd ok so e)
+pub valid-one : (c d : Cache) → Sizes (recordOf c) → Sizes (recordOf d) → byValue .Valid c → byValue .Valid d → byValue .lazy c ≡ byValue .lazy d → c .heap ≡ d .heap → c ≡ d
+valid-one c d sc sd ok so e arranged = record-one c d (records.valid-one (recordOf c) (recordOf d) sc sd ok so e arranged)
 
--- so of a call: one answer, and one struct handed back
+-- so of a call: one answer, and one struct handed back for each arrangement of the heap
 pub answers-one :
     (c d e : Cache) (call : Call) (n m : ℕ) →
     Sizes (recordOf d) →
     Sizes (recordOf e) →
     Answers byValue c call n d →
     Answers byValue c call m e →
-    (n ≡ m) × (d ≡ e)
-answers-one c d e call n m sd se p q = (p .answer ∙ sym (q .answer), valid-one d e sd se (p .valid) (q .valid) (p .stands ∙ sym (q .stands)))
+    (n ≡ m) × (d .heap ≡ e .heap → d ≡ e)
+answers-one c d e call n m sd se p q =
+    (p .answer ∙ sym (q .answer), λ arranged. valid-one d e sd se (p .valid) (q .valid) (p .lazy ∙ sym (q .lazy)) arranged)
 
 -- ---- answers
 
@@ -76,7 +84,7 @@ answer-one Taken (Refused r) e = absurd (refused-some r (λ j. sym e j .number))
 answer-one (Refused r) Taken e = absurd (refused-some r (λ j. e j .number))
 answer-one (Refused r) (Refused z) e = ap Refused (refusal-one r z e)
 
--- so of a method on a valid struct: one answer, and one struct handed back
+-- so of a method on a valid struct: one answer, and one struct handed back for each arrangement of the heap
 pub method-one :
     (c : Cache) (call : Call) (r s : Answered) →
     byValue .Valid c →
@@ -84,10 +92,29 @@ pub method-one :
     Sizes (recordOf (s .cache)) →
     CalledBy c call r →
     CalledBy c call s →
-    (r .answer ≡ s .answer) × (r .cache ≡ s .cache)
+    (r .answer ≡ s .answer) × (r .cache .heap ≡ s .cache .heap → r .cache ≡ s .cache)
 method-one c call r s ok sr ss p q =
     let one = answers-one c (r .cache) (s .cache) call _ _ sr ss (p .called .fine ok) (q .called .fine ok) in
     (answer-one (r .answer) (s .answer) (p .tells ∙ ap (λ (n : ℕ). telling n 0 (callItem call)) (one .0) ∙ sym (q .tells)), one .1)
+
+-- ---- the opening
+
+-- nothing is held, so the heap has one arrangement
+pub opening-one :
+    (o : Opening Catalog) (r s : Answered) →
+    Sizes (recordOf (r .cache)) →
+    Sizes (recordOf (s .cache)) →
+    length (r .cache .heap) ≡ 256 →
+    length (s .cache .heap) ≡ 256 →
+    OpenedBy o r →
+    OpenedBy o s →
+    (r .answer ≡ s .answer) × (r .cache ≡ s .cache)
+opening-one o r s sr ss lr ls p q = (
+  answer-one (r .answer) (s .answer) (p .tells ∙ sym (q .tells)),
+  valid-one (r .cache) (s .cache) sr ss (p .valid) (q .valid) (p .lazy ∙ sym (q .lazy))
+      (records.empty-heap (recordOf (r .cache)) (p .valid .fields) (λ i u. p .empty i u .held) lr
+      ∙ sym (records.empty-heap (recordOf (s .cache)) (q .valid .fields) (λ i u. q .empty i u .held) ls)),
+)
 
 -- ---- the report
 

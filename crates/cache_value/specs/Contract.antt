@@ -1,10 +1,11 @@
 -- The cache as a struct, its calls and its report as methods: what each promises, and the season theorem by value. Assumes nothing.
-use mathlib.Core.{Path._≡_, Bool.{true, cond}, List.{List, [], _∷_, map}, Logic._≢_}
+use mathlib.Core.{Path.{_≡_, refl}, Bool.{true, cond}, List.{List, [], _∷_, map}, Logic._≢_}
 use Prim.Native.Nat.{ℕ, _<_, _+_}
 use lib.{Dec.eqb, ListN.{getD, length, take}, Seq.sets}
 use Rattle.types.specs.Types.{telling, nothingTold, told, Told}
 use Rattle.landlord.specs.{Fold.tab, Catalog.{Catalog, listed}, Slot.writeFirst, Rule.emptied, Figures.{Standing, nothing, start, opened, changed}, Calls.{Opening, Call, callItem, openingRefusal, startsAt, close, refusal}}
-use Rattle.cache_state.specs.Cache.{Cache as Record, view, Valid, EmptyPlace}
+use Rattle.queue.specs.Machine.{LazyStanding, emptyQueue, lazyStartsAt}
+use Rattle.cache_state.specs.Cache.{Cache as Record, lazy, view, Valid, EmptyPlace}
 use Rattle.report_lines.specs.declared.Rival.the-variants.{Absent}
 use Rattle.report.specs.{declared.Written.Written, Report.{reportOf, writtenTold, Put}}
 use Rattle.cache.specs.Contract.{Kind, Called}
@@ -41,11 +42,16 @@ recordOf c =
       left = c .left;
       arrivals = c .arrivals;
       retirements = c .retirements;
+      level = c .level;
+      keys = c .keys;
+      heap = c .heap;
+      places = c .places;
+      used = c .used;
     }
 
 -- the struct as a kind of state
 abbrev pub byValue : Kind Cache
-byValue = record { view = λ c. view (recordOf c); Valid = λ c. Valid (recordOf c) }
+byValue = record { lazy = λ c. lazy (recordOf c); view = λ c. view (recordOf c); same = λ c. refl; Valid = λ c. Valid (recordOf c) }
 
 -- the catalog that an opening is given: of arrays of blocks, load costs and write costs, the first n places
 unfoldable pub catalogFrom : ℕ → List ℕ → List ℕ → List ℕ → Catalog
@@ -54,6 +60,10 @@ catalogFrom n blocks load write = tab n (λ i. listed (getD blocks i 0) (getD lo
 -- "refused by value, it gives a closed locker of 1 block with no sails"; "write-first if refused" (paper 02, 'Three')
 abbrev pub refusedOpening : Standing
 refusedOpening = changed (opened (start writeFirst 1 [])) (emptied []) (nothing []) true
+
+-- the same in the lazy form: no key, and level 0
+abbrev pub refusedLazy : LazyStanding
+refusedLazy = record { k = 1; queue = emptyQueue []; figures = nothing []; closed = true; split = writeFirst }
 
 -- what a method's answer tells
 abbrev pub answerTold : Answer → Told
@@ -64,16 +74,22 @@ answerTold (Refused r) = told r
 abbrev pub answerNumber : Answer → ℕ
 answerNumber a = answerTold a .number
 
--- a step or the closing as a method: the answer tells the call's number and its item, and no line; the next cache comes with it
+-- A step or the closing as a method: the answer tells the call's number and its item, and no line; the next cache comes with it. What is
+-- left open is how that one's heap is arranged, and that alone (proofs/Tells.antt).
 pub record CalledBy (c : Cache) (call : Call) (r : Answered) : Type 0 where
   pub called : Called byValue c call (answerNumber (r .answer)) (r .cache)
   pub tells : answerTold (r .answer) ≡ telling (answerNumber (r .answer)) 0 (callItem call)
 
--- the opening: 0, 3 or 18, and the one valid cache that stands at the opening, or that of a refused one, all its places empty
+-- The opening: 0, 3 or 18, and the one valid cache that stands at the opening, or that of a refused one, all its places empty. Its heap is
+-- empty, so nothing is left open.
 pub record OpenedBy (o : Opening Catalog) (r : Answered) : Type 0 where
   pub tells : answerTold (r .answer) ≡ telling (openingRefusal o) 0 0
   pub valid : byValue .Valid (r .cache)
   pub stands : byValue .view (r .cache) ≡ cond (eqb (openingRefusal o) 0) (startsAt o) refusedOpening
+  -- the queue: level 0, and no key
+  pub lazy :
+      byValue .lazy (r .cache)
+      ≡ cond (eqb (openingRefusal o) 0) (lazyStartsAt o) refusedLazy
   -- "It has 256 places, one for each sail number, empty at opening"
   pub empty : (i : ℕ) → i < 256 → EmptyPlace (recordOf (r .cache)) i
 

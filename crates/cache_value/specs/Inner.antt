@@ -4,10 +4,11 @@ use Prim.Native.Nat.{ℕ, _<_}
 use lib.{ListN.{take, drop, replicate}, Dec.eqb}
 use Rattle.types.specs.declared.Deduction.the-variants.{WriteFirst}
 use Rattle.landlord.specs.{Catalog.Catalog, Calls.{Opening, Call, openingRefusal, startsAt}}
-use Rattle.cache_state.specs.{Cache.{Cache as Record, EmptyPlace}, InnerView.countsOf, InnerWith.{withCatalog, withSlots, withFigures}}
+use Rattle.queue.specs.Machine.{lazyStartsAt}
+use Rattle.cache_state.specs.{Cache.{Cache as Record, EmptyPlace}, InnerView.countsOf, InnerWith.{withCatalog, withSlots, withFigures, withQueue}}
 use Rattle.cache_open.specs.Inner.{emptyWith}
 use Rattle.cache_run.specs.Season.{Follows}
-use Rattle.cache_value.specs.{declared.Cache.Cache, Contract.{recordOf, byValue, refusedOpening}}
+use Rattle.cache_value.specs.{declared.Cache.Cache, Contract.{recordOf, byValue, refusedOpening, refusedLazy}}
 
 -- the fields of a refused opening's cache: 1 block, no items, closed, write-first
 abbrev pub nothingOpened : Record
@@ -18,6 +19,7 @@ pub record Opened (o : Opening Catalog) (number : ℕ) (c : Cache) : Type 0 wher
   pub answer : number ≡ openingRefusal o
   pub valid : byValue .Valid c
   pub stands : byValue .view c ≡ cond (eqb number 0) (startsAt o) refusedOpening
+  pub lazy : byValue .lazy c ≡ cond (eqb number 0) (lazyStartsAt o) refusedLazy
   pub empty : (i : ℕ) → i < 256 → EmptyPlace (recordOf c) i
 
 -- a list of calls by value, with the numbers of the answers: it starts from an opening that was not refused
@@ -35,11 +37,13 @@ firstOf z n xs = take n xs ++ drop n (replicate 256 z)
 -- a cache with each list of numbers and of flags that its items have changed
 abbrev pub placesBy : (List ℕ → List ℕ) → (List Bool → List Bool) → Record → Record
 placesBy f g c =
-    withFigures
+    withQueue
+    (withFigures
     (withSlots
     (withCatalog c (c .k) (c .n) (f (c .blocks)) (f (c .load)) (f (c .write)) (c .left))
     (g (c .held)) (f (c .loadcredit)) (f (c .writecredit)) (c .dirty))
-    (f (c .minutes)) (f (c .itemloads)) (f (c .itemwritebacks)) (countsOf c)
+    (f (c .minutes)) (f (c .itemloads)) (f (c .itemwritebacks)) (countsOf c))
+    (c .level) (f (c .keys)) (f (c .heap)) (f (c .places)) (c .used)
 
 -- a cache of which only the first n places are filled
 abbrev pub placesTo : ℕ → Record → Record

@@ -35,6 +35,8 @@ fn put_own(c: Cache, b: &mut [u8])
     layout::put_left(b, left);
     layout::put_arrivals(b, c.arrivals);
     layout::put_retirements(b, c.retirements);
+    layout::put_used(b, c.used);
+    layout::put_level(b, c.level);
 }
 
 // Stores the cache over all of `b`.
@@ -54,6 +56,9 @@ pub fn encode(c: Cache, b: &mut [u8])
         layout::put_item_write_cost(b, i, c.write[i]);
         layout::put_blocks(b, i, c.blocks[i]);
         layout::put_held(b, i, c.held[i]);
+        layout::put_key(b, i, c.keys[i]);
+        layout::put_heap_item(b, i, c.heap[i]);
+        layout::put_place(b, i, c.places[i]);
         i += 1;
     }
 }
@@ -90,6 +95,11 @@ fn own(b: &[u8]) -> Cache
         left: layout::left(b),
         arrivals: layout::arrivals(b),
         retirements: layout::retirements(b),
+        used: layout::used(b),
+        level: layout::level(b),
+        keys: [0; 256],
+        heap: [0; 256],
+        places: [0; 256],
     }
 }
 
@@ -110,6 +120,9 @@ pub fn decode(b: &[u8]) -> Cache
         c.write[i] = layout::item_write_cost(b, i);
         c.blocks[i] = layout::blocks(b, i);
         c.held[i] = layout::held(b, i);
+        c.keys[i] = layout::key(b, i);
+        c.heap[i] = layout::heap_item(b, i);
+        c.places[i] = layout::place(b, i);
         i += 1;
     }
     c

@@ -54,6 +54,14 @@ pub struct Cache {
     pub left: [u64; 4],
     pub arrivals: u32,
     pub retirements: u32,
+    // the level, which rises with each eviction, and the key of each held item; the credits are as last reckoned
+    pub level: u64,
+    pub keys: [u64; 256],
+    // the held items as a heap, and the place of each in it
+    pub heap: [u8; 256],
+    pub places: [u8; 256],
+    // the blocks held
+    pub used: u32,
 }
 
 // The answer to a call: taken, or why not.
@@ -115,6 +123,11 @@ fn empty(
         left: [0; 4],
         arrivals: 0,
         retirements: 0,
+        level: 0,
+        keys: [0; 256],
+        heap: [0; 256],
+        places: [0; 256],
+        used: 0,
     }
 }
 

@@ -9,7 +9,7 @@ use native.Mathlib.Omega.{arith}
 use lib.ListN.{getD}
 use Rattle.types.specs.declared.{Step.{Step, the-variants.Write}, Act.{Act, the-variants.{Evict, Fetch}}, Deduction.{Deduction, the-variants.{WriteFirst, LoadFirst}}}
 use Rattle.types.specs.Types.{numbersFrom, readKind, writeKind, flushKind, arriveKind, retireKind, stepOf}
-use Rattle.landlord.specs.{Fold.{sumTo, tab, tabFrom, bestTo, fold}, Catalog.{Catalog, Item, listed, departed, allInRange, catalogInRange, noneLeft, unit}, Slot.{Slot, absent, clean, dirty, Split, writeFirst, splitOf}, Rule.{State, Event, hit, loaded, evicted, wroteBack, wrote, flushStep, arrived, retired, emptied, used, heldCount, precedence, victim, evictItem, evictFor, makeRoom, writeBacks, flush, dropItem, step}, Figures.{Totals, Use, Standing, start, totalsOf, useOf, tenthsOf, took, closes, season, totalCost, leftSide, rightSide}, Plan.{Plan, Priced, costs, fault, unknownItem, retiredItem, notHeld, alreadyHeld, requestNotHeld, overCapacity, planUsed, owed, planActs, allActs, planServes, priceFrom, price}, Claims.loadCredits, Steps.{rangeRefusal, stepRefusal}, Calls.{Call, stepCall, close, Log, noLog, refusalAt, refusalIn, joins, logOf, ruleOver, Opening, opening, openingRefusal}}
+use Rattle.landlord.specs.{Fold.{sumTo, tab, tabFrom, bestTo, fold}, Catalog.{Catalog, Item, listed, departed, allInRange, catalogInRange, noneLeft, unit}, Slot.{Slot, absent, clean, dirty, Split, writeFirst, splitOf}, Rule.{State, Event, hit, loaded, evicted, wroteBack, wrote, flushStep, arrived, retired, emptied, used, heldCount, precedence, victim, evictItem, evictFor, makeRoom, writeBacks, flush, dropItem, step, trace}, Figures.{Totals, Use, Standing, start, totalsOf, useOf, tenthsOf, took, closes, season, totalCost, leftSide, rightSide}, Plan.{Plan, Priced, costs, fault, unknownItem, retiredItem, notHeld, alreadyHeld, requestNotHeld, overCapacity, planUsed, owed, planActs, allActs, planServes, priceFrom, price}, Claims.loadCredits, Steps.{rangeRefusal, stepRefusal}, Calls.{Call, stepCall, close, Log, noLog, refusalAt, refusalIn, joins, logOf, ruleOver, Opening, opening, openingRefusal}}
 
 -- a rival of a row: its blocks, and its acts before step 0, 1, 2 and on; no acts after the last list
 pub record RowRival : Type 0 where
@@ -39,13 +39,6 @@ pub record BenchRow : Type 0 where
 unfoldable pub answers : ℕ → Catalog → Log → List Call → List ℕ
 answers k cat l [] = []
 answers k cat l (call ∷ calls) = refusalIn k cat l call ∷ answers k cat (joins k cat l call) calls
-
--- the events of a list of steps
-unfoldable pub trace : Split → ℕ → State → List Step → List Event
-trace split k x [] = []
-trace split k x (s ∷ steps) =
-    let m = step split k s x in
-    m .events ++ trace split k (m .state) steps
 
 unfoldable pub evictedItems : List Event → List ℕ
 evictedItems [] = []

@@ -186,3 +186,10 @@ unfoldable pub step : Split → ℕ → Step → State → Moved
 step split k s x =
     let room = clearing split k s x in
     joined room (serving s (room .state))
+
+-- what happens over a list of steps, in order
+unfoldable pub trace : Split → ℕ → State → List Step → List Event
+trace split k x [] = []
+trace split k x (s ∷ steps) =
+    let m = step split k s x in
+    m .events ++ trace split k (m .state) steps

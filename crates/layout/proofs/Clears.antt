@@ -14,7 +14,7 @@ use Rattle.fields.specs.Inner.{Below}
 use Rattle.fields.proofs.Laws.{length-to, from-front, below-append, below-drop, past, from-blank, run-from-blank, flags-from-blank}
 use Rattle.types.specs.Types.{deductionOf}
 use Rattle.layout.specs.Layout.{stateBytes, format, numbersAt, AllowedBytes}
-use Rattle.layout.specs.InnerRows.{atFormat, atCapacity, atCount, atClosed, atSteps, atHits, atLoads, atEvictions, atDirtyEvictions, atWritebacks, atFlushes, atLoadCost, atWriteCost, atDirty, atLoadCredits, atWriteCredits, atMinutes, atItemLoads, atItemWritebacks, atItemLoadCosts, atItemWriteCosts, atBlocks, atHeld, atRule, atLeft, atArrivals, atRetirements}
+use Rattle.layout.specs.InnerRows.{atFormat, atCapacity, atCount, atClosed, atSteps, atHits, atLoads, atEvictions, atDirtyEvictions, atWritebacks, atFlushes, atLoadCost, atWriteCost, atDirty, atLoadCredits, atWriteCredits, atMinutes, atItemLoads, atItemWritebacks, atItemLoadCosts, atItemWriteCosts, atBlocks, atHeld, atRule, atLeft, atArrivals, atRetirements, atUsed, atLevel, atKeys, atHeap, atPlaces}
 use Rattle.layout.specs.Inner.{Stands, cleared}
 
 -- the first i bytes are 0
@@ -48,6 +48,7 @@ module _ (after rest : List ℕ) (n : length after ≡ stateBytes) (e : after �
   number-0 w at l = from-blank w (drop at after) (blank at l)
 
   numbers-0 : (w k at : ℕ) → 4 ≤ at → numbersAt after at k w ≡ replicate k 0
+  unfolding numbersAt
   numbers-0 w k at l = run-from-blank w k (drop at after) (blank at l)
 
   flags-0 : (k at : ℕ) → 4 ≤ at → flagsFromBytes k (drop at after) ≡ replicate k false
@@ -93,6 +94,11 @@ module _ (after rest : List ℕ) (n : length after ≡ stateBytes) (e : after �
           left = numbers-0 8 4 atLeft (omega arith) i;
           arrivals = number-0 4 atArrivals (omega arith) i;
           retirements = number-0 4 atRetirements (omega arith) i;
+          level = number-0 8 atLevel (omega arith) i;
+          keys = numbers-0 8 256 atKeys (omega arith) i;
+          heap = numbers-0 1 256 atHeap (omega arith) i;
+          places = numbers-0 1 256 atPlaces (omega arith) i;
+          used = number-0 4 atUsed (omega arith) i;
         };
   }
 

@@ -10,8 +10,8 @@ use lib.ListN.{length, drop, getD}
 use lib.Seq.{drop-drop, getD-drop}
 use Rattle.fields.specs.LittleEndian.{numberAt, runFromBytes, flagsFromBytes}
 use Rattle.fields.specs.Inner.{Below}
-use Rattle.landlord.specs.Figures.{Standing}
 use Rattle.landlord.specs.Valid.{StandingOk}
+use Rattle.queue.specs.Machine.{LazyStanding, standing, LazyOk}
 use Rattle.cache_state.specs.Cache.{Cache}
 use Rattle.cache_state.specs.InnerBecomes.{Becomes}
 use Rattle.cache_state.proofs.Tells.{Sizes, tells}
@@ -34,7 +34,7 @@ run-from-at w (suc n) bs (suc i) l =
     rw (e, ← drop-drop (i * w) w bs) (run-from-at w n (drop w bs) i (omega arith))
 
 pub number-at : (w n at : ℕ) (b : List ℕ) (i r : ℕ) → i < n → r ≡ numberAt b (at + i * w) w → r ≡ getD (numbersAt b at n w) i 0
-unfolding numberAt
+unfolding numberAt numbersAt
 number-at w n at b i r l e = e ∙ rw (run-from-at w n (drop at b) i l, drop-drop)
 
 pub flags-from-at : (n : ℕ) (bs : List ℕ) (i : ℕ) → i < n → getD (flagsFromBytes n bs) i false ≡ not (eqb (getD bs i 0) 0)
@@ -50,7 +50,7 @@ flag-at n at b i l = flags-from-at n (drop at b) i l ∙ rw (getD-drop at b i 0)
 
 -- four numbers read one by one
 pub read-four : (b : List ℕ) (at : ℕ) → numbersAt b at 4 8 ≡ numberAt b at 8 ∷ numberAt b (at + 8) 8 ∷ numberAt b (at + 16) 8 ∷ numberAt b (at + 24) 8 ∷ []
-unfolding runFromBytes numberAt
+unfolding runFromBytes numberAt numbersAt
 read-four b at =
     let p : at + 8 + 8 ≡ at + 16 = omega arith in
     let q : at + 16 + 8 ≡ at + 24 = omega arith in
@@ -73,17 +73,17 @@ stands-on {v = v} f t s = stands-as t (ap (λ (d : Cache). f d v) (s .cache))
 pub valid-reads : {b : List ℕ} → ValidBytes b → Readable b
 valid-reads v = record { size = v .size; allowed = v .allowed; cache = refl }
 
--- bytes of a cache that stands where the rule stands
-pub stands-become : {b : List ℕ} {c : Cache} {v : Standing} → Stands b c → Becomes v c → BecomesAt v b
+-- bytes of a cache that stands where the lazy form stands
+pub stands-become : {b : List ℕ} {c : Cache} {v : LazyStanding} → Stands b c → Becomes v c → BecomesAt v b
 stands-become {v = v} s h = record { reads = readable s; cache = subst (Becomes v) (sym (s .cache)) h }
 
 -- where the rule stands in order they are valid
-pub becomes-valid : {v : Standing} {b : List ℕ} → StandingOk v → BecomesAt v b → ValidBytes b
-becomes-valid ok h =
+pub becomes-valid : {v : LazyStanding} {b : List ℕ} → LazyOk v → StandingOk (standing v) → BecomesAt v b → ValidBytes b
+becomes-valid fit ok h =
     record {
       size = h .reads .size;
       allowed = h .reads .allowed;
-      cache = record { fields = h .cache .fields; standing = subst StandingOk (sym (h .cache .stands)) ok };
+      cache = record { fields = h .cache .fields; lazy = subst LazyOk (sym (h .cache .stands)) fit; standing = subst (λ (w : LazyStanding). StandingOk (standing w)) (sym (h .cache .stands)) ok };
     }
 
 -- the bytes of a cache that fits stand for it
@@ -103,7 +103,8 @@ encoded b h s = sym (back b (s .size) h (s .allowed))
 pub lent-one : (b d : List ℕ) → Below 256 b → Below 256 d → Readable b → Readable d → cacheOf b ≡ cacheOf d → b ≡ d
 lent-one b d hb hd sb sd e = encoded b hb sb ∙ ap bytesOf e ∙ sym (encoded d hd sd)
 
--- and exactly one that stands where the rule stands: the contracts of calls on lent bytes leave no choice
+-- and exactly one that stands where the lazy form stands, for each arrangement of the heap: the contracts of calls on lent bytes leave no
+-- other choice
 sizes : (c : Cache) → Fits c → Sizes c
 sizes c f =
     record {
@@ -120,10 +121,12 @@ sizes c f =
       writebacks = f .whole .itemwritebacks;
       left = f .whole .left;
       leftWords = f .left;
+      keys = f .whole .keys;
+      places = f .whole .places;
     }
 
-pub becomes-one : (v : Standing) (b d : List ℕ) → Below 256 b → Below 256 d → BecomesAt v b → BecomesAt v d → b ≡ d
-becomes-one v b d hb hd sb sd =
+pub becomes-one : (v : LazyStanding) (b d : List ℕ) → Below 256 b → Below 256 d → BecomesAt v b → BecomesAt v d → cacheOf b .heap ≡ cacheOf d .heap → b ≡ d
+becomes-one v b d hb hd sb sd arranged =
     lent-one b d hb hd (sb .reads) (sd .reads)
     (tells (cacheOf b) (cacheOf d) (sizes (cacheOf b) (fits b hb)) (sizes (cacheOf d) (fits d hd)) (sb .cache .fields) (sd .cache .fields)
-    (sb .cache .stands ∙ sym (sd .cache .stands)))
+    (sb .cache .stands ∙ sym (sd .cache .stands)) arranged)

@@ -15,7 +15,7 @@ use Rattle.types.specs.Types.{deductionNumber, deductionOf}
 use Rattle.types.proofs.Deductions.{deduction-number, number-deduction, deduction-lt}
 use Rattle.cache_state.specs.Cache.{Cache}
 use Rattle.layout.specs.Layout.{stateBytes, format, numbersAt, cacheOf, AllowedBytes}
-use Rattle.layout.specs.InnerRows.{atFormat, atCapacity, atCount, atClosed, atSteps, atHits, atLoads, atEvictions, atDirtyEvictions, atWritebacks, atFlushes, atLoadCost, atWriteCost, atDirty, atLoadCredits, atWriteCredits, atMinutes, atItemLoads, atItemWritebacks, atItemLoadCosts, atItemWriteCosts, atBlocks, atHeld, atRule, atLeft, atArrivals, atRetirements, rowBytes, fieldRows, bytesOf, flag, WholeArrays, Fits}
+use Rattle.layout.specs.InnerRows.{atFormat, atCapacity, atCount, atClosed, atSteps, atHits, atLoads, atEvictions, atDirtyEvictions, atWritebacks, atFlushes, atLoadCost, atWriteCost, atDirty, atLoadCredits, atWriteCredits, atMinutes, atItemLoads, atItemWritebacks, atItemLoadCosts, atItemWriteCosts, atBlocks, atHeld, atRule, atLeft, atArrivals, atRetirements, atUsed, atLevel, atKeys, atHeap, atPlaces, rowBytes, fieldRows, bytesOf, flag, WholeArrays, Fits}
 use Rattle.layout.proofs.Rows.{Packed, end, number-row, numbers-row, flags-row, packed-length, reach}
 
 -- the fields lie end to end
@@ -46,7 +46,11 @@ packed c w =
     (numbers-row 1 256 (c .blocks) (w .blocks)
     (flags-row 256 (c .held) (w .held)
     (number-row 4 (deductionNumber (c .rule))
-    (numbers-row 8 4 (c .left) (w .left) (number-row 4 (c .arrivals) (number-row 4 (c .retirements) end))))))))))))))))))))))))))
+    (numbers-row 8 4 (c .left) (w .left) (number-row 4 (c .arrivals) (number-row 4 (c .retirements)
+    (number-row 4 (c .used)
+    (number-row 8 (c .level)
+    (numbers-row 8 256 (c .keys) (w .keys)
+    (numbers-row 1 256 (c .heap) (w .heap) (numbers-row 1 256 (c .places) (w .places) end)))))))))))))))))))))))))))))))
 
 -- so the bytes of a cache are all the bytes of the state
 pub length-bytesOf : (c : Cache) → Fits c → length (bytesOf c) ≡ stateBytes
@@ -61,6 +65,7 @@ unfolding numberAt
 number-found w v at b rest h e = rw e (from-front w v rest h)
 
 numbers-found : (w n at : ℕ) (vs b rest : List ℕ) → length vs ≡ n → Below (256 ^ w) vs → drop at b ≡ runOf w vs ++ rest → numbersAt b at n w ≡ vs
+unfolding numbersAt
 numbers-found w n at vs b rest l h e = rw e (run-from-to w n vs rest l h)
 
 flags-found : (n at : ℕ) (fs : List Bool) (b rest : List ℕ) → length fs ≡ n → drop at b ≡ flags fs ++ rest → flagsFromBytes n (drop at b) ≡ fs
@@ -77,7 +82,7 @@ flag-told false = refl
 
 module _ (c : Cache) (f : Fits c) where
   -- the field of row `n`
-  row-at : (n : ℕ) → n < 27 → drop (getD (fieldRows c) n (0, []) .0) (bytesOf c) ≡ getD (fieldRows c) n (0, []) .1 ++ rowBytes (drop (suc n) (fieldRows c))
+  row-at : (n : ℕ) → n < 32 → drop (getD (fieldRows c) n (0, []) .0) (bytesOf c) ≡ getD (fieldRows c) n (0, []) .1 ++ rowBytes (drop (suc n) (fieldRows c))
   unfolding bytesOf fieldRows
   row-at n l = reach (packed c (f .whole)) n (getD (fieldRows c) n (0, []) .0) l (omega arith)
 
@@ -93,7 +98,7 @@ module _ (c : Cache) (f : Fits c) where
 
   -- a cache that fits, stored and read back, is that cache
   pub round : cacheOf (bytesOf c) ≡ c
-  unfolding fieldRows
+  unfolding fieldRows numbersAt
   round = λ i.
       record {
         k = number-found 4 (c .k) atCapacity (bytesOf c) _ (f .k) (row-at 1 (omega arith)) i;
@@ -122,6 +127,11 @@ module _ (c : Cache) (f : Fits c) where
         left = numbers-found 8 4 atLeft (c .left) (bytesOf c) _ (f .whole .left) (f .left) (row-at 24 (omega arith)) i;
         arrivals = number-found 4 (c .arrivals) atArrivals (bytesOf c) _ (f .arrivals) (row-at 25 (omega arith)) i;
         retirements = number-found 4 (c .retirements) atRetirements (bytesOf c) _ (f .retirements) (row-at 26 (omega arith)) i;
+        level = number-found 8 (c .level) atLevel (bytesOf c) _ (f .level) (row-at 28 (omega arith)) i;
+        keys = numbers-found 8 256 atKeys (c .keys) (bytesOf c) _ (f .whole .keys) (f .keys) (row-at 29 (omega arith)) i;
+        heap = numbers-found 1 256 atHeap (c .heap) (bytesOf c) _ (f .whole .heap) (f .heap) (row-at 30 (omega arith)) i;
+        places = numbers-found 1 256 atPlaces (c .places) (bytesOf c) _ (f .whole .places) (f .places) (row-at 31 (omega arith)) i;
+        used = number-found 4 (c .used) atUsed (bytesOf c) _ (f .used) (row-at 27 (omega arith)) i;
       }
 
   -- the number of the layout stands at the head, and the flags are stored as 0 or 1
@@ -138,6 +148,7 @@ module _ (c : Cache) (f : Fits c) where
 
 -- whatever the bytes, each list that is read has all its places
 pub whole : (b : List ℕ) → WholeArrays (cacheOf b)
+unfolding numbersAt
 whole b = record {
   dirty = length-run-from 8 4 (drop atDirty b);
   loadcredit = length-run-from 8 256 (drop atLoadCredits b);
@@ -150,6 +161,9 @@ whole b = record {
   blocks = length-run-from 1 256 (drop atBlocks b);
   held = length-flags-from 256 (drop atHeld b);
   left = length-run-from 8 4 (drop atLeft b);
+  keys = length-run-from 8 256 (drop atKeys b);
+  heap = length-run-from 1 256 (drop atHeap b);
+  places = length-run-from 1 256 (drop atPlaces b);
 }
 
 module _ (b : List ℕ) (h : Below 256 b) where
@@ -159,6 +173,7 @@ module _ (b : List ℕ) (h : Below 256 b) where
   number-fits w at = from-take-lt w (drop at b) (below-drop 256 at b h)
 
   numbers-fit : (w n at : ℕ) → Below (256 ^ w) (numbersAt b at n w)
+  unfolding numbersAt
   numbers-fit w n at = run-from-lt w n (drop at b) (below-drop 256 at b h)
 
   -- what bytes stand for has room in the layout
@@ -188,6 +203,11 @@ module _ (b : List ℕ) (h : Below 256 b) where
     left = numbers-fit 8 4 atLeft;
     arrivals = number-fits 4 atArrivals;
     retirements = number-fits 4 atRetirements;
+    level = number-fits 8 atLevel;
+    keys = numbers-fit 8 256 atKeys;
+    heap = numbers-fit 1 256 atHeap;
+    places = numbers-fit 1 256 atPlaces;
+    used = number-fits 4 atUsed;
   }
 
 module _ (b : List ℕ) (e : length b ≡ stateBytes) (h : Below 256 b) where
@@ -196,6 +216,7 @@ module _ (b : List ℕ) (e : length b ≡ stateBytes) (h : Below 256 b) where
   number-back w at rest l r = rw (r, to-back w at b (omega arith) h) (rejoin b at w (at + w) refl)
 
   numbers-back : (w n at : ℕ) (rest : List ℕ) → at + n * w ≤ stateBytes → rest ≡ drop (at + n * w) b → runOf w (numbersAt b at n w) ++ rest ≡ drop at b
+  unfolding numbersAt
   numbers-back w n at rest l r = rw (r, run-back w n at b (omega arith) h) (rejoin b at (n * w) (at + n * w) refl)
 
   module _ (g : AllowedBytes b) where
@@ -213,10 +234,11 @@ module _ (b : List ℕ) (e : length b ≡ stateBytes) (h : Below 256 b) where
     rule-back rest r = rw (number-deduction (numberAt b atRule 4) (g .rule)) (number-back 4 atRule rest (omega arith) r)
 
     -- behind the last field there is nothing
-    last-back : toBytes 4 (numberAt b atRetirements 4) ++ [] ≡ drop atRetirements b
+    last-back : runOf 1 (numbersAt b atPlaces 256 1) ++ [] ≡ drop atPlaces b
+    unfolding numbersAt
     last-back =
-        rw (append-nil, to-back 4 atRetirements b (omega arith) h)
-        (take-all 4 (drop atRetirements b) (omega (arith, length-drop atRetirements b)))
+        rw (append-nil, run-back 1 256 atPlaces b (omega arith) h)
+        (take-all 256 (drop atPlaces b) (omega (arith, length-drop atPlaces b)))
 
     -- bytes that the layout allows, read and stored again, are those bytes
     pub back : bytesOf (cacheOf b) ≡ b
@@ -246,4 +268,9 @@ module _ (b : List ℕ) (e : length b ≡ stateBytes) (h : Below 256 b) where
         (numbers-back 1 256 atBlocks _ (omega arith)
         (held-back _
         (rule-back _
-        (numbers-back 8 4 atLeft _ (omega arith) (number-back 4 atArrivals _ (omega arith) last-back)))))))))))))))))))))))))
+        (numbers-back 8 4 atLeft _ (omega arith) (number-back 4 atArrivals _ (omega arith)
+        (number-back 4 atRetirements _ (omega arith)
+        (number-back 4 atUsed _ (omega arith)
+        (number-back 8 atLevel _ (omega arith)
+        (numbers-back 8 256 atKeys _ (omega arith)
+        (numbers-back 1 256 atHeap _ (omega arith) last-back))))))))))))))))))))))))))))))

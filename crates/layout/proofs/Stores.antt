@@ -17,9 +17,9 @@ use Rattle.fields.proofs.Laws.{length-to, length-run, length-flags, sets-all, r
 use Rattle.types.specs.declared.Deduction.{Deduction}
 use Rattle.types.specs.Types.{deductionNumber}
 use Rattle.cache_state.specs.Cache.{Cache}
-use Rattle.cache_state.specs.InnerWith.{withCapacity, withCount, withClosed, withRule, withSteps, withHits, withLoads, withEvictions, withDirtyEvictions, withWritebacks, withFlushes, withLoadCost, withWriteCost, withDirty, withLoadCredit, withWriteCredit, withMinutes, withItemLoads, withItemWritebacks, withItemLoadCost, withItemWriteCost, withBlocks, withHeld, withLeft, withArrivals, withRetirements}
+use Rattle.cache_state.specs.InnerWith.{withCapacity, withCount, withClosed, withRule, withSteps, withHits, withLoads, withEvictions, withDirtyEvictions, withWritebacks, withFlushes, withLoadCost, withWriteCost, withDirty, withLoadCredit, withWriteCredit, withMinutes, withItemLoads, withItemWritebacks, withItemLoadCost, withItemWriteCost, withBlocks, withHeld, withLeft, withArrivals, withRetirements, withLevel, withKey, withUsed, withArrangement, withHeapItem, withPlace}
 use Rattle.layout.specs.Layout.{cacheOf}
-use Rattle.layout.specs.InnerRows.{atCapacity, atCount, atClosed, atSteps, atHits, atLoads, atEvictions, atDirtyEvictions, atWritebacks, atFlushes, atLoadCost, atWriteCost, atDirty, atLoadCredits, atWriteCredits, atMinutes, atItemLoads, atItemWritebacks, atItemLoadCosts, atItemWriteCosts, atBlocks, atHeld, atRule, atLeft, atArrivals, atRetirements, FieldRow, rowBytes, fieldRows, bytesOf, flag, Fits}
+use Rattle.layout.specs.InnerRows.{atCapacity, atCount, atClosed, atSteps, atHits, atLoads, atEvictions, atDirtyEvictions, atWritebacks, atFlushes, atLoadCost, atWriteCost, atDirty, atLoadCredits, atWriteCredits, atMinutes, atItemLoads, atItemWritebacks, atItemLoadCosts, atItemWriteCosts, atBlocks, atHeld, atRule, atLeft, atArrivals, atRetirements, atLevel, atKeys, atHeap, atPlaces, atUsed, FieldRow, rowBytes, fieldRows, bytesOf, flag, Fits}
 use Rattle.layout.specs.Inner.{Stands, Readable}
 use Rattle.layout.proofs.Rows.{Packed, end, number-row, stored, packed-stored, replaced, sets-row}
 use Rattle.layout.proofs.Rounds.{packed, fits}
@@ -83,7 +83,7 @@ module _ {b : List ℕ} {c : Cache} (s : Coded b c) where
   -- `off` bytes into row `n`, which stands at the place `at`: d is the cache that has the row so
   row-stored :
       (n at off : ℕ) (x y : List ℕ) (d : Cache) →
-      n < 27 →
+      n < 32 →
       getD (fieldRows c) n (0, []) .0 ≡ at →
       off + length x ≤ length (getD (fieldRows c) n (0, []) .1) →
       sets (getD (fieldRows c) n (0, []) .1) off x ≡ y →
@@ -103,7 +103,7 @@ module _ {b : List ℕ} {c : Cache} (s : Coded b c) where
   -- a number over a number, and a number of a run
   number-stored :
       (n at w u v : ℕ) (d : Cache) →
-      n < 27 →
+      n < 32 →
       getD (fieldRows c) n (0, []) ≡ (at, toBytes w u) →
       rowBytes (replaced (fieldRows c) n (toBytes w v)) ≡ bytesOf d →
       Fits d →
@@ -116,7 +116,7 @@ module _ {b : List ℕ} {c : Cache} (s : Coded b c) where
 
   entry-stored :
       (n at w : ℕ) (xs : List ℕ) (i v : ℕ) (d : Cache) →
-      n < 27 →
+      n < 32 →
       getD (fieldRows c) n (0, []) ≡ (at, runOf w xs) →
       i < length xs →
       rowBytes (replaced (fieldRows c) n (runOf w (set xs i v))) ≡ bytesOf d →
@@ -259,3 +259,42 @@ module _ {b : List ℕ} {c : Cache} (s : Coded b c) where
   pub retirements-stored : (v : ℕ) → v < 2 ^ 32 → {after : List ℕ} → after ≡ sets b atRetirements (toBytes 4 v) → Stands after (withRetirements c v)
   unfolding bytesOf fieldRows
   retirements-stored v z is = number-stored 26 atRetirements 4 (c .retirements) v (withRetirements c v) (omega arith) refl refl (search needs) is
+
+  pub level-stored : (v : ℕ) → v < 2 ^ 64 → {after : List ℕ} → after ≡ sets b atLevel (toBytes 8 v) → Stands after (withLevel c v)
+  unfolding bytesOf fieldRows
+  level-stored v z is = number-stored 28 atLevel 8 (c .level) v (withLevel c v) (omega arith) refl refl (search needs) is
+
+  pub key-stored : (i v : ℕ) → i < 256 → v < 2 ^ 64 → {after : List ℕ} → after ≡ sets b (atKeys + i * 8) (toBytes 8 v) → Stands after (withKey c i v)
+  unfolding bytesOf fieldRows
+  key-stored i v l z is =
+      let u : Numbers (2 ^ 64) (set (c .keys) i v) = with-one (2 ^ 64) (c .keys) i v (s .fits .whole .keys) (s .fits .keys) l z in
+      entry-stored 29 atKeys 8 (c .keys) i v (withKey c i v) (omega arith) refl (omega (arith, s .fits .whole .keys)) refl (search needs) is
+
+  pub heap-item-stored : (i v : ℕ) → i < 256 → v < 2 ^ 8 → {after : List ℕ} → after ≡ sets b (atHeap + i) (toBytes 1 v) → Stands after (withHeapItem c i v)
+  unfolding bytesOf fieldRows
+  heap-item-stored i v l z is =
+      let u : Numbers (2 ^ 8) (set (c .heap) i v) = with-one (2 ^ 8) (c .heap) i v (s .fits .whole .heap) (s .fits .heap) l z in
+      entry-stored 30 atHeap 1 (c .heap) i v (withHeapItem c i v) (omega arith) refl (omega (arith, s .fits .whole .heap)) refl (search needs) (is ∙ (let e : i ≡ i * 1 = omega arith in ap (λ (p : ℕ). sets b (atHeap + p) (toBytes 1 v)) e))
+
+  pub place-stored : (i v : ℕ) → i < 256 → v < 2 ^ 8 → {after : List ℕ} → after ≡ sets b (atPlaces + i) (toBytes 1 v) → Stands after (withPlace c i v)
+  unfolding bytesOf fieldRows
+  place-stored i v l z is =
+      let u : Numbers (2 ^ 8) (set (c .places) i v) = with-one (2 ^ 8) (c .places) i v (s .fits .whole .places) (s .fits .places) l z in
+      entry-stored 31 atPlaces 1 (c .places) i v (withPlace c i v) (omega arith) refl (omega (arith, s .fits .whole .places)) refl (search needs) (is ∙ (let e : i ≡ i * 1 = omega arith in ap (λ (p : ℕ). sets b (atPlaces + p) (toBytes 1 v)) e))
+
+  pub used-stored : (v : ℕ) → v < 2 ^ 32 → {after : List ℕ} → after ≡ sets b atUsed (toBytes 4 v) → Stands after (withUsed c v)
+  unfolding bytesOf fieldRows
+  used-stored v z is = number-stored 27 atUsed 4 (c .used) v (withUsed c v) (omega arith) refl refl (search needs) is
+
+  -- the two rows of the heap, whole
+  pub heap-stored : (xs : List ℕ) → length xs ≡ 256 → Below (2 ^ 8) xs → {after : List ℕ} → after ≡ sets b atHeap (runOf 1 xs) → Stands after (withArrangement c xs (c .places))
+  unfolding bytesOf fieldRows
+  heap-stored xs l z is =
+      let e : length (runOf 1 xs) ≡ length (runOf 1 (c .heap)) = omega (arith, length-run 1 xs, length-run 1 (c .heap), s .fits .whole .heap) in
+      row-stored 30 atHeap 0 (runOf 1 xs) (runOf 1 xs) (withArrangement c xs (c .places)) (omega arith) refl (omega arith) (sets-all (runOf 1 (c .heap)) (runOf 1 xs) e) refl (search needs) is
+
+  pub places-stored : (xs : List ℕ) → length xs ≡ 256 → Below (2 ^ 8) xs → {after : List ℕ} → after ≡ sets b atPlaces (runOf 1 xs) → Stands after (withArrangement c (c .heap) xs)
+  unfolding bytesOf fieldRows
+  places-stored xs l z is =
+      let e : length (runOf 1 xs) ≡ length (runOf 1 (c .places)) = omega (arith, length-run 1 xs, length-run 1 (c .places), s .fits .whole .places) in
+      row-stored 31 atPlaces 0 (runOf 1 xs) (runOf 1 xs) (withArrangement c (c .heap) xs) (omega arith) refl (omega arith) (sets-all (runOf 1 (c .places)) (runOf 1 xs) e) refl (search needs) is

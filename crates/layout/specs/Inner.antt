@@ -3,7 +3,7 @@ use mathlib.Core.{Path._≡_, Bool.false, List.List}
 use Prim.Native.Nat.{ℕ, _≤_, _<_}
 use lib.ListN.{length, getD, replicate}
 use Rattle.types.specs.declared.Deduction.the-variants.{WriteFirst}
-use Rattle.landlord.specs.Figures.{Standing}
+use Rattle.queue.specs.Machine.{LazyStanding}
 use Rattle.cache_state.specs.{Cache.Cache, InnerBecomes.Becomes}
 use Rattle.layout.specs.Layout.{stateBytes, cacheOf, AllowedBytes, ValidBytes}
 
@@ -17,8 +17,8 @@ pub record Stands (b : List ℕ) (c : Cache) : Type 0 where
 abbrev pub Readable : List ℕ → Type 0
 Readable b = Stands b (cacheOf b)
 
--- bytes of the one cache that stands where the rule stands
-pub record BecomesAt (v : Standing) (b : List ℕ) : Type 0 where
+-- bytes of a cache that stands where the lazy form stands
+pub record BecomesAt (v : LazyStanding) (b : List ℕ) : Type 0 where
   pub reads : Readable b
   pub cache : Becomes v (cacheOf b)
 
@@ -57,6 +57,11 @@ cleared =
       left = replicate 4 0;
       arrivals = 0;
       retirements = 0;
+      level = 0;
+      keys = replicate 256 0;
+      heap = replicate 256 0;
+      places = replicate 256 0;
+      used = 0;
     }
 
 -- the bytes from one place to another are flags

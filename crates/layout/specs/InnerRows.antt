@@ -92,6 +92,21 @@ atArrivals = 8828
 abbrev pub atRetirements : ℕ
 atRetirements = 8832
 
+abbrev pub atUsed : ℕ
+atUsed = 8836
+
+abbrev pub atLevel : ℕ
+atLevel = 8840
+
+abbrev pub atKeys : ℕ
+atKeys = 8848
+
+abbrev pub atHeap : ℕ
+atHeap = 10896
+
+abbrev pub atPlaces : ℕ
+atPlaces = 11152
+
 -- ---- the rows
 
 -- a yes or no as a number
@@ -136,6 +151,11 @@ fieldRows c =
     ∷ (atLeft, runOf 8 (c .left))
     ∷ (atArrivals, toBytes 4 (c .arrivals))
     ∷ (atRetirements, toBytes 4 (c .retirements))
+    ∷ (atUsed, toBytes 4 (c .used))
+    ∷ (atLevel, toBytes 8 (c .level))
+    ∷ (atKeys, runOf 8 (c .keys))
+    ∷ (atHeap, runOf 1 (c .heap))
+    ∷ (atPlaces, runOf 1 (c .places))
     ∷ []
 
 -- the bytes of a cache
@@ -155,6 +175,9 @@ pub record WholeArrays (c : Cache) : Type 0 where
   pub blocks : length (c .blocks) ≡ 256
   pub held : length (c .held) ≡ 256
   pub left : length (c .left) ≡ 4
+  pub keys : length (c .keys) ≡ 256
+  pub heap : length (c .heap) ≡ 256
+  pub places : length (c .places) ≡ 256
 
 -- and every number has room in its bytes
 pub record Fits (c : Cache) : Type 0 where
@@ -182,3 +205,8 @@ pub record Fits (c : Cache) : Type 0 where
   pub left : Below (2 ^ 64) (c .left)
   pub arrivals : c .arrivals < 2 ^ 32
   pub retirements : c .retirements < 2 ^ 32
+  pub level : c .level < 2 ^ 64
+  pub keys : Below (2 ^ 64) (c .keys)
+  pub heap : Below (2 ^ 8) (c .heap)
+  pub places : Below (2 ^ 8) (c .places)
+  pub used : c .used < 2 ^ 32

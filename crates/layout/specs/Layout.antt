@@ -1,4 +1,4 @@
--- The fixed layout of a state: 8,836 bytes, numbers with the low byte first, no byte to spare. At the head stands the number of this
+-- The fixed layout of a state: 11,408 bytes, numbers with the low byte first, no byte to spare. At the head stands the number of this
 -- layout; it is no field of a cache. docs/LAYOUT.md has the same places as a table. specs/InnerRows.antt writes them;
 -- proofs/Rounds.antt shows that its rows lie end to end and that reading and writing undo each other. Assumes nothing.
 use mathlib.Core.{Path._≡_, List.List, Bool.not}
@@ -9,14 +9,14 @@ use Rattle.types.specs.Types.{deductionOf}
 use Rattle.cache_state.specs.Cache.{Cache, Valid}
 
 abbrev pub stateBytes : ℕ
-stateBytes = 8836
+stateBytes = 11408
 
 -- the number of this layout: it rises with every change, so that a state stored by another version is never misread
 abbrev pub format : ℕ
-format = 4
+format = 5
 
 -- `n` numbers of `w` bytes each, from the place `at` on
-abbrev pub numbersAt : List ℕ → ℕ → ℕ → ℕ → List ℕ
+unfoldable pub numbersAt : List ℕ → ℕ → ℕ → ℕ → List ℕ
 numbersAt b at n w = runFromBytes w n (drop at b)
 
 -- the cache that bytes stand for, each field read at its place
@@ -48,6 +48,11 @@ cacheOf b = record {
   left = numbersAt b 8796 4 8;
   arrivals = numberAt b 8828 4;
   retirements = numberAt b 8832 4;
+  used = numberAt b 8836 4;
+  level = numberAt b 8840 8;
+  keys = numbersAt b 8848 256 8;
+  heap = numbersAt b 10896 256 1;
+  places = numbersAt b 11152 256 1;
 }
 
 -- "every field has a value its layout allows": the number of the layout is this one's, each flag is 0 or 1, and so is the rule's number

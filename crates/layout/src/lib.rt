@@ -10,16 +10,16 @@ ghost use Rattle.fields.specs.LittleEndian.{numberAt};
 ghost use Rattle.fields.specs.Inner.{runOf};
 ghost use Rattle.marks.specs.Marks.{marked};
 ghost use Rattle.cache_state.specs.Cache.{dirtyAt, leftAt};
-ghost use Rattle.cache_state.specs.InnerWith.{withCapacity, withCount, withClosed, withRule, withSteps, withHits, withLoads, withEvictions, withDirtyEvictions, withWritebacks, withFlushes, withLoadCost, withWriteCost, withDirty, withLoadCredit, withWriteCredit, withMinutes, withItemLoads, withItemWritebacks, withItemLoadCost, withItemWriteCost, withBlocks, withHeld, withLeft, withArrivals, withRetirements};
+ghost use Rattle.cache_state.specs.InnerWith.{withCapacity, withCount, withClosed, withRule, withSteps, withHits, withLoads, withEvictions, withDirtyEvictions, withWritebacks, withFlushes, withLoadCost, withWriteCost, withDirty, withLoadCredit, withWriteCredit, withMinutes, withItemLoads, withItemWritebacks, withItemLoadCost, withItemWriteCost, withBlocks, withHeld, withLeft, withArrivals, withRetirements, withLevel, withKey, withHeapItem, withPlace, withUsed};
 ghost use Rattle.cache_state.specs.InnerBecomes.{Decided};
 ghost use Rattle.layout.specs.Layout.{stateBytes, numbersAt, cacheOf, AllowedBytes};
 ghost use Rattle.layout.specs.Inner.{Stands, Readable, FlagsWithin, cleared};
 use types::Deduction;
 
 // The bytes of a state, and the number of this layout.
-pub const STATE_BYTES: usize = 8836;
+pub const STATE_BYTES: usize = 11408;
 
-pub const FORMAT: u64 = 4;
+pub const FORMAT: u64 = 5;
 
 // Where each field stands.
 pub const AT_FORMAT: usize = 0;
@@ -75,6 +75,17 @@ pub const AT_LEFT: usize = 8796;
 pub const AT_ARRIVALS: usize = 8828;
 
 pub const AT_RETIREMENTS: usize = 8832;
+
+pub const AT_USED: usize = 8836;
+
+pub const AT_LEVEL: usize = 8840;
+
+// The keys, the heap and the places lie end to end, up to the state's end: they are lent as one part (crate heap).
+pub const AT_KEYS: usize = 8848;
+
+pub const AT_HEAP: usize = 10896;
+
+pub const AT_PLACES: usize = 11152;
 
 // ---- the capacity, the count of items and the totals
 
@@ -232,6 +243,79 @@ pub fn put_retirements(b: &mut [u8], v: u32)
     ensures { λ _. ⌜ Stands (now (b .exit)) (withRetirements (cacheOf (now (b .entry))) v) ⌝ }
 {
     fields::put(b, AT_RETIREMENTS, 4, v as u64);
+}
+
+// The level, and the key of item `i`.
+pub fn level(b: &[u8]) -> u64
+    requires { ⌜ length (now b) ≡ stateBytes ⌝ }
+    ensures { λ r. ⌜ r ≡ cacheOf (now (b .entry)) .level ⌝ }
+{
+    fields::get(b, AT_LEVEL, 8)
+}
+
+pub fn put_level(b: &mut [u8], v: u64)
+    requires { ⌜ Readable (now b) ⌝ }
+    ensures { λ _. ⌜ Stands (now (b .exit)) (withLevel (cacheOf (now (b .entry))) v) ⌝ }
+{
+    fields::put(b, AT_LEVEL, 8, v);
+}
+
+pub fn key(b: &[u8], i: usize) -> u64
+    requires { ⌜ (length (now b) ≡ stateBytes) × (i < 256) ⌝ }
+    ensures { λ r. ⌜ r ≡ getD (cacheOf (now (b .entry)) .keys) i 0 ⌝ }
+{
+    fields::get(b, AT_KEYS + i * 8, 8)
+}
+
+pub fn put_key(b: &mut [u8], i: usize, v: u64)
+    requires { ⌜ Readable (now b) × (i < 256) ⌝ }
+    ensures { λ _. ⌜ Stands (now (b .exit)) (withKey (cacheOf (now (b .entry))) i v) ⌝ }
+{
+    fields::put(b, AT_KEYS + i * 8, 8, v);
+}
+
+// The item at place `i` of the heap, and the place of item `i` in it.
+pub fn heap_item(b: &[u8], i: usize) -> u8
+    requires { ⌜ (length (now b) ≡ stateBytes) × (i < 256) ⌝ }
+    ensures { λ r. ⌜ r ≡ getD (cacheOf (now (b .entry)) .heap) i 0 ⌝ }
+{
+    fields::get(b, AT_HEAP + i, 1) as u8
+}
+
+pub fn put_heap_item(b: &mut [u8], i: usize, v: u8)
+    requires { ⌜ Readable (now b) × (i < 256) ⌝ }
+    ensures { λ _. ⌜ Stands (now (b .exit)) (withHeapItem (cacheOf (now (b .entry))) i v) ⌝ }
+{
+    fields::put(b, AT_HEAP + i, 1, v as u64);
+}
+
+pub fn place(b: &[u8], i: usize) -> u8
+    requires { ⌜ (length (now b) ≡ stateBytes) × (i < 256) ⌝ }
+    ensures { λ r. ⌜ r ≡ getD (cacheOf (now (b .entry)) .places) i 0 ⌝ }
+{
+    fields::get(b, AT_PLACES + i, 1) as u8
+}
+
+pub fn put_place(b: &mut [u8], i: usize, v: u8)
+    requires { ⌜ Readable (now b) × (i < 256) ⌝ }
+    ensures { λ _. ⌜ Stands (now (b .exit)) (withPlace (cacheOf (now (b .entry))) i v) ⌝ }
+{
+    fields::put(b, AT_PLACES + i, 1, v as u64);
+}
+
+// The blocks held.
+pub fn used(b: &[u8]) -> u32
+    requires { ⌜ length (now b) ≡ stateBytes ⌝ }
+    ensures { λ r. ⌜ r ≡ cacheOf (now (b .entry)) .used ⌝ }
+{
+    fields::get(b, AT_USED, 4) as u32
+}
+
+pub fn put_used(b: &mut [u8], v: u32)
+    requires { ⌜ Readable (now b) ⌝ }
+    ensures { λ _. ⌜ Stands (now (b .exit)) (withUsed (cacheOf (now (b .entry))) v) ⌝ }
+{
+    fields::put(b, AT_USED, 4, v as u64);
 }
 
 // The load costs paid.

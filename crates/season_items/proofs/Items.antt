@@ -4,18 +4,16 @@ use mathlib.Core.Path.{_≡_, refl, sym, ap, _∙_}
 use mathlib.Core.Logic.{_≢_}
 use mathlib.Core.Bool.{Bool, true, false, cond}
 use mathlib.Core.List.{List}
-use Prim.Native.Nat.{ℕ, _+_, _≤_, _<_}
+use Prim.Native.Nat.{ℕ, _+_, _/_, _%_, _^_, _≤_, _<_}
 use native.Mathlib.Omega.{arith}
-use lib.ListN.{length, drop}
+use lib.ListN.{length, getD}
 use lib.Dec.{ltb}
 use borrow.Author.Tests.{lt-ltb, le-ltb, le-leb, lt-leb, ltb-true, eq-eqb, ne-eqb}
 use Rattle.types.specs.declared.Step.{Step}
 use Rattle.types.specs.declared.Step.the-variants.{Read, Arrive, Retire}
 use Rattle.landlord.specs.Catalog.{Catalog, Item, itemAt}
 use Rattle.landlord.specs.Steps.{ifKnown}
-use Rattle.marks.specs.Marks.{marked}
-use Rattle.marks.specs.Inner.{marks, firstSet}
-use Rattle.marks.proofs.Laws.{NextMark, next-is}
+use Rattle.marks.specs.Marks.{bit, marked}
 use Rattle.catalog_bytes.specs.Catalogs.{itemIn}
 use Rattle.season_items.specs.declared.Present.{Present}
 use Rattle.season_items.specs.Inner.{HasItems, Tells, knownNumber, TellsKnown, TellsRefusal, Lookable}
@@ -26,16 +24,14 @@ module _ (p : Present) (i : ℕ) where
   pub known-none : p .n ≤ i → 6 ≡ knownNumber p i
   known-none h = rw (le-ltb i (p .n) h)
 
-  -- m is the first mark at or after i
-  module _ (m : ℕ) (few : p .n ≤ 256) (h : i < p .n) (e : m ≡ i + firstSet (drop i (marks (p .left)))) where
-    next : NextMark (p .left) i m
-    next = next-is (p .left) i m (omega arith) e
+  -- by the digit of its mark
+  pub known-left : i < p .n → getD (p .left) (i / 64) 0 / 2 ^ (i % 64) % 2 ≡ 1 → 20 ≡ knownNumber p i
+  unfolding marked bit
+  known-left h e = rw (lt-ltb i (p .n) h, eq-eqb (getD (p .left) (i / 64) 0 / 2 ^ (i % 64) % 2) 1 e)
 
-    pub known-left : m ≡ i → 20 ≡ knownNumber p i
-    known-left same = rw (lt-ltb i (p .n) h, ap (marked (p .left)) (sym same) ∙ next .here (omega arith))
-
-    pub known-there : m ≢ i → 0 ≡ knownNumber p i
-    known-there other = rw (lt-ltb i (p .n) h, next .before i (omega arith) (omega (arith, next .after)))
+  pub known-there : i < p .n → getD (p .left) (i / 64) 0 / 2 ^ (i % 64) % 2 ≢ 1 → 0 ≡ knownNumber p i
+  unfolding marked bit
+  known-there h e = rw (lt-ltb i (p .n) h, ne-eqb (getD (p .left) (i / 64) 0 / 2 ^ (i % 64) % 2) 1 e)
 
   -- and so for whatever catalog that is known of
   pub known-tells : (number : ℕ) → number ≡ knownNumber p i → TellsKnown p i number

@@ -47,8 +47,7 @@ pub fn known(p: Present, item: u32) -> u32
     if p.n <= i {
         return 6;
     }
-    let left = p.left;
-    if marks::next(left, i) == i {
+    if (p.left[i / 64] >> (i % 64)) % 2 == 1 {
         return 20;
     }
     0

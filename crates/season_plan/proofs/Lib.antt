@@ -8,3 +8,4 @@ pub mod Costs
 pub mod Acting
 pub mod Pricing
 pub mod FaultLines
+pub mod InPlace

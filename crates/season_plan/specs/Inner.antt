@@ -7,7 +7,7 @@ use Rattle.season_plan.specs.declared.{Copies.Copies, Did.Did, Acted.Act
 use Rattle.season_plan.specs.Plans.{actsAt, actsBefore, priceOf, PricedBy}
 use mathlib.Core.{Path._≡_, Logic._≢_, Bool.{Bool, false, cond, _||_}, List.List}
 use Prim.Native.Nat.{ℕ, suc, _+_, _*_, _≤_, _<_}
-use lib.{ListN.{length, getD, set}, Dec.eqb}
+use lib.{ListN.{length, getD, set}, Dec.{eqb, leb}}
 
 -- the text's acts as a plan
 abbrev pub planOf : List Placed → Plan
@@ -103,6 +103,10 @@ pub record Cleans (p r : Copies) : Type 0 where
 -- the step is a read or a write, and the plan has no copy of its item
 abbrev pub lacking : ℕ → ℕ → Bool
 lacking kind mark = cond (eqb kind readKind || eqb kind writeKind) (eqb mark 0) false
+
+-- the step is a read or a write, the plan has a copy of its item, and it is within its capacity
+abbrev pub hitting : ℕ → ℕ → ℕ → ℕ → Bool
+hitting h kind mark used = cond (eqb mark 0) false (cond (leb used h) (eqb kind readKind || eqb kind writeKind) false)
 
 -- a step that is in the log: a flush, an arrival, or of a known item; what stands for a flush's item has a place too
 pub record PlanServable (xs : List ℕ) (p : Copies) (kind item : ℕ) : Type 0 where

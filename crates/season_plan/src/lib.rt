@@ -1,9 +1,12 @@
 // The plan of a text, run over its steps and priced. Items arrive and leave as it runs; `catalog` has the bytes of all of them, those of
 // table 2 and behind them those that arrive.
 ghost use mathlib.Core.Path.{_≡_};
-ghost use Prim.Native.Nat.{_≤_};
-ghost use lib.Dec.{leb};
-ghost use Rattle.season_plan.specs.Inner.{PlanReady, Known, Loses, Evicts, Fetches, Acts, Owes, Cleans, lacking, PlanServable, Serves, Actable, RunsActs, ActsWithin, Priceable, PricedAs, PriceSmall};
+ghost use mathlib.Core.Bool.{false, cond};
+ghost use Prim.Native.Nat.{_*_, _≤_};
+ghost use lib.ListN.{length, getD};
+ghost use lib.Dec.{eqb, leb};
+ghost use Rattle.types.specs.Types.{writeKind};
+ghost use Rattle.season_plan.specs.Inner.{PlanReady, Known, Loses, Evicts, Fetches, Acts, Owes, Cleans, lacking, hitting, PlanServable, Serves, Actable, RunsActs, ActsWithin, Priceable, PricedAs, PriceSmall};
 use season_items::ACT_NUMBERS;
 use season_items::CALL_NUMBERS;
 use season_tables::Seen;
@@ -240,6 +243,43 @@ fn serve(catalog: &[u8], h: u32, p: Copies, kind: u32, item: usize) -> Did
     done(q)
 }
 
+// Whether act `a` is one that stands before step `step`.
+fn acts_due(count: usize, acts: &[u32], a: usize, step: u32) -> bool
+    requires { ⌜ (count ≤ 10922) × (3 * count ≤ length (now acts)) ⌝ }
+    ensures { λ r. ⌜ r ≡ cond (leb count a) false (eqb (getD (now (acts .entry)) (3 * a) 0) step) ⌝ }
+{
+    if count <= a {
+        return false;
+    }
+    acts[ACT_NUMBERS * a] == step
+}
+
+// Whether a step is a read or a write of an item whose mark says that the plan holds a copy, and the plan is within its capacity.
+fn is_hit(h: u32, kind: u32, mark: u8, used: u32) -> bool
+    ensures { λ r. ⌜ r ≡ hitting h kind mark used ⌝ }
+{
+    if mark == 0 {
+        return false;
+    }
+    if h < used {
+        return false;
+    }
+    if kind == types::READ {
+        return true;
+    }
+    kind == types::WRITE
+}
+
+// The mark of an item that a read or a write finds.
+fn mark_after(kind: u32, mark: u8) -> u8
+    ensures { λ r. ⌜ r ≡ cond (eqb kind writeKind) 2 mark ⌝ }
+{
+    if kind == types::WRITE {
+        return 2;
+    }
+    mark
+}
+
 // Runs the plan of an accepted text, the acts before each step and then the step, and the closing flush; its first fault decides.
 pub fn price_plan(seen: Seen, catalog: &[u8], calls: &[u32], acts: &[u32]) -> Price
     requires { ⌜ Priceable seen (now catalog) (now calls) (now acts) ⌝ }
@@ -256,26 +296,36 @@ pub fn price_plan(seen: Seen, catalog: &[u8], calls: &[u32], acts: &[u32]) -> Pr
     let mut a = 0;
     let mut s = 0;
     while s < steps {
-        let before = acts_before(seen, catalog, p, acts, a, s as u32);
-        a = before.next;
-        let number = before.number;
-        if number != 0 {
-            return Price::Refused(types::refusal_of(
-                number,
-                (9 + seen.n + steps + a) as u32,
-                acts[ACT_NUMBERS * a + 2],
-            ));
+        if acts_due(seen.acts, acts, a, s as u32) {
+            let before = acts_before(seen, catalog, p, acts, a, s as u32);
+            a = before.next;
+            let number = before.number;
+            if number != 0 {
+                return Price::Refused(types::refusal_of(
+                    number,
+                    (9 + seen.n + steps + a) as u32,
+                    acts[ACT_NUMBERS * a + 2],
+                ));
+            }
+            let ready = before.copies;
+            p = ready;
         }
-        let ready = before.copies;
         let kind = calls[CALL_NUMBERS * s + 1];
         let item = calls[CALL_NUMBERS * s + 2];
-        let served = serve(catalog, seen.h, ready, kind, item as usize);
-        let fault = served.number;
-        if fault != 0 {
-            return Price::Refused(types::refusal_of(fault, (7 + seen.n + s) as u32, item));
+        let i = item as usize;
+        let mark = p.marks[i];
+        // What the plan holds is handed on only by a step that may change more than one mark.
+        if is_hit(seen.h, kind, mark, p.used) {
+            p.marks[i] = mark_after(kind, mark);
+        } else {
+            let served = serve(catalog, seen.h, p, kind, i);
+            let fault = served.number;
+            if fault != 0 {
+                return Price::Refused(types::refusal_of(fault, (7 + seen.n + s) as u32, item));
+            }
+            let next = served.copies;
+            p = next;
         }
-        let next = served.copies;
-        p = next;
         s += 1;
     }
     let total = p.paid + owed(catalog, p);

@@ -1,7 +1,7 @@
 -- What each test decides, on the numbers that it is handed: a field for each sentence of the rule for a foul locker (refusal 17; paper
--- 01, and paper 02, 'Four' and 'Six') that it looks at. The crates above say of what these are the numbers. Assumes nothing.
+-- 01, and paper 02, 'Four', 'Six' and 'Seven') that it looks at. The crates above say of what these are the numbers. Assumes nothing.
 use mathlib.Core.{Path._≡_, Bool.{Bool, true, false}}
-use Prim.Native.Nat.{ℕ, _+_, _*_, _≤_, _∣_}
+use Prim.Native.Nat.{ℕ, _+_, _*_, _/_, _≤_, _∣_}
 use Rattle.landlord.specs.{Catalog.full, Figures.Totals}
 
 -- a credit is a multiple of the item's blocks, and at most its cost in shares
@@ -24,6 +24,17 @@ pub record EntryOk (blocks load write : ℕ) (held dirty closed : Bool) (loadCre
   pub loads : CreditOk blocks load loadCredit
   pub writes : CreditOk blocks write writeCredit
   pub minutesTop : minutes ≤ 1440 * steps
+
+-- what is asked of the key of one item: "a loss below 0 is foul", nor is it more than the credits; an item not held has none
+pub record KeyFits (held : Bool) (level key credits blocks : ℕ) : Type 0 where
+  pub none : held ≡ false → key ≡ 0
+  pub within : held ≡ true → level ≤ key
+  pub due : held ≡ true → key ≤ level + credits / blocks
+
+-- blocks to divide by, and two credits at most
+pub record Creditable (credits blocks : ℕ) : Type 0 where
+  pub some : 1 ≤ blocks
+  pub top : credits ≤ 131070 * 720720
 
 -- what is asked of the totals alone, and of the capacity
 pub record CountsOk (k : ℕ) (t : Totals) : Type 0 where

@@ -1,16 +1,19 @@
 // The tests of which the check of a cache is made, on plain numbers: of one item, of the totals and of the sums over the items.
 // They take any values: nothing is divided by the blocks of an item before they are known to be some, and every sum and
 // product of counts is made in 64 bits, where it cannot wrap.
-ghost use Prim.Native.Nat.{_≤_};
+ghost use Prim.Native.Nat.{_*_, _≤_};
 ghost use Rattle.landlord.specs.Figures.{totalsOf};
 ghost use Rattle.basis.specs.InnerDecided.{Decided};
-ghost use Rattle.validity.specs.Inner.{CreditOk, MarksOk, EntryOk, CountsOk, SumsOk};
+ghost use Rattle.validity.specs.Inner.{CreditOk, MarksOk, EntryOk, KeyFits, Creditable, CountsOk, SumsOk};
 
-// Whether a credit is a multiple of the item's blocks, and no more than the cost in shares.
+// Whether a credit is a multiple of the item's blocks, and no more than the cost in shares. Most are 0, and nothing is divided then.
 fn credit_ok(blocks: u8, cost: u16, credit: u64) -> bool
     requires { ⌜ 1 ≤ blocks ⌝ }
     ensures { λ r. ⌜ Decided (CreditOk blocks cost credit) r ⌝ }
 {
+    if credit == 0 {
+        return true;
+    }
     if credit % (blocks as u64) != 0 {
         return false;
     }
@@ -67,6 +70,33 @@ pub fn entry_ok(
         return false;
     }
     (minutes as u64) <= 1440 * (steps as u64)
+}
+
+// Whether an item's key fits its credits and the level. Both are any numbers of 64 bits: nothing is added to them, and what is
+// multiplied is at most the credits.
+pub fn key_ok(held: bool, level: u64, key: u64, credits: u64, blocks: u8) -> bool
+    requires { ⌜ Creditable credits blocks ⌝ }
+    ensures { λ r. ⌜ Decided (KeyFits held level key credits blocks) r ⌝ }
+{
+    if !held {
+        return key == 0;
+    }
+    if key < level {
+        return false;
+    }
+    let due = key - level;
+    if due > credits {
+        return false;
+    }
+    due * (blocks as u64) <= credits
+}
+
+// Whether the level is no more than so many evictions can have raised it.
+pub fn level_ok(level: u64, evictions: u32) -> bool
+    requires { ⌜ evictions ≤ 1000000 ⌝ }
+    ensures { λ r. ⌜ Decided (level ≤ evictions * (131070 * 720720)) r ⌝ }
+{
+    level <= (evictions as u64) * 94464770400
 }
 
 // Whether the capacity is in range, and the totals go together with each other.

@@ -1,11 +1,12 @@
 -- `cache_arrivals::arrive` meets its contract: an item listed in the bytes in which its arrival is counted. Assumes nothing.
 use borrow.Author.Needs.{needs}
+use Rattle.cache_counts.proofs.Counts.{valid-ready}
 use Rattle.cache_arrivals.proofs.InPlace.{listable-at, arrive-at}
 use Rattle.cache_arrivals.proofs.arrive.Statement.{statement}
 use Rattle.cache_arrivals.proofs.arrive.Tie as tie
 
 count-step-requires : tie.Need-count-step-requires
-count-step-requires c κs = search needs
+count-step-requires c κs = valid-ready (c .before .before .pre .valid)
 
 list-item-requires : tie.Need-list-item-requires
 list-item-requires c κs =

@@ -1,6 +1,6 @@
 -- `cache_arrivals::drop_held` meets its contract: a law for each of its two ways. Assumes nothing.
 use borrow.Author.Needs.{needs}
-use Rattle.cache_arrivals.proofs.InPlace.{countable-at, held-at, unheld-at}
+use Rattle.cache_arrivals.proofs.InPlace.{retire-holds, countable-at, held-at, unheld-at}
 use Rattle.cache_arrivals.proofs.drop_held.Statement.{statement}
 use Rattle.cache_arrivals.proofs.drop_held.Tie as tie
 
@@ -10,14 +10,18 @@ held-requires c κs = search needs
 is-dirty-requires : tie.Need-is-dirty-requires
 is-dirty-requires c κs = search needs
 
-drop-item-requires : tie.Need-drop-item-requires
-drop-item-requires c κs = search needs
+let-go-requires : tie.Need-let-go-requires
+let-go-requires c κs =
+    let t = c .before .before .before in
+    let h = t .before in
+    let s = h .before .before .before in
+    retire-holds (s .args .b .now) (s .args .i) (s .pre) (h .held .ensures) (t .if1 .taken)
 
 count-eviction-requires : tie.Need-count-eviction-requires
 count-eviction-requires c κs =
     let d = c .before .before .before in
     let s = d .before .before .before .before .before .before .before .before in
-    countable-at (s .args .b .now) (s .args .i) (s .pre) _ (d .drop-item .ensures)
+    countable-at (s .args .b .now) (s .args .i) (s .pre) _ (d .let-go .ensures .1)
 
 same-length : tie.Need-same-length
 same-length c = search needs
@@ -30,7 +34,7 @@ returns c =
     let t = m .before .before in
     let h = t .before in
     let s = h .before .before .before in
-    held-at (s .args .b .now) (s .args .i) (s .pre) _ (d .drop-item .ensures) _ (h .held .ensures) (t .if1 .taken) (m .is-dirty .ensures)
+    held-at (s .args .b .now) (s .args .i) (s .pre) _ (d .let-go .ensures .1) _ (h .held .ensures) (t .if1 .taken) (m .is-dirty .ensures)
     (n .count-eviction .ensures)
 
 same-length-2 : tie.Need-same-length-2
@@ -48,7 +52,7 @@ drop-held-spec =
     (tie.spec
     held-requires
     is-dirty-requires
-    drop-item-requires
+    let-go-requires
     count-eviction-requires
     same-length
     returns

@@ -1,6 +1,6 @@
 -- `cache_arrivals::retire` meets its contract: the mark's law after the drop's. Assumes nothing.
 use borrow.Author.Needs.{needs}
-use Rattle.cache_arrivals.proofs.InPlace.{dropped-valid, retire-at}
+use Rattle.cache_arrivals.proofs.InPlace.{retirement-at, retire-at}
 use Rattle.cache_arrivals.proofs.retire.Statement.{statement}
 use Rattle.cache_arrivals.proofs.retire.Tie as tie
 
@@ -11,7 +11,7 @@ mark-left-requires : tie.Need-mark-left-requires
 mark-left-requires c κs =
     let d = c .before .before .before in
     let s = d .before .before .before in
-    dropped-valid (s .args .b .now) (s .args .i) (s .pre) _ (d .drop-held .ensures)
+    retirement-at (s .args .b .now) (s .args .i) (s .pre) _ (d .drop-held .ensures)
 
 same-length : tie.Need-same-length
 same-length c = search needs

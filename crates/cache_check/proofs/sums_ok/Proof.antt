@@ -1,4 +1,5 @@
 -- `cache_check::sums_ok` meets its contract: the sums handed to `balanced` are those that are asked for. Assumes nothing.
+use mathlib.Core.Path.{_∙_}
 use borrow.Author.Needs.{needs}
 use Rattle.cache_check.proofs.sums_ok.Statement.{statement}
 use Rattle.cache_check.proofs.sums_ok.Tie as tie
@@ -47,7 +48,7 @@ balanced-requires c κs = search needs
 
 returns : tie.Need-returns
 returns c =
-    rw (c .before .before .before .before .before .before .before .before .before .before .before .before .before .capacity .ensures, c .before .before .before .before .before .before .before .before .before .before .before .before .used .ensures, c .before .before .before .before .before .before .before .before .before .before .before .evictions .ensures, c .before .before .before .before .before .before .before .before .before .before .held-count .ensures, c .before .before .before .before .before .before .before .before .before .loads .ensures, c .before .before .before .before .before .before .before .before .writebacks .ensures, c .before .before .before .before .before .before .count .ensures, c .before .before .before .before .before .before .before .dirty .ensures, c .before .before .before .before .before .steps .ensures, c .before .before .before .before .loads-counted .ensures, c .before .before .before .writebacks-counted .ensures, c .before .before .retirements .ensures, c .before .left-count .ensures, c .before .before .before .before .before .before .before .before .before .before .before .before .before .before .before .pre .count)
+    rw (c .before .before .before .before .before .before .before .before .before .before .before .before .before .capacity .ensures, c .before .before .before .before .before .before .before .before .before .before .before .before .used .ensures ∙ c .before .before .before .before .before .before .before .before .before .before .before .before .before .before .before .pre .used, c .before .before .before .before .before .before .before .before .before .before .before .evictions .ensures, c .before .before .before .before .before .before .before .before .before .before .held-count .ensures, c .before .before .before .before .before .before .before .before .before .loads .ensures, c .before .before .before .before .before .before .before .before .writebacks .ensures, c .before .before .before .before .before .before .count .ensures, c .before .before .before .before .before .before .before .dirty .ensures, c .before .before .before .before .before .steps .ensures, c .before .before .before .before .loads-counted .ensures, c .before .before .before .writebacks-counted .ensures, c .before .before .retirements .ensures, c .before .left-count .ensures, c .before .before .before .before .before .before .before .before .before .before .before .before .before .before .before .pre .items .count)
     at (c .balanced .ensures)
 
 pub sums-ok-spec : {M : Type 1} → statement M

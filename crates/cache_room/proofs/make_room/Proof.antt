@@ -4,8 +4,13 @@ use mathlib.Core.Path.{sym, _∙_}
 use Prim.Native.Nat.{_+_, _≤_, _<_}
 use native.Mathlib.Omega.{arith}
 use borrow.Author.Needs.{needs}
-use Rattle.landlord.specs.Rule.{heldCount}
-use Rattle.cache_state.specs.InnerView.{stateOf}
+use Rattle.queue.specs.Machine.{heldCountIn}
+use Rattle.queue.proofs.Losses.{deduction-adds}
+use Rattle.queue.proofs.Logs.{sound, used-is}
+use Rattle.landlord.proofs.Slots.{deduction-ok}
+use Rattle.landlord.specs.Slot.{splitOf}
+use Rattle.cache_state.specs.Cache.{lazy}
+use Rattle.cache_state.specs.InnerView.{queueOf}
 use Rattle.layout.specs.Layout.{cacheOf}
 use Rattle.layout.specs.Inner.{Readable}
 use Rattle.layout.proofs.Places.{valid-reads}
@@ -15,10 +20,10 @@ use Rattle.cache_room.proofs.make_room.Tie as tie
 use Rattle.landlord.proofs.Ranges.{capacity-facts}
 
 abbrev Inv-loop : tie.InvT-loop
-Inv-loop b₀ i n k blocks used₀ b used = Readable b × RoomGoing k blocks (cacheOf b₀) (cacheOf b) used
+Inv-loop b₀ i k blocks used₀ b used = Readable b × RoomGoing k blocks (cacheOf b₀) (cacheOf b) used
 
 abbrev μ-loop : tie.MeasureT-loop
-μ-loop b₀ i n k blocks used₀ b used = heldCount (stateOf (cacheOf b))
+μ-loop b₀ i k blocks used₀ b used = heldCountIn (queueOf (cacheOf b))
 
 -- the item's place in each field
 place : (c : tie.Start Inv-loop μ-loop) → c .args .i < 256
@@ -26,7 +31,7 @@ place c = omega (arith, c .pre .known, c .pre .valid .cache .fields .few)
 
 -- where the loop began
 abbrev start : tie.At-loop Inv-loop μ-loop → tie.Start Inv-loop μ-loop
-start c = c .before .before .before .before .before .before .before .before .before .before .before .before .before
+start c = c .before .before .before .before .before .before .before .before .before .before .before
 
 -- the item has room in an empty cache, and not yet in this one
 fits : (c : tie.At-loop Inv-loop μ-loop) → c .before .before .before .blocks2 .result ≤ c .before .before .before .before .before .capacity .result
@@ -53,44 +58,42 @@ returns c =
           (sym (c .before .held .ensures) ∙ c .if1 .taken);
     }
 
-count-requires : tie.Need-count-requires Inv-loop μ-loop
-count-requires c κs = c .before .before .before .before .before .pre .valid .size
-
 capacity-requires : tie.Need-capacity-requires Inv-loop μ-loop
-capacity-requires c κs = c .before .before .before .before .before .before .before .pre .valid .size
+capacity-requires c κs = c .before .before .before .before .before .pre .valid .size
 
 blocks-requires : tie.Need-blocks-requires Inv-loop μ-loop
 blocks-requires c κs =
-    (c .before .before .before .before .before .before .before .before .before .pre .valid .size, place (c .before .before .before .before .before .before .before .before .before))
+    (c .before .before .before .before .before .before .before .pre .valid .size, place (c .before .before .before .before .before .before .before))
 
 cast-blocks : tie.Need-cast-blocks Inv-loop μ-loop
 cast-blocks c = search needs
 
 used-requires : tie.Need-used-requires Inv-loop μ-loop
-used-requires c κs =
-    let ok = c .before .before .before .before .before .before .before .before .before .before .before .pre .valid in
-    let n = c .before .before .before .before .before .count .ensures .0 in
-    record { size = ok .size; count = n; few = omega (arith, n, ok .cache .fields .few) }
+used-requires c κs = c .before .before .before .before .before .before .before .before .before .pre .valid .size
 
 loop-holds : tie.Need-loop-holds Inv-loop μ-loop
 loop-holds c =
-    let s = c .before .before .before .before .before .before .before .before .before .before .before .before in
+    let s = c .before .before .before .before .before .before .before .before .before .before in
     (valid-reads (s .pre .valid), going-starts (cacheOf (s .args .b .now)) (s .pre .valid .cache) (c .used .ensures))
 
 add-loop : tie.Need-add-loop Inv-loop μ-loop
 add-loop c =
     let so = c .loop .inv .1 in
-    omega (arith, c .before .before .before .blocks2 .ok, so .taken, so .valid .standing .kept .room, capacity-facts (cacheOf (c .loop .b) .k) (so .valid .standing .capacity) .high)
+    let q = cacheOf (c .loop .b) in
+    omega (
+      arith,
+      c .before .before .before .blocks2 .ok,
+      so .taken,
+      so .valid .standing .kept .room,
+      used-is (splitOf (q .rule)) (deduction-ok (q .rule)) (deduction-adds (q .rule)) (queueOf q) (sound (lazy q) (so .valid .lazy)),
+      capacity-facts (cacheOf (c .loop .b) .k) (so .valid .standing .capacity) .high,
+    )
 
 evict-requires : tie.Need-evict-requires Inv-loop μ-loop
 evict-requires c κs =
     let inv = c .before .before .loop .inv in
     record {
-      valid =
-          record {
-            valid = record { size = inv .0 .size; allowed = inv .0 .allowed; cache = inv .1 .valid };
-            count = c .before .before .before .before .before .before .before .before .before .count .ensures .0 ∙ sym (inv .1 .count);
-          };
+      valid = record { size = inv .0 .size; allowed = inv .0 .allowed; cache = inv .1 .valid };
       some = omega (arith, fits (c .before .before), wanting (c .before), inv .1 .taken);
     }
 
@@ -131,7 +134,7 @@ returns-2 c =
       cache =
           room-miss (cacheOf (s .args .b .now)) (cacheOf (c .before .loop .b)) (s .args .i)
           (c .before .before .before .before .before .before .capacity .ensures) (c .before .before .before .before .blocks2 .ensures) (s .pre .known)
-          (sym (c .before .before .before .before .before .before .before .before .before .before .before .held .ensures) ∙ c .before .before .before .before .before .before .before .before .before .before .if1 .left)
+          (sym (c .before .before .before .before .before .before .before .before .before .held .ensures) ∙ c .before .before .before .before .before .before .before .before .if1 .left)
           (c .before .loop .inv .1) (c .loop-test .left);
     }
 
@@ -144,7 +147,6 @@ make-room-spec =
     held-requires
     same-length
     returns
-    count-requires
     capacity-requires
     blocks-requires
     cast-blocks

@@ -3,7 +3,7 @@
 use mathlib.Core.Path.{sym, _∙_}
 use Prim.Native.Nat.{_-_}
 use native.Mathlib.Omega.{arith}
-use Rattle.cache_serve.proofs.InPlace.{FlushingAt, flush-starts-at, flush-ends-at, flushable-at, flush-turn-at}
+use Rattle.cache_serve.proofs.Writebacks.{FlushingAt, flush-starts, flush-ends, flush-keyed, flush-reckonable, flushable, flush-turn}
 use Rattle.cache_serve.proofs.flush.Statement.{statement}
 use Rattle.cache_serve.proofs.flush.Tie as tie
 
@@ -15,7 +15,7 @@ abbrev μ-loop : tie.MeasureT-loop
 
 loop-holds : tie.Need-loop-holds Inv-loop μ-loop
 loop-holds c =
-    let s = c .before in flush-starts-at (s .args .b .now) (s .pre)
+    let s = c .before in flush-starts (s .args .b .now) (s .pre)
 
 dirty-requires : tie.Need-dirty-requires Inv-loop μ-loop
 dirty-requires c κs = c .before .loop .inv .reads .size
@@ -31,20 +31,29 @@ same-length c =
 
 returns : tie.Need-returns Inv-loop μ-loop
 returns c =
-    let n = c .before in
-    let d = n .before in
-    let l = d .before .before in
+    let l = c .before .before .before .before in
     let s = l .before .before in
-    flush-ends-at (s .args .b .now) (l .loop .b) (l .loop .at) _ (l .loop .inv) (d .dirty .ensures) (n .next .ensures) (c .if1 .taken)
+    flush-ends (s .args .b .now) (l .loop .b) (l .loop .at) _ _ (l .loop .inv) (c .before .before .dirty .ensures) (c .before .next .ensures) (c .if1 .taken)
+
+load-now-requires : tie.Need-load-now-requires Inv-loop μ-loop
+load-now-requires c κs =
+    let l = c .before .before .before .before .before in
+    let s = l .before .before in
+    flush-keyed (s .args .b .now) (l .loop .b) (l .loop .at) _ _ (l .loop .inv) (c .before .before .before .dirty .ensures) (c .before .before .next .ensures) (c .before .if1 .left)
+
+reckon-requires : tie.Need-reckon-requires Inv-loop μ-loop
+reckon-requires c κs =
+    let l = c .before .before .before .before .before .before .before in
+    let s = l .before .before in
+    flush-reckonable (s .args .b .now) (l .loop .b) (l .loop .at) _ _ (l .loop .inv) (c .before .before .before .before .before .dirty .ensures) (c .before .before .before .before .next .ensures) (c .before .before .before .if1 .left) _
+    (c .before .load-now .ensures)
 
 write-back-requires : tie.Need-write-back-requires Inv-loop μ-loop
 write-back-requires c κs =
-    let t = c .before in
-    let n = t .before in
-    let d = n .before in
-    let l = d .before .before in
+    let l = c .before .before .before .before .before .before .before .before .before .before .before in
     let s = l .before .before in
-    flushable-at (s .args .b .now) (l .loop .b) (l .loop .at) _ (l .loop .inv) (d .dirty .ensures) (n .next .ensures) (t .if1 .left)
+    flushable (s .args .b .now) (l .loop .b) (l .loop .at) _ _ (l .loop .inv) (c .before .before .before .before .before .before .before .before .before .dirty .ensures) (c .before .before .before .before .before .before .before .before .next .ensures) (c .before .before .before .before .before .before .before .if1 .left) _
+    (c .before .before .before .before .before .load-now .ensures) _ (c .before .before .before .reckon .ensures)
 
 add-at : tie.Need-add-at Inv-loop μ-loop
 add-at c = omega arith
@@ -54,14 +63,10 @@ loop-less c = omega arith
 
 loop-again : tie.Need-loop-again Inv-loop μ-loop
 loop-again c =
-    let w = c .before .before in
-    let t = w .before .before in
-    let n = t .before in
-    let d = n .before in
-    let l = d .before .before in
+    let l = c .before .before .before .before .before .before .before .before .before .before .before .before .before .before in
     let s = l .before .before in
-    flush-turn-at (s .args .b .now) (l .loop .b) (l .loop .at) _ (l .loop .inv) (d .dirty .ensures) (n .next .ensures) (t .if1 .left) _
-    (w .write-back .ensures)
+    flush-turn (s .args .b .now) (l .loop .b) (l .loop .at) _ _ (l .loop .inv) (c .before .before .before .before .before .before .before .before .before .before .before .before .dirty .ensures) (c .before .before .before .before .before .before .before .before .before .before .before .next .ensures) (c .before .before .before .before .before .before .before .before .before .before .if1 .left) _
+    (c .before .before .before .before .before .before .before .before .load-now .ensures) _ (c .before .before .before .before .before .before .reckon .ensures) _ (c .before .before .write-back .ensures)
 
 pub flush-spec : {M : Type 1} → statement M
 flush-spec =
@@ -74,6 +79,8 @@ flush-spec =
     next-requires
     same-length
     returns
+    load-now-requires
+    reckon-requires
     write-back-requires
     add-at
     loop-less

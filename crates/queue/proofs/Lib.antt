@@ -1,0 +1,5 @@
+pub mod Bench
+pub mod Losses
+pub mod Agrees
+pub mod Logs
+pub mod Calls

@@ -1,0 +1,4 @@
+pub mod Queue
+pub mod Machine
+pub mod Claims
+pub mod Rows
