@@ -82,7 +82,7 @@
  * more items are held: all are, but half in the line of one eviction, and none where all have left.
  *
  * The held items stand in a heap, the next to go at its head. So an eviction goes over no other item: it takes the head out and
- * mends the heap, in some 290 instructions where 31 items are held and 430 where 255 are, which grows as the logarithm of their
+ * mends the heap, in some 290 instructions where 30 items are held and 400 where 255 are, which grows as the logarithm of their
  * count. There can be no more than 16 evictions in a step: each frees a block at least, and no item has more than 16. The line
  * has the most of 32 such steps, with 255 items held, all dirty.
  *
