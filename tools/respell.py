@@ -34,7 +34,7 @@ def declared(root):
             text = re.sub(r"--[^\n]*", "", read(path))
             for m in re.finditer(r"(?m)^(?:abbrev |unfoldable )?(?:pub )?([^\s(){}.;,\"]+) :", text):
                 top[m.group(1)].add(part)
-            for m in re.finditer(r"(?m)^ +(?:pub )?([^\s(){}.;,\"]+) : ", text):
+            for m in re.finditer(r"(?m)^ +(?:pub )?([^\s(){}.;,\"]+) :(?=\s)", text):
                 fields.add(m.group(1))
     return top, fields
 
