@@ -184,12 +184,12 @@ module _ (b : List ℕ) (n : Numbers) (p : TablePasses b n) where
   pub passed_steps : SteppableAt b
   passed_steps = record { valid = p.valid; room = few }
 
-  pub passed-flush :
+  pub passed_flush :
       (after : List ℕ) →
       n.kind ≡ 76 →
       BecomesAt (took_in (lazy (cache_of b)) Flush) after →
       BecomesAt (took_in (lazy (cache_of b)) (step_of n)) after
-  passed-flush after e h = so (free_flush (cache_of b) n p.free e) h
+  passed_flush after e h = so (free_flush (cache_of b) n p.free e) h
 
   pub passed_values : n.kind ≡ 65 → ItemFacts (listed n.blocks n.load n.write)
   passed_values = free_values (cache_of b) n p.free
@@ -197,12 +197,12 @@ module _ (b : List ℕ) (n : Numbers) (p : TablePasses b n) where
   pub passed_arrives : n.kind ≡ 65 → ArrivableAt b
   passed_arrives e = record { valid = p.valid; room = few; few = free_place (cache_of b) n p.free e }
 
-  pub passed-arrived :
+  pub passed_arrived :
       (after : List ℕ) →
       n.kind ≡ 65 →
       BecomesAt (took_in (lazy (cache_of b)) (Arrive (cache_of b).n n.blocks n.load n.write)) after →
       BecomesAt (took_in (lazy (cache_of b)) (step_of n)) after
-  passed-arrived after e h = so (free_arrive (cache_of b) n p.free e) h
+  passed_arrived after e h = so (free_arrive (cache_of b) n p.free e) h
 
   module _ (f : n.kind ≢ 76) (a : n.kind ≢ 65) where
     pub passed_place : n.item < 256
@@ -211,12 +211,12 @@ module _ (b : List ℕ) (n : Numbers) (p : TablePasses b n) where
     pub passed_leaves : ServableAt b n.item
     passed_leaves = record { valid = p.valid; item = free_known (cache_of b) n p.free f a; room = few }
 
-    pub passed-left :
+    pub passed_left :
         (after : List ℕ) →
         n.kind ≡ 81 →
         BecomesAt (took_in (lazy (cache_of b)) (Retire n.item)) after →
         BecomesAt (took_in (lazy (cache_of b)) (step_of n)) after
-    passed-left after e h = so (free_retire (cache_of b) n p.free e) h
+    passed_left after e h = so (free_retire (cache_of b) n p.free e) h
 
     module _ (q : n.kind ≢ 81) where
       pub passed_minutes : n.kind ≢ 82 → n.minutes ≤ 1440
@@ -236,16 +236,16 @@ module _ (b : List ℕ) (n : Numbers) (p : TablePasses b n) where
               room = r.taking.few;
             }
 
-        pub read-took :
+        pub read_took :
             (after : List ℕ) →
             n.kind ≡ 82 →
             BecomesAt (moved_in (lazy (cache_of room)) (serve_read_in (split_of (cache_of room).rule) n.item (queue_of (cache_of room))) (cache_of room).closed) after →
             BecomesAt (took_in (lazy (cache_of b)) (step_of n)) after
-        read-took after e h = so (read_taken (cache_of b) n p.free f a q p.valid.cache (cache_of room) at.cache.stands e) h
+        read_took after e h = so (read_taken (cache_of b) n p.free f a q p.valid.cache (cache_of room) at.cache.stands e) h
 
-        pub write-took :
+        pub write_took :
             (after : List ℕ) →
             n.kind ≢ 82 →
             BecomesAt (moved_in (lazy (cache_of room)) (serve_write_in (split_of (cache_of room).rule) n.item n.minutes (queue_of (cache_of room))) (cache_of room).closed) after →
             BecomesAt (took_in (lazy (cache_of b)) (step_of n)) after
-        write-took after r h = so (write_taken (cache_of b) n p.free f a q p.valid.cache (cache_of room) at.cache.stands r) h
+        write_took after r h = so (write_taken (cache_of b) n p.free f a q p.valid.cache (cache_of room) at.cache.stands r) h

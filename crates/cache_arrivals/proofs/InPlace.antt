@@ -38,11 +38,11 @@ module _ (b : List ℕ) (p : ArrivableAt b) where
     listable_at =
         record { reads = readable s1; few = subst (λ (m : ℕ). m < 256) (sym (ap (λ (q : Cache). q.n) s1.cache)) p.few }
 
-    pub arrive-at :
+    pub arrive_at :
         (after : List ℕ) (blocks load write : ℕ) →
         Stands after (listed_of (cache_of b1) blocks load write) →
         BecomesAt (took_in (lazy (cache_of b)) (Arrive (cache_of b).n blocks load write)) after
-    arrive-at after blocks load write s2 =
+    arrive_at after blocks load write s2 =
         record {
           reads = readable s2;
           cache =

@@ -26,7 +26,7 @@ use Rattle.cache_state.specs.InnerBecomes.{Becomes}
 use Rattle.cache_state.proofs.Views.{size_is, item_is, key_is, stored_is, stored_held}
 use Rattle.cache_state.proofs.Stored.{dirty_here}
 use Rattle.cache_room.specs.Inner.{requeued, counted_of}
-use Rattle.cache_room.proofs.Counts.{same_use, counted_normal, counted-lazy}
+use Rattle.cache_room.proofs.Counts.{same_use, counted_normal, counted_lazy}
 use Rattle.cache_serve.proofs.Changes.{uses_by}
 use Rattle.cache_arrivals.specs.InnerStores.{left_of, Left}
 
@@ -74,7 +74,7 @@ module _ (c : Cache) (i : ℕ) (ok : Normal c) (l : i < c.n) where
     held_becomes =
         record {
           stands =
-              counted-lazy q i size gone.fields known d
+              counted_lazy q i size gone.fields known d
               ∙ ap (λ (v : LazyStanding). moved_in v (record { queue = v.queue; events = evicted i d ∷ [] }) v.closed) gone.stands
               ∙ (λ z.
               moved_in (lazy c) (record { queue = removed (queue_of c) i; events = evicted i ((was ∙ sym (dirty_here c ok i l)) z) ∷ [] }) c.closed)

@@ -12,7 +12,7 @@ use lib.Seq.{length-take-le, get_or-take, get_or-drop}
 use Rattle.fields.specs.Inner.{Below}
 use Rattle.heap.specs.Heap.{heap_of}
 use Rattle.heap.specs.InnerMoves.{SpotsOn, HeapOk, flagged}
-use Rattle.heap.proofs.Spots.{heap-ok, heap_spots}
+use Rattle.heap.proofs.Spots.{heap_ok, heap_spots}
 use Rattle.basis.specs.InnerDecided.{Decided}
 use Rattle.cache_state.specs.Cache.{Cache, held_at, held_items, heap_at}
 use Rattle.layout.specs.Layout.{state_bytes, cache_of}
@@ -60,7 +60,7 @@ pub heap_valid :
 unfolding held_items
 heap_valid b bytes n few e spots unused others =
     subst (λ (k : ℕ). HeapOk (held_at c) c.keys (heap_of c.heap c.places k)) e
-    (heap-ok (held_at c) c.keys c.heap c.places n spots (λ j. omega (arith, (fits b bytes).heap j)) others few e (whole b).heap unused)
+    (heap_ok (held_at c) c.keys c.heap c.places n spots (λ j. omega (arith, (fits b bytes).heap j)) others few e (whole b).heap unused)
   where
     c : Cache
     c = cache_of b

@@ -36,7 +36,7 @@ use Rattle.cache_heap.specs.Inner.{FilledAt, RemovedAt}
 use Rattle.cache_counts.specs.Inner.{writeback_counted, Payable, PayableAt}
 use Rattle.cache_room.specs.Inner.{requeued, dropped_of, gone_of, counted_of, DroppedAt, CountableAt, HoldsAt, LetGoAt, CrowdedAt}
 use Rattle.cache_room.proofs.Gone.{RoomSizes, gone_becomes, used_enough, heap_filled}
-use Rattle.cache_room.proofs.Counts.{counted_normal, counted-lazy}
+use Rattle.cache_room.proofs.Counts.{counted_normal, counted_lazy}
 
 -- ---- the drop and the count
 
@@ -125,7 +125,7 @@ module _ (b : List ℕ) (v : ℕ) (p : HoldsAt b v) where
   pub holds_used : get_or (cache_of b).blocks v 0 ≤ (cache_of b).used
   holds_used = used_enough (cache_of b) v p.fields p.known p.is_held
 
-  pub let-go-at :
+  pub let_go_at :
       (b1 b2 b3 next : List ℕ) (n at used blocks : ℕ) →
       n ≡ held_items (cache_of b) →
       at ≡ get_or (cache_of b).places v 0 →
@@ -136,7 +136,7 @@ module _ (b : List ℕ) (v : ℕ) (p : HoldsAt b v) where
       Stands b3 (with_key (cache_of b2) v 0) →
       DroppedAt b3 v next →
       LetGoAt b v next
-  let-go-at b1 b2 b3 next n at used blocks en ea eu eb s1 s2 s3 s4 =
+  let_go_at b1 b2 b3 next n at used blocks en ea eu eb s1 s2 s3 s4 =
       record { reads = s4.reads; cache = record { fields = fields; becomes = subst (Becomes (requeued (lazy c) (removed (queue_of c) v))) (sym fields) whole_becomes } }
     where
       c : Cache
@@ -300,12 +300,12 @@ module _ (b b1 b2 : List ℕ) (p : CrowdedAt b) {v key : ℕ} {d : Bool} (is : v
       r : StandingOk (view (cache_of b))
       r = (ok b p).standing
 
-  pub evicted-at :
+  pub evicted_at :
       (next : List ℕ) →
       Stands next (counted_of (cache_of b2) v d) →
       BecomesAt (moved_in (lazy (cache_of b)) (evict_in (queue_of (cache_of b))) (cache_of b).closed) next
   unfolding fold
-  evicted-at next s3 =
+  evicted_at next s3 =
       record {
         reads = readable s3;
         cache =
@@ -333,7 +333,7 @@ module _ (b b1 b2 : List ℕ) (p : CrowdedAt b) {v key : ℕ} {d : Bool} (is : v
           ∙ ap (λ (x : ℕ). requeued (lazy c₀) (leveled (removed (queue_of c₀) v) x)) (ek ∙ sym (key_is c₀ v known))
 
       counts : lazy (counted_of e v d) ≡ moved_in (lazy e) (record { queue = (lazy e).queue; events = evicted v d ∷ [] }) e.closed
-      counts = counted-lazy e v (whole b2).itemwritebacks fields l d
+      counts = counted_lazy e v (whole b2).itemwritebacks fields l d
 
       stands : lazy (counted_of e v d) ≡ moved_in (lazy c₀) (evict_in (queue_of c₀)) c₀.closed
       stands =

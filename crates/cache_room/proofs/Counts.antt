@@ -87,11 +87,11 @@ module _ (c : Cache) (v : ℕ) (sizes : length c.itemwritebacks ≡ 256) (ok : N
       totals_of (still c.steps z) (still c.hits z) (still c.loads z) (still c.loadcost z) (c.evictions + 1)
       (c.dirtyevictions + 1) (c.writebacks + 1) (c.writecost + (sym (item_is c v l) z).write) (still c.flushes z) (still c.arrivals z) (still c.retirements z)
 
-  pub counted-lazy :
+  pub counted_lazy :
       (d : Bool) →
       lazy (counted d) ≡ record { k = c.k; queue = queue_of c; figures = tally (catalog_of c) (figures_of c) (evicted v d); closed = c.closed; split = split_of c.rule }
   unfolding catalog_of slots_of keys_of uses_of
-  counted-lazy false =
+  counted_lazy false =
       λ z. record { k = c.k; queue = queue_of c; figures = record { totals = totals_more false z; uses = uses_more false z }; closed = c.closed; split = split_of c.rule }
-  counted-lazy true =
+  counted_lazy true =
       λ z. record { k = c.k; queue = queue_of c; figures = record { totals = totals_more true z; uses = uses_more true z }; closed = c.closed; split = split_of c.rule }

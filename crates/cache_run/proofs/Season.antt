@@ -17,7 +17,7 @@ use Rattle.landlord.proofs.Slots.{deduction_ok}
 use Rattle.landlord.proofs.Calls.{log_allowed, joins_either, logged_allowed, same_refusal, one_call, closing_ends}
 use Rattle.landlord.proofs.Competitive.{competitive_bound}
 use Rattle.queue.specs.Machine.{LazyStanding, lazy_from, after_in}
-use Rattle.queue.proofs.Calls.{one-call-in}
+use Rattle.queue.proofs.Calls.{one_call_in}
 use Rattle.cache_open.specs.Opening.{opening_in, OpenedLent}
 use Rattle.cache_open.proofs.Openings.{right}
 use Rattle.cache.specs.Contract.{Kind, lent}
@@ -57,7 +57,7 @@ module _ {C : Type 0} (kind : Kind C) (o : Opening Catalog) (good : CatalogOk o.
       let m : Log = joins k cat l call in
       let next = (h.fine ok).stands ∙ ap (λ (v : Standing). after v call) at ∙ one_call (start_of o) (split_ok o) good l call a in
       let open' : AllowedLog k cat m.steps = joins_either k cat l call (λ z. AllowedLog k cat z.steps) (λ e. logged_allowed k cat l call a e) a in
-      let on = (h.fine ok).lazy ∙ ap (λ (v : LazyStanding). after_in v call) now ∙ one-call-in o good l call a in
+      let on = (h.fine ok).lazy ∙ ap (λ (v : LazyStanding). after_in v call) now ∙ one_call_in o good l call a in
       let rest = leads m open' (h.fine ok).valid next on f in
       record {
         valid = rest.valid;

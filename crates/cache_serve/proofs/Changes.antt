@@ -69,14 +69,14 @@ module _ (c : Cache) (ms ls ws : List ℕ) (t : Totals) where
   abbrev counted : Cache
   counted = with_figures c ms ls ws t
 
-  pub counts-lazy :
+  pub counts_lazy :
       (e : Event) →
       lines_after (catalog_of c) e ≡ length (catalog_of c) →
       counts_of (with_figures c ms ls ws t) ≡ plus_totals (counts_of c) (adds (catalog_of c) e) →
       ((j : ℕ) → j < c.n → usage_of (with_figures c ms ls ws t) j ≡ plus_use (usage_of c j) (cond (is_about j e) (usage e) no_use)) →
       lazy (with_figures c ms ls ws t) ≡ moved_in (lazy c) (record { queue = queue_of c; events = e ∷ [] }) c.closed
   unfolding fold catalog_of slots_of keys_of
-  counts-lazy e lines total each =
+  counts_lazy e lines total each =
       λ z.
       record {
         k = c.k;
@@ -87,14 +87,14 @@ module _ (c : Cache) (ms ls ws : List ℕ) (t : Totals) where
       }
 
   -- the fields stay tidy, if nothing is counted past the catalog
-  pub counts-normal :
+  pub counts_normal :
       Normal c →
       ((i : ℕ) → c.n ≤ i → i < 256 → get_or ms i 0 ≡ 0) →
       ((i : ℕ) → c.n ≤ i → i < 256 → get_or ls i 0 ≡ 0) →
       ((i : ℕ) → c.n ≤ i → i < 256 → get_or ws i 0 ≡ 0) →
       Normal (with_figures c ms ls ws t)
   unfolding held_items held_blocks
-  counts-normal ok no_minutes no_loads no_backs =
+  counts_normal ok no_minutes no_loads no_backs =
       record {
         few = ok.few;
         past =
@@ -153,10 +153,10 @@ module _
       ∙ tab_set c.n (slot_of c) (slot_of marked_now) i l
       (λ j b e. sym (λ z. slot_from (held_at c j) (other j (omega (arith, ok.few)) e z) (get_or c.loadcredit j 0) (get_or c.writecredit j 0))))
 
-  pub marks-lazy :
+  pub marks_lazy :
       lazy (with_dirty c ws) ≡ requeued (lazy c) (restored (queue_of c) i (slot_from true f (get_or c.loadcredit i 0) (get_or c.writecredit i 0)))
   unfolding catalog_of keys_of uses_of
-  marks-lazy = λ z. requeued (lazy c) (record { catalog = catalog_of c; slots = slots_after z; keys = keys_of c; level = c.level })
+  marks_lazy = λ z. requeued (lazy c) (record { catalog = catalog_of c; slots = slots_after z; keys = keys_of c; level = c.level })
 
   pub marks_normal : (f ≡ false → get_or c.writecredit i 0 ≡ 0) → Normal (with_dirty c ws)
   unfolding held_items held_blocks

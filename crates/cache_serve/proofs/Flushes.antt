@@ -101,11 +101,11 @@ module _ (split : Split) (q : Queue) (slots : length q.slots ≡ length q.catalo
         cond (is_dirty (there j e z))
         (key_now (blocks_of q j) q.level (flushed (slot_now split (blocks_of q j) q.level (key_there j e z) (there j e z)))) (key_there j e z))
 
-    pub flush-first :
+    pub flush_first :
         ((j : ℕ) → j < i → is_dirty (stored_at q j) ≡ false) →
         flush_in split q ≡ joined_in (back_one split i q) (flush_in split (back_one split i q).queue)
     unfolding flush_in
-    flush-first none =
+    flush_first none =
         λ z.
         record {
           queue =
@@ -149,7 +149,7 @@ module _ (v : LazyStanding) (slots : length v.queue.slots ≡ length v.queue.cat
       ((j : ℕ) → j < i → is_dirty (stored_at v.queue j) ≡ false) →
       flush_from (moved_in v (back_one v.split i v.queue) v.closed) ≡ flush_from v
   unfolding fold
-  from_first i l due none = sym (ap (λ (m : MovedIn). moved_in v m v.closed) (flush-first v.split v.queue slots keys i l due none))
+  from_first i l due none = sym (ap (λ (m : MovedIn). moved_in v m v.closed) (flush_first v.split v.queue slots keys i l due none))
 
   pub from_none : ((j : ℕ) → j < length v.queue.catalog → is_dirty (stored_at v.queue j) ≡ false) → flush_from v ≡ v
   unfolding fold

@@ -101,10 +101,10 @@ module _ (c : Cache) (ok : Normal c) (good : LazyOk (lazy c)) (few : c.evictions
       bound
 
   -- the slot as it stands, by the numbers
-  pub now-is :
+  pub now_is :
       now_at (split_of c.rule) (queue_of c) i
       ≡ lose (split_of c.rule) (get_or c.blocks i 0) (loss_at (queue_of c) i) (slot_from true (dirty_at c i) (get_or c.loadcredit i 0) (get_or c.writecredit i 0))
-  now-is =
+  now_is =
       λ z. lose (split_of c.rule) (s_is z) (loss_at (queue_of c) i)
       ((stored_is c i l ∙ ap (λ (h : Bool). slot_from h (dirty_at c i) (get_or c.loadcredit i 0) (get_or c.writecredit i 0)) is_held) z)
 
@@ -115,7 +115,7 @@ module _ (c : Cache) (ok : Normal c) (good : LazyOk (lazy c)) (few : c.evictions
       subst
       (λ (x : Slot). Leaves x (get_or c.loadcredit i 0) (get_or c.writecredit i 0) (loss_at (queue_of c) i)
       (split_of c.rule (get_or c.blocks i 0) (loss_at (queue_of c) i) (get_or c.loadcredit i 0) (get_or c.writecredit i 0)))
-      (sym now-is)
+      (sym now_is)
       (leaves (split_of c.rule) (get_or c.blocks i 0) (loss_at (queue_of c) i) (dirty_at c i) (get_or c.loadcredit i 0) (get_or c.writecredit i 0) (ok.clean i l) bears)
 
   pub losing : Losing c i
@@ -143,27 +143,27 @@ module _ (b : List ℕ) (i : ℕ) (p : KeyedAt b i) where
   keyed_losing = losing (cache_of b) p.fields p.lazy p.drops i p.known p.is_held
 
   -- what the write credit bears of it
-  pub keyed-borne :
+  pub keyed_borne :
       {lost t : ℕ} →
       lost ≡ loss_at (queue_of (cache_of b)) i →
       t ≡ split_of (cache_of b).rule (get_or (cache_of b).blocks i 0) lost (get_or (cache_of b).loadcredit i 0) (get_or (cache_of b).writecredit i 0) →
       t
       ≡ split_of (cache_of b).rule (get_or (cache_of b).blocks i 0) (loss_at (queue_of (cache_of b)) i) (get_or (cache_of b).loadcredit i 0) (get_or (cache_of b).writecredit i 0)
-  keyed-borne e f =
+  keyed_borne e f =
       f
       ∙ ap (λ (x : ℕ). split_of (cache_of b).rule (get_or (cache_of b).blocks i 0) x (get_or (cache_of b).loadcredit i 0) (get_or (cache_of b).writecredit i 0)) e
 
   -- the worth of a block, as it is read
-  pub keyed-worth :
+  pub keyed_worth :
       {a w s : ℕ} →
       a ≡ get_or (cache_of b).loadcredit i 0 →
       w ≡ get_or (cache_of b).writecredit i 0 →
       s ≡ get_or (cache_of b).blocks i 0 →
       (a + w) / s ≡ (get_or (cache_of b).loadcredit i 0 + get_or (cache_of b).writecredit i 0) / get_or (cache_of b).blocks i 0
-  keyed-worth ea ew es = λ z. (ea z + ew z) / es z
+  keyed_worth ea ew es = λ z. (ea z + ew z) / es z
 
   -- and the loss
-  pub keyed-loss :
+  pub keyed_loss :
       {a w s level key : ℕ} →
       a ≡ get_or (cache_of b).loadcredit i 0 →
       w ≡ get_or (cache_of b).writecredit i 0 →
@@ -171,4 +171,4 @@ module _ (b : List ℕ) (i : ℕ) (p : KeyedAt b i) where
       level ≡ (cache_of b).level →
       key ≡ get_or (cache_of b).keys i 0 →
       s * (level + (a + w) / s - key) ≡ loss_at (queue_of (cache_of b)) i
-  keyed-loss ea ew es el ek = (λ z. es z * (el z + (ea z + ew z) / es z - ek z)) ∙ sym keyed_losing.loss
+  keyed_loss ea ew es el ek = (λ z. es z * (el z + (ea z + ew z) / es z - ek z)) ∙ sym keyed_losing.loss

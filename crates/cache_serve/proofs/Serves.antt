@@ -40,8 +40,8 @@ use Rattle.cache_room.proofs.Rooms.{used_here}
 use Rattle.cache_serve.specs.InnerStores.{loss_at, fetched_in, fetched_of, loaded_of, written_of, WroteAt, EnteredAt}
 use Rattle.cache_serve.specs.InnerReady.{ServableAt, LoadAt, WritableAt, KeyedAt, EnterableAt}
 use Rattle.cache_serve.proofs.Bounds.{item_ok, item_loads, item_minutes}
-use Rattle.cache_serve.proofs.Losses.{Losing, losing, now-is}
-use Rattle.cache_serve.proofs.Changes.{plus_none, about_one, counts-lazy, counts-normal, restored, marks-lazy, marks_normal}
+use Rattle.cache_serve.proofs.Losses.{Losing, losing, now_is}
+use Rattle.cache_serve.proofs.Changes.{plus_none, about_one, counts_lazy, counts_normal, restored, marks_lazy, marks_normal}
 use Rattle.cache_serve.proofs.Queues.{over, refetched, stored_same, reckoned_count, Tallied, valid_tallied, valid_counted, holds_of}
 
 -- ---- slots
@@ -63,12 +63,12 @@ write_slot load top (dirty a b) = refl
 
 hit_lazy : (d : Cache) (i : ℕ) → lazy (step_counted d Hits) ≡ moved_in (lazy d) (record { queue = queue_of d; events = hit i ∷ [] }) d.closed
 hit_lazy d i =
-    counts-lazy d d.minutes d.itemloads d.itemwritebacks (counts_of (step_counted d Hits)) (hit i) (add-zero _) (simp add-zero)
+    counts_lazy d d.minutes d.itemloads d.itemwritebacks (counts_of (step_counted d Hits)) (hit i) (add-zero _) (simp add-zero)
     (λ j b. about_one d (step_counted d Hits) i (hit i) (λ k. refl) (λ k e. refl) (plus_none (usage_of d i)) j)
 
 hit_normal : (d : Cache) → Normal d → Normal (step_counted d Hits)
 hit_normal d ok =
-    counts-normal d d.minutes d.itemloads d.itemwritebacks (counts_of (step_counted d Hits)) ok (λ j b m. (ok.past j b m).place.minutes)
+    counts_normal d d.minutes d.itemloads d.itemwritebacks (counts_of (step_counted d Hits)) ok (λ j b m. (ok.past j b m).place.minutes)
     (λ j b m. (ok.past j b m).place.loads) (λ j b m. (ok.past j b m).place.writebacks)
 
 module _ (d : Cache) (i : ℕ) (size : length d.itemloads ≡ 256) (ok : Normal d) (l : i < d.n) where
@@ -80,14 +80,14 @@ module _ (d : Cache) (i : ℕ) (size : length d.itemloads ≡ 256) (ok : Normal 
 
   load_lazy : lazy (loaded_of d i) ≡ moved_in (lazy d) (record { queue = queue_of d; events = loaded i ∷ [] }) d.closed
   load_lazy =
-      counts-lazy d d.minutes (loaded_of d i).itemloads d.itemwritebacks (counts_of (loaded_of d i)) (loaded i) (add-zero _)
+      counts_lazy d d.minutes (loaded_of d i).itemloads d.itemwritebacks (counts_of (loaded_of d i)) (loaded i) (add-zero _)
       (simp (add-zero, item_is d i l))
       (λ j b. about_one d (loaded_of d i) i (loaded i) (λ k. refl)
       (λ k e. λ z. use_of (get_or d.minutes k 0) (other_loads k e z) (get_or d.itemwritebacks k 0)) (simp (one_load, add-zero)) j)
 
   load_normal : Normal (loaded_of d i)
   load_normal =
-      counts-normal d d.minutes (loaded_of d i).itemloads d.itemwritebacks (counts_of (loaded_of d i)) ok (λ j b m. (ok.past j b m).place.minutes)
+      counts_normal d d.minutes (loaded_of d i).itemloads d.itemwritebacks (counts_of (loaded_of d i)) ok (λ j b m. (ok.past j b m).place.minutes)
       (λ j b m. other_loads j (λ q. omega arith) ∙ (ok.past j b m).place.loads) (λ j b m. (ok.past j b m).place.writebacks)
 
 -- ---- how many are held
@@ -217,7 +217,7 @@ module _ (b : List ℕ) (i : ℕ) (p : ServableAt b i) where
 
     slot : slot_from true (dirty_at (cache_of b) i) credit write ≡ read_slot_in (split_of (cache_of b).rule) (queue_of (cache_of b)) i
     slot =
-        let now : now_at (split_of (cache_of b).rule) (queue_of (cache_of b)) i ≡ _ = now-is (cache_of b) ok.fields ok.lazy drops i p.item here in
+        let now : now_at (split_of (cache_of b).rule) (queue_of (cache_of b)) i ≡ _ = now_is (cache_of b) ok.fields ok.lazy drops i p.item here in
         (λ z. slot_from true (dirty_at (cache_of b) i) (ec z) (ew z))
         ∙ ap (λ (x : Slot). slot_from true (dirty_at (cache_of b) i) (full (get_or (cache_of b).load i 0)) (write_credit x)) now
         ∙ read_slot_lem (split_of (cache_of b).rule) _ _ (dirty_at (cache_of b) i) _ _ (full (get_or (cache_of b).load i 0))
@@ -411,10 +411,10 @@ module _ (b : List ℕ) (i : ℕ) (p : ServableAt b i) where
       is_dirty : dirty_at (cache_of b2) i ≡ true
       is_dirty = marked_set_same (cache_of b1).dirty (cache_of b2).dirty i true s.cache.mark serve_place
 
-      marked-lazy :
+      marked_lazy :
           lazy marked
           ≡ requeued (lazy (cache_of b1)) (restored (queue_of (cache_of b1)) i (slot_from true true (get_or (cache_of b1).loadcredit i 0) (get_or (cache_of b1).writecredit i 0)))
-      marked-lazy = marks-lazy (cache_of b1) i (cache_of b2).dirty true holds.fields holds.known holds.is_held s.cache.mark
+      marked_lazy = marks_lazy (cache_of b1) i (cache_of b2).dirty true holds.fields holds.known holds.is_held s.cache.mark
 
       marked_normal : Normal marked
       marked_normal =
@@ -431,7 +431,7 @@ module _ (b : List ℕ) (i : ℕ) (p : ServableAt b i) where
 
       wrote_lazy : lazy after_write ≡ moved_in (lazy marked) (record { queue = queue_of marked; events = wrote i minutes ∷ [] }) (cache_of b1).closed
       wrote_lazy =
-          counts-lazy marked after_write.minutes (cache_of b1).itemloads (cache_of b1).itemwritebacks (counts_of (cache_of b1)) (wrote i minutes) (add-zero _)
+          counts_lazy marked after_write.minutes (cache_of b1).itemloads (cache_of b1).itemwritebacks (counts_of (cache_of b1)) (wrote i minutes) (add-zero _)
           (simp add-zero)
           (λ j b. about_one marked after_write i (wrote i minutes) (λ k. refl)
           (λ k e. λ z. use_of (other_minutes k e z) (get_or (cache_of b1).itemloads k 0) (get_or (cache_of b1).itemwritebacks k 0)) (simp (more, add-zero)) j)
@@ -439,7 +439,7 @@ module _ (b : List ℕ) (i : ℕ) (p : ServableAt b i) where
       wrote_normal : Normal after_write
       wrote_normal =
           let n : Normal marked = marked_normal in
-          counts-normal marked after_write.minutes (cache_of b1).itemloads (cache_of b1).itemwritebacks (counts_of (cache_of b1)) n
+          counts_normal marked after_write.minutes (cache_of b1).itemloads (cache_of b1).itemwritebacks (counts_of (cache_of b1)) n
           (λ j b m. other_minutes j (λ q. let l : i < (cache_of b1).n = holds.known in omega arith) ∙ (n.past j b m).place.minutes)
           (λ j b m. (n.past j b m).place.loads) (λ j b m. (n.past j b m).place.writebacks)
 
@@ -483,12 +483,12 @@ module _ (b : List ℕ) (i : ℕ) (p : ServableAt b i) where
             }
 
         -- where the write leads
-        pub write-becomes :
+        pub write_becomes :
             (next : List ℕ) →
             ReckonedAt b2 i load write next →
             BecomesAt (moved_in (lazy (cache_of b)) (serve_write_in (split_of (cache_of b).rule) i minutes (queue_of (cache_of b))) (cache_of b).closed) next
         unfolding fold
-        write-becomes next s3 =
+        write_becomes next s3 =
             record {
               reads = s3.reads;
               cache =
@@ -524,7 +524,7 @@ module _ (b : List ℕ) (i : ℕ) (p : ServableAt b i) where
             before =
                 ap lazy s.cache.store
                 ∙ wrote_lazy
-                ∙ ap (λ (v : LazyStanding). moved_in v (record { queue = v.queue; events = wrote i minutes ∷ [] }) v.closed) marked-lazy
+                ∙ ap (λ (v : LazyStanding). moved_in v (record { queue = v.queue; events = wrote i minutes ∷ [] }) v.closed) marked_lazy
                 ∙ ap wrote_over read.cache.stands
 
             full_slot : dirty load write ≡ written (full (item_at (catalog_of (cache_of b)) i).write) r

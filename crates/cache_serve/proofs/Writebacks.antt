@@ -42,8 +42,8 @@ use Rattle.cache_room.specs.Inner.{requeued, ReckonableAt, ReckonedAt}
 use Rattle.cache_serve.specs.InnerStores.{wrote_back_of, WroteBackAt}
 use Rattle.cache_serve.specs.InnerReady.{SteppableAt, KeyedAt}
 use Rattle.cache_serve.proofs.Bounds.{item_writebacks}
-use Rattle.cache_serve.proofs.Losses.{Losing, losing, now-is}
-use Rattle.cache_serve.proofs.Changes.{plus_none, about_one, counts-lazy, counts-normal, restored, marks-lazy, marks_normal}
+use Rattle.cache_serve.proofs.Losses.{Losing, losing, now_is}
+use Rattle.cache_serve.proofs.Changes.{plus_none, about_one, counts_lazy, counts_normal, restored, marks_lazy, marks_normal}
 use Rattle.cache_serve.proofs.Queues.{under, stored_same, stored_other, reckoned_count, Tallied, valid_tallied, holds_of}
 use Rattle.cache_serve.proofs.Flushes.{back_one, flush_from, from_first, from_none}
 
@@ -80,14 +80,14 @@ module _ (d : Cache) (i : ℕ) (size : length d.itemwritebacks ≡ 256) (ok : No
 
   back_lazy : lazy backed ≡ moved_in (lazy (with_dirty d ws)) (record { queue = queue_of (with_dirty d ws); events = wrote_back i ∷ [] }) d.closed
   back_lazy =
-      counts-lazy (with_dirty d ws) d.minutes d.itemloads backed.itemwritebacks (counts_of backed) (wrote_back i) (add-zero _)
+      counts_lazy (with_dirty d ws) d.minutes d.itemloads backed.itemwritebacks (counts_of backed) (wrote_back i) (add-zero _)
       (simp (add-zero, item_is (with_dirty d ws) i l))
       (λ j b. about_one (with_dirty d ws) backed i (wrote_back i) (λ k. refl)
       (λ k e. λ z. use_of (get_or d.minutes k 0) (get_or d.itemloads k 0) (other k e z)) (simp (one, add-zero)) j)
 
   back_normal : Normal (with_dirty d ws) → Normal backed
   back_normal n =
-      counts-normal (with_dirty d ws) d.minutes d.itemloads backed.itemwritebacks (counts_of backed) n (λ j b m. (n.past j b m).place.minutes)
+      counts_normal (with_dirty d ws) d.minutes d.itemloads backed.itemwritebacks (counts_of backed) n (λ j b m. (n.past j b m).place.minutes)
       (λ j b m. (n.past j b m).place.loads) (λ j b m. other j (λ q. omega arith) ∙ (n.past j b m).place.writebacks)
 
 -- In a flush of the bytes b, with the items below `at` done: what is left to do leads where the whole leads. An item is written back at
@@ -235,10 +235,10 @@ module _
             }
 
         module _ (next : List ℕ) (s2 : WroteBackAt q1 i next) where
-          marked-lazy :
+          marked_lazy :
               lazy (with_dirty (cache_of q1) (cache_of next).dirty)
               ≡ requeued (lazy (cache_of q1)) (restored (queue_of (cache_of q1)) i (slot_from true false (get_or (cache_of q1).loadcredit i 0) (get_or (cache_of q1).writecredit i 0)))
-          marked-lazy = marks-lazy (cache_of q1) i (cache_of next).dirty false s1.becomes.fields here1 held1 s2.cache.mark
+          marked_lazy = marks_lazy (cache_of q1) i (cache_of next).dirty false s1.becomes.fields here1 held1 s2.cache.mark
 
           normal2 : Normal (cache_of next)
           normal2 =
@@ -248,7 +248,7 @@ module _
 
           slot : clean load ≡ flushed (now_at (split_of (cache_of q).rule) (queue_of (cache_of q)) i)
           slot =
-              let n : now_at (split_of (cache_of q).rule) (queue_of (cache_of q)) i ≡ _ = now-is (cache_of q) f.normal f.good f.drops i here is_held in
+              let n : now_at (split_of (cache_of q).rule) (queue_of (cache_of q)) i ≡ _ = now_is (cache_of q) f.normal f.good f.drops i here is_held in
               ap clean el
               ∙ ap (λ (x : Slot). clean (load_credit x)) n
               ∙ back_slot (split_of (cache_of q).rule) _ _ (dirty_at (cache_of q) i) _ _
@@ -259,7 +259,7 @@ module _
           lazy2 =
               ap lazy s2.cache.store
               ∙ back_lazy (cache_of q1) i (whole q1).itemwritebacks s1.becomes.fields here1 (cache_of next).dirty
-              ∙ ap (λ (v : LazyStanding). moved_in v (record { queue = v.queue; events = wrote_back i ∷ [] }) v.closed) marked-lazy
+              ∙ ap (λ (v : LazyStanding). moved_in v (record { queue = v.queue; events = wrote_back i ∷ [] }) v.closed) marked_lazy
               ∙ (λ z.
               moved_in (requeued (lazy1 z) (restored (lazy1 z).queue i (clean (load1 z))))
               (record { queue = restored (lazy1 z).queue i (clean (load1 z)); events = wrote_back i ∷ [] }) (lazy1 z).closed)
@@ -370,7 +370,7 @@ module _
 module _ (b b1 : List ℕ) (p : SteppableAt b) (s : Stands b1 (step_counted (cache_of b) Flushes)) where
   flushed_lazy : lazy (step_counted (cache_of b) Flushes) ≡ moved_in (lazy (cache_of b)) (record { queue = queue_of (cache_of b); events = flush_step ∷ [] }) (cache_of b).closed
   flushed_lazy =
-      counts-lazy (cache_of b) (cache_of b).minutes (cache_of b).itemloads (cache_of b).itemwritebacks (counts_of (step_counted (cache_of b) Flushes)) flush_step (add-zero _)
+      counts_lazy (cache_of b) (cache_of b).minutes (cache_of b).itemloads (cache_of b).itemwritebacks (counts_of (step_counted (cache_of b) Flushes)) flush_step (add-zero _)
       (simp add-zero) (λ j l. plus_none (usage_of (cache_of b) j))
 
   flushed_valid : Valid (step_counted (cache_of b) Flushes)

@@ -112,14 +112,14 @@ module _ (k rule n : ℕ) (blocks load write : List ℕ) where
   item i = listed (get_or blocks i 0) (get_or load i 0) (get_or write i 0)
 
   -- refused with a number that the table gives
-  refused-with :
+  refused_with :
       (number : ℕ) (c : Cache) →
       number ≡ opening_refusal asked →
       eqb number 0 ≡ false →
       record_of c ≡ nothing_opened →
       Opened asked number c
   unfolding tab_from
-  refused-with number c same some e =
+  refused_with number c same some e =
       stood asked number c same (rw some refused_fits) (rw some refused_ok)
       (rw some
       (empty_becomes 1 0 item true WriteFirst (replicate 256 0) (replicate 256 0) (replicate 256 0) (omega arith) (no_column (λ i. (item i).blocks)) (no_column (λ i. (item i).load)) (no_column (λ i. (item i).write)) (λ i. refl)))
@@ -129,7 +129,7 @@ module _ (k rule n : ℕ) (blocks load write : List ℕ) where
   pub open_many : (number : ℕ) (c : Cache) → 256 < n → number ≡ 3 → record_of c ≡ nothing_opened → Opened asked number c
   unfolding catalog_from
   open_many number c many is e =
-      refused-with number c (is ∙ range_refused asked (λ f. omega (arith, catalog_few n item f.catalog))) (rw is) e
+      refused_with number c (is ∙ range_refused asked (λ f. omega (arith, catalog_few n item f.catalog))) (rw is) e
 
   -- the opening in place, of the same catalog in bytes
   module _ (b xs : List ℕ) {number : ℕ} {after : List ℕ} (few : n ≤ 256) (size : length b ≡ state_bytes) (long : length xs ≡ 1280) (same : catalog_of_first n xs ≡ cat) (h : OpenedLent b (opening k rule (take (5 * n) xs)) number after) where
@@ -141,7 +141,7 @@ module _ (k rule n : ℕ) (blocks load write : List ℕ) where
         ∙ ap (λ (d : Catalog). opening_refusal (opening k rule d)) same
 
     pub open_refused : (r : ℕ) (c : Cache) → number ≢ 0 → r ≡ number → record_of c ≡ nothing_opened → Opened asked r c
-    open_refused r c some is e = refused-with r c (is ∙ table) (ne_eqb r 0 (λ z. some (sym is ∙ z))) e
+    open_refused r c some is e = refused_with r c (is ∙ table) (ne_eqb r 0 (λ z. some (sym is ∙ z))) e
 
     -- what the opening left in the bytes, read as a struct: its blocks and costs are those of the items, and 0 past them
     module _ (d : Cache) (none : number ≡ 0) (read : record_of d ≡ cache_of after) where

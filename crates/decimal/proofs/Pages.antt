@@ -105,9 +105,9 @@ module _ {all before : List ℕ} (room : length all ≤ length before) where
       }
 
   -- one byte is written
-  pub go-byte :
+  pub go_byte :
       {a b : ℕ} {u page : List ℕ} → TextGoing all before a (b ∷ u) page → TextGoing all before (a + 1) u (set page a b)
-  go-byte {a} {b} {u} {page} g =
+  go_byte {a} {b} {u} {page} g =
       let n : a + suc (length u) ≡ length all = g.count in
       let s = g.same in
       rw (set_over a b page (omega arith))
@@ -123,12 +123,12 @@ module _ {all before : List ℕ} (room : length all ≤ length before) where
       omega (arith, g.count, g.same, length-append t u, mid_len a (length page) page (omega arith))
 
   -- a number is written, by a writer that would leave the page as it was if there were no room
-  pub go-number :
+  pub go_number :
       {a : ℕ} (v : ℕ) (u : List ℕ) {page ys : List ℕ} {w : ℕ} →
       TextGoing all before a (digits_of v ++ u) page →
       (w ≡ wrote_of (digits_of v) (mid_of a (length page - a) page)) × (ys ≡ page_of (digits_of v) (mid_of a (length page - a) page)) →
       TextGoing all before (a + w) u (put_mid a (length page - a) page ys)
-  go-number {a} v u {page} g p =
+  go_number {a} v u {page} g p =
       let fits = go_room a (digits_of v) u page g in
       go_next (digits_of v) u g (p.0 ∙ wrote_all (digits_of v) _ fits) (p.1 ∙ page_all (digits_of v) _ fits)
 

@@ -64,7 +64,7 @@ module _ (v w : ℕ → ℕ) (n at : ℕ) where
       each j a b (no e) (no f) = up.but.each j a b e f
 
   -- the item sinks by one, to the place below whose item goes first
-  pub down-more :
+  pub down_more :
       (next : ℕ) →
       Down v n at →
       next < n →
@@ -74,7 +74,7 @@ module _ (v w : ℕ → ℕ) (n at : ℕ) where
       ((j : ℕ) → 1 ≤ j → j < n → above j ≡ at → v next ≤ v j) →
       Swapped v w at next →
       Down w n next
-  down-more next down here some up less least sw =
+  down_more next down here some up less least sw =
       record {
         but = record { each = λ j a b c d. each j a b c d (ℕ_discrete (above j) at) (ℕ_discrete j at); over = over };
         top = λ s. rw (up, sw.one, sw.two) (omega arith);

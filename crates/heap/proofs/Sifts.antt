@@ -8,7 +8,7 @@ use native.Mathlib.Omega.{arith}
 use Rattle.heap.specs.Heap.{Heap}
 use Rattle.heap.specs.Heap.{weight_at, above}
 use Rattle.heap.specs.InnerMoves.{Exchanged, Rises, Lowest, Climbing, Sinking, Unsettled, Same, Sifted}
-use Rattle.heap.proofs.Orders.{up_more, up_done, down-more, down_done, but_up, but_down}
+use Rattle.heap.proofs.Orders.{up_more, up_done, down_more, down_done, but_up, but_down}
 use Rattle.heap.proofs.Contents.{swapped, exchanged_same, same_trans}
 
 module _ (keys : List ℕ) (h q r : Heap) (i : ℕ) where
@@ -47,7 +47,7 @@ module _ (keys : List ℕ) (h q r : Heap) (i : ℕ) where
           small = omega (arith, at.small);
           down =
               rw s
-              (down-more (weight_at keys q) (weight_at keys r) q.size i next at.down lo.here ch.1 ch.0 ch.2 lo.least
+              (down_more (weight_at keys q) (weight_at keys r) q.size i next at.down lo.here ch.1 ch.0 ch.2 lo.least
               (swapped q i next r x keys));
         },
         same_trans h q r so (exchanged_same q i next r x at.here lo.here (λ e. ne (sym e))),

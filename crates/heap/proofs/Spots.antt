@@ -165,13 +165,13 @@ module _
       go (no b) = absurd (missing (λ j c r. b (rw (at j c r) c)))
 
   -- the heap has each held item once and nothing else, and is in order
-  pub heap-ok :
+  pub heap_ok :
       n ≤ 256 →
       n ≡ count_of m 256 →
       length items ≡ 256 →
       ((j : ℕ) → n ≤ j → j < 256 → get_or items j 0 ≡ 0) →
       HeapOk m keys h
-  heap-ok few e size unused =
+  heap_ok few e size unused =
       record {
         contains =
             record {

@@ -217,7 +217,7 @@ fn spot_ok(s: &[u8], j: usize) -> bool
 }
 
 // Whether all `n` places are: the heap's part in what a valid state is, in one pass over the held items. Where so many are held, and what
-// is not in use is 0, each held item is there once, and nothing else (proofs/Spots.antt, `heap-ok`). An item that is not held has place
+// is not in use is 0, each held item is there once, and nothing else (proofs/Spots.antt, `heap_ok`). An item that is not held has place
 // 0, so that only the root's has to be looked at for that.
 pub fn spots_ok(s: &[u8], held: &[u8], n: usize) -> bool
     requires { Spots s.now held.now n }

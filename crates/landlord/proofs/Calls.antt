@@ -138,12 +138,12 @@ module _ (o : Start) (ok : SplitOk o.split) (good : CatalogOk o.catalog) where
   cat = o.catalog
 
   -- where the rule stands after a log that the table lets through
-  pub stands-over :
+  pub stands_over :
       (l : Log) →
       AllowedLog k cat l.steps →
       StandsAfter k (catalog_after cat l.steps) (length l.steps) l.closed (rule_over o l)
   unfolding rule_over
-  stands-over l a = go l.closed
+  stands_over l a = go l.closed
     where
       now : Catalog
       now = catalog_after cat l.steps
@@ -158,7 +158,7 @@ module _ (o : Start) (ok : SplitOk o.split) (good : CatalogOk o.catalog) where
   -- the table gives the same answer to the rule where it stands as to the log
   pub same_refusal : (l : Log) (call : Call) → AllowedLog k cat l.steps → refusal_now (rule_over o l) call ≡ refusal_in k cat l call
   same_refusal l call a =
-      let so = stands-over l a in
+      let so = stands_over l a in
       rw (so.capacity, so.catalog, so.taken, so.closed)
 
   over_more : (l : Log) (call : Call) → l.closed ≡ false → accepted (rule_over o l) call ≡ rule_over o (logged l call)

@@ -24,7 +24,7 @@ use Rattle.landlord.specs.Plan.{Plan, Copy, no_copy, clean_copy, dirty_copy, has
 use Rattle.landlord.specs.Claims.{SplitOk, SlotKept, Kept, Least, AllowedLog, CompetitiveBound, SharpBound}
 use Rattle.landlord.proofs.Ranges.{catalog_facts}
 use Rattle.landlord.proofs.Folds.{either, tab_at, tab_length}
-use Rattle.landlord.proofs.Slots.{Lost, lose-lost, read_held, flush_held}
+use Rattle.landlord.proofs.Slots.{Lost, lose_lost, read_held, flush_held}
 use Rattle.landlord.proofs.Sums.{sum_eq}
 use Rattle.landlord.proofs.Potential
 use Rattle.landlord.proofs.Keeps.{Evicting, enough, more, RoomMade, make_room_lem, Served, least_rank, rank_whole, bears_rank, evicted_slot, other_slot, evict_catalog, evict_kept, still_absent, put_same, put_other, flush_slot, grown, grown_slot, drop_slot, drop_other}
@@ -96,11 +96,11 @@ module _ (k h : ℕ) (low : 1 ≤ h) (high : h ≤ k) (cat : Catalog) (good : Ca
   none_past r e i l = get_or-eq_default r no_copy (omega arith)
 
   -- an act on an item that is in the catalog and has not left
-  present-reach :
+  present_reach :
       (s j i : ℕ) (from : Position) (a b : ℕ) (x : State) (d : Done) →
       (i < length cat → Reach (length cat) from a b x d) →
       Reach (length cat) from a b x (if_present cat s j i d)
-  present-reach s j i from a b x d there =
+  present_reach s j i from a b x d there =
       either (Reach (length cat) from a b x) (ltb i (length cat)) _ _
       (λ f. either (Reach (length cat) from a b x) (item_at cat i).left _ _ (λ g. tt) (λ g. there (ltb-true i (length cat) f)))
       (λ f. tt)
@@ -110,23 +110,23 @@ module _ (k h : ℕ) (low : 1 ≤ h) (high : h ≤ k) (cat : Catalog) (good : Ca
   unfolding plan_acts
   act_reach s j (Evict i) a b x q e =
       let len : length (set q i no_copy) ≡ length cat = length-set q i no_copy ∙ e in
-      present-reach s j i (position a b x q) a b x _
+      present_reach s j i (position a b x q) a b x _
       (λ l. either (Reach (length cat) (position a b x q) a b x) (has (copy_at q i)) _ _
       (λ g. (len, Run.step (Move.plan_evicts i l g (plan_pays a b _) (plan_upd x q i no_copy e l)) Run.stay, none_past (set q i no_copy) len))
       (λ g. tt))
   act_reach s j (Fetch i) a b x q e =
       let len : length (set q i clean_copy) ≡ length cat = length-set q i clean_copy ∙ e in
-      present-reach s j i (position a b x q) a b x _
+      present_reach s j i (position a b x q) a b x _
       (λ l. either (Reach (length cat) (position a b x q) a b x) (has (copy_at q i)) _ _
       (λ g. tt)
       (λ g. (len, Run.step (Move.plan_fetches i l g (plan_pays a b _) (plan_upd x q i clean_copy e l)) Run.stay, none_past (set q i clean_copy) len)))
 
-  then-reach :
+  then_reach :
       (n : ℕ) (from : Position) (a b a' : ℕ) (x x' : State) (d : Done) (next : List Copy → Done) →
       Reach (length cat) from a b x d →
       ((c : ℕ) (r : List Copy) → length r ≡ length cat → Reach n (position a (b + c) x r) a' (b + c) x' (next r)) →
       Reach n from a' b x' (and_then d next)
-  then-reach n from a b a' x x' (done r c) next first later = go (next r) (later c r first.0)
+  then_reach n from a b a' x x' (done r c) next first later = go (next r) (later c r first.0)
     where
       go : (d : Done) → Reach n (position a (b + c) x r) a' (b + c) x' d → Reach n from a' b x' (and_paid c d)
       go (done r' c') found = (
@@ -135,13 +135,13 @@ module _ (k h : ℕ) (low : 1 ≤ h) (high : h ≤ k) (cat : Catalog) (good : Ca
         found.2,
       )
       go (faulty f) found = tt
-  then-reach n from a b a' x x' (faulty f) next first later = tt
+  then_reach n from a b a' x x' (faulty f) next first later = tt
 
   acts_reach : (s j : ℕ) (acts : List Act) (a b : ℕ) (x : State) (q : List Copy) → length q ≡ length cat → Reach (length cat) (position a b x q) a b x (all_acts cat s j acts q)
   unfolding all_acts
   acts_reach s j [] a b x q e = (e, subst (λ (z : ℕ). Run terms (position a b x q) (position a z x q)) (sym (add-zero b)) Run.stay, none_past q e)
   acts_reach s j (act ∷ acts) a b x q e =
-      then-reach (length cat) (position a b x q) a b a x x (plan_acts cat s j act q) (all_acts cat s (suc j) acts) (act_reach s j act a b x q e)
+      then_reach (length cat) (position a b x q) a b a x x (plan_acts cat s j act q) (all_acts cat s (suc j) acts) (act_reach s j act a b x q e)
       (λ c r f. acts_reach s (suc j) acts a (b + c) x r f)
 
   -- a run's end, written otherwise
@@ -166,15 +166,15 @@ module _ (k h : ℕ) (low : 1 ≤ h) (high : h ≤ k) (cat : Catalog) (good : Ca
   used_same x e q = ap (λ (c : Catalog). sum_to (length c) (λ i. cond (held (slot_at x i)) (item_at c i).blocks 0)) e
 
   -- a slot that loses m for each block, in any split, is charged as the game has it
-  charged-lose :
+  charged_lose :
       (split : Split) (i m : ℕ) (s : Slot) (q : Copy) →
       (held s ≡ true → Lost (blocks_of i * m) s (lose split (blocks_of i) (blocks_of i * m) s)) →
       Charged terms i m (joint s q) (joint (lose split (blocks_of i) (blocks_of i * m) s) q)
-  charged-lose split i m absent q lost = keeps_takes 0 0 (omega arith) (omega arith) (omega arith)
-  charged-lose split i m (clean a) q lost =
+  charged_lose split i m absent q lost = keeps_takes 0 0 (omega arith) (omega arith) (omega arith)
+  charged_lose split i m (clean a) q lost =
       let l = lost refl in
       keeps_takes (a - blocks_of i * m) 0 l.load l.write (omega arith)
-  charged-lose split i m (dirty a b) q lost =
+  charged_lose split i m (dirty a b) q lost =
       let l = lost refl in
       keeps_takes (a - (blocks_of i * m - split (blocks_of i) (blocks_of i * m) a b)) (b - split (blocks_of i) (blocks_of i * m) a b) l.load l.write (omega arith)
 
@@ -229,8 +229,8 @@ module _ (k h : ℕ) (low : 1 ≤ h) (high : h ≤ k) (cat : Catalog) (good : Ca
         charged : (i : ℕ) → i < size x → i ≢ victim x → Charged terms i m (joint (slot_at x i) (copy_at q i)) (joint (slot_at (evict_item split (victim x) x) i) (copy_at q i))
         charged i b d =
             subst (λ (s : Slot). Charged terms i m (joint (slot_at x i) (copy_at q i)) (joint s (copy_at q i))) (sym (loses i b d))
-            (charged-lose split i m (slot_at x i) (copy_at q i)
-            (λ t. lose-lost split ok (item_at cat i) ((catalog_facts cat good).each i (rw (← size_same x e) b)).some (blocks_of i * m) (slot_at x i) t (dvd-mul_right (blocks_of i) m) (inside i b) (bears i b t)))
+            (charged_lose split i m (slot_at x i) (copy_at q i)
+            (λ t. lose_lost split ok (item_at cat i) ((catalog_facts cat good).each i (rw (← size_same x e) b)).some (blocks_of i * m) (slot_at x i) t (dvd-mul_right (blocks_of i) m) (inside i b) (bears i b t)))
 
     evictions :
         (g a b c : ℕ) (x : State) (m : Moved) (q : List Copy) →
@@ -257,7 +257,7 @@ module _ (k h : ℕ) (low : 1 ≤ h) (high : h ≤ k) (cat : Catalog) (good : Ca
         (omega (arith, paid, event_append (cost_added cat) (evict split x).events rest.events, event_sum_one (cost_added cat) (evicted v d), evicted_cost v d)))
 
     -- making room for item i, which the plan holds
-    room-run :
+    room_run :
         (i a b : ℕ) (x : State) (q : List Copy) →
         Kept k x →
         x.catalog ≡ cat →
@@ -266,7 +266,7 @@ module _ (k h : ℕ) (low : 1 ≤ h) (high : h ≤ k) (cat : Catalog) (good : Ca
         has (copy_at q i) ≡ true →
         plan_used cat q ≤ h →
         Run terms (position a b x q) (position (a + event_cost (make_room split k i x).events) b (make_room split k i x).state q)
-    room-run i a b x q kept e l small r fits = go (held (slot_at x i)) refl
+    room_run i a b x q kept e l small r fits = go (held (slot_at x i)) refl
       where
         m : Moved
         m = make_room split k i x
@@ -282,11 +282,11 @@ module _ (k h : ℕ) (low : 1 ≤ h) (high : h ≤ k) (cat : Catalog) (good : Ca
             evictions i a b (a + event_cost m.events) x m q (subst (λ (n : ℕ). Evicting split k n x m) (blocks_same x e i) (room.ran t).1) kept e l r t fits refl
 
   -- one slot of the cache changed
-  cache-upd :
+  cache_upd :
       (y : State) (q : List Copy) (i : ℕ) (s : Slot) →
       i < length y.slots →
       Upd (length cat) (position 0 0 y q).items (position 0 0 (put_slot y i s) q).items i (joint s (copy_at q i))
-  cache-upd y q i s l =
+  cache_upd y q i s l =
       record {
         here = ap (λ (z : Slot). joint z (copy_at q i)) (put_same y i s l);
         others = λ j b d. ap (λ (z : Slot). joint z (copy_at q j)) (put_other y i j s d);
@@ -299,26 +299,26 @@ module _ (k h : ℕ) (low : 1 ≤ h) (high : h ≤ k) (cat : Catalog) (good : Ca
   write_top i = full (item_at cat i).write
 
   -- an item that the plan holds, read by the cache: a load, or a hit
-  found-move :
+  found_move :
       (i a b : ℕ) (y : State) (q : List Copy) (s : Slot) →
       slot_at y i ≡ s →
       i < length cat →
       i < length y.slots →
       has (copy_at q i) ≡ true →
       Move terms (position a b y q) (position (a + cost_added cat (cond (held s) (hit i) (loaded i))) b (put_slot y i (refilled (read_top i) (brought s))) q)
-  found-move i a b y q absent e l m r =
-      Move.loads i l (ap held e) r (record { by_cache = ap (λ (z : ℕ). a + z) (add-zero (item_at cat i).load); by_plan = sym (add-zero b) }) (cache-upd y q i (clean (read_top i)) m)
-  found-move i a b y q (clean c) e l m r =
+  found_move i a b y q absent e l m r =
+      Move.loads i l (ap held e) r (record { by_cache = ap (λ (z : ℕ). a + z) (add-zero (item_at cat i).load); by_plan = sym (add-zero b) }) (cache_upd y q i (clean (read_top i)) m)
+  found_move i a b y q (clean c) e l m r =
       Move.reads i l (ap held e) r (record { by_cache = refl; by_plan = sym (add-zero b) })
       (subst (λ (s : Slot). Upd (length cat) (position 0 0 y q).items (position 0 0 (put_slot y i (clean (read_top i))) q).items i (was_read terms i (joint s (copy_at q i)))) (sym e)
-      (cache-upd y q i (clean (read_top i)) m))
-  found-move i a b y q (dirty c d) e l m r =
+      (cache_upd y q i (clean (read_top i)) m))
+  found_move i a b y q (dirty c d) e l m r =
       Move.reads i l (ap held e) r (record { by_cache = refl; by_plan = sym (add-zero b) })
       (subst (λ (s : Slot). Upd (length cat) (position 0 0 y q).items (position 0 0 (put_slot y i (dirty (read_top i) d)) q).items i (was_read terms i (joint s (copy_at q i)))) (sym e)
-      (cache-upd y q i (dirty (read_top i) d) m))
+      (cache_upd y q i (dirty (read_top i) d) m))
 
   -- and then written: both sides have it dirty
-  write-move :
+  write_move :
       (i a b : ℕ) (y : State) (q : List Copy) (s : Slot) →
       i < length cat →
       i < length y.slots →
@@ -326,7 +326,7 @@ module _ (k h : ℕ) (low : 1 ≤ h) (high : h ≤ k) (cat : Catalog) (good : Ca
       has (copy_at q i) ≡ true →
       Move terms (position a b (put_slot y i (refilled (read_top i) (brought s))) q)
       (position a b (put_slot y i (written (write_top i) (refilled (read_top i) (brought s)))) (set q i dirty_copy))
-  write-move i a b y q s l m e r =
+  write_move i a b y q s l m e r =
       Move.writes i l holds r (nobody_pays a b)
       (record {
         here = (λ z. joint (put_same y i new m z) (get_or-set_same q i dirty_copy no_copy (let f : i < length q = omega arith in f) z)) ∙ dirtied s ∙ sym before;
@@ -389,13 +389,13 @@ module _ (k h : ℕ) (low : 1 ≤ h) (high : h ≤ k) (cat : Catalog) (good : Ca
       ∙ ap (λ (n : ℕ). sum_to n (λ i. cond (is_dirty (slot_at x i)) (0 + (item_at cat i).write) 0)) (size_same x e)
       ∙ sum_eq (length cat) _ _ (λ i l. ap (λ (n : ℕ). cond (is_dirty (slot_at x i)) n 0) (zero-add (item_at cat i).write))
 
-  flush-move :
+  flush_move :
       (a b c : ℕ) (x : State) (q : List Copy) →
       x.catalog ≡ cat →
       c ≡ a + event_cost (flush x).events →
       Move terms (position a b x q) (position c (b + owed cat q) (flush x).state (cleaned_all q))
   unfolding owed
-  flush-move a b c x q e paid =
+  flush_move a b c x q e paid =
       Move.flushes (record { by_cache = paid ∙ ap (λ (z : ℕ). a + z) (flush_cost x e); by_plan = refl })
       (λ i l. (λ z. joint (flush_slot x i (rw (size_same x e) l) z) (tab_at (length cat) (λ j. cleaned (copy_at q j)) i no_copy l z)) ∙ flushed_joint (slot_at x i) (copy_at q i))
 
@@ -409,7 +409,7 @@ module _ (k h : ℕ) (low : 1 ≤ h) (high : h ≤ k) (cat : Catalog) (good : Ca
       go (clean a) = event_sum_one (cost_added cat) (evicted i false)
       go (dirty a b) = event_sum_one (cost_added cat) (evicted i true) ∙ evicted_cost i true
 
-  retire-move :
+  retire_move :
       (i a b c : ℕ) (x : State) (q : List Copy) →
       i < length cat →
       i < length x.slots →
@@ -417,7 +417,7 @@ module _ (k h : ℕ) (low : 1 ≤ h) (high : h ≤ k) (cat : Catalog) (good : Ca
       c ≡ a + event_cost (drop_item i x).events →
       Move terms (position a b x q)
       (position c (b + cond (is_changed (copy_at q i)) (item_at cat i).write 0) (drop_item i x).state (set q i no_copy))
-  retire-move i a b c x q l m e paid =
+  retire_move i a b c x q l m e paid =
       Move.retires i l (record { by_cache = paid ∙ ap (λ (z : ℕ). a + z) (drop_cost x i); by_plan = refl })
       (record {
         here = λ z. joint (drop_slot x i m z) (get_or-set_same q i no_copy no_copy (let f : i < length q = omega arith in f) z);
@@ -440,7 +440,7 @@ module _ (k h : ℕ) (low : 1 ≤ h) (high : h ≤ k) (cat : Catalog) (good : Ca
         omega (arith, c.slots, size_same y (catalog_kept i x e l small))
 
     -- room made, and the item read; the plan holds it and is within its capacity
-    request-run :
+    request_run :
         (i a b : ℕ) (x : State) (q : List Copy) →
         Kept k x →
         x.catalog ≡ cat →
@@ -451,11 +451,11 @@ module _ (k h : ℕ) (low : 1 ≤ h) (high : h ≤ k) (cat : Catalog) (good : Ca
         Run terms (position a b x q)
         (position (a + event_cost (make_room split k i x).events + cost_added cat (found (make_room split k i x).state i)) b
         (put_slot (make_room split k i x).state i (refilled (read_top i) (brought (slot_at (make_room split k i x).state i)))) q)
-    request-run i a b x q kept e l small r fits =
-        Moves.append (room-run split ok i a b x q kept e l small r fits)
-        (Run.step (found-move i (a + event_cost (make_room split k i x).events) b (make_room split k i x).state q (slot_at (make_room split k i x).state i) refl l (placed i x kept e l small) r) Run.stay)
+    request_run i a b x q kept e l small r fits =
+        Moves.append (room_run split ok i a b x q kept e l small r fits)
+        (Run.step (found_move i (a + event_cost (make_room split k i x).events) b (make_room split k i x).state q (slot_at (make_room split k i x).state i) refl l (placed i x kept e l small) r) Run.stay)
 
-    step-reach :
+    step_reach :
         (s : ℕ) (st : Step) (a b : ℕ) (x : State) (q : List Copy) →
         Kept k x →
         x.catalog ≡ cat →
@@ -463,7 +463,7 @@ module _ (k h : ℕ) (low : 1 ≤ h) (high : h ≤ k) (cat : Catalog) (good : Ca
         Served k cat st →
         Reach (length (catalog_next cat st)) (position a b x q) (a + event_cost (step split k st x).events) b (step split k st x).state (plan_serves cat h s st q)
     unfolding plan_serves step event_sum
-    step-reach s (Read i) a b x q kept e len served =
+    step_reach s (Read i) a b x q kept e len served =
         either (Reach (length cat) (position a b x q) _ b _) (has (copy_at q i)) _ _
         (λ r. either (Reach (length cat) (position a b x q) _ b _) (leb (plan_used cat q) h) _ _
         (λ f. (
@@ -471,7 +471,7 @@ module _ (k h : ℕ) (low : 1 ≤ h) (high : h ≤ k) (cat : Catalog) (good : Ca
           run_to (a + event_cost m.events + cost_added cat (found m.state i)) _ b (b + 0) _ _ q
               (omega (arith, event_append (cost_added cat) m.events (found m.state i ∷ []))) (sym (add-zero b))
               (ap (λ (c : Catalog). put_slot m.state i (refilled (full (item_at c i).load) (brought (slot_at m.state i)))) (sym (catalog_kept i x e served.0 served.1)))
-              (request-run i a b x q kept e served.0 served.1 r (leb-true (plan_used cat q) h f)),
+              (request_run i a b x q kept e served.0 served.1 r (leb-true (plan_used cat q) h f)),
           none_past q len,
         ))
         (λ f. tt))
@@ -479,7 +479,7 @@ module _ (k h : ℕ) (low : 1 ≤ h) (high : h ≤ k) (cat : Catalog) (good : Ca
       where
         m : Moved
         m = make_room split k i x
-    step-reach s (Write i minutes) a b x q kept e len served =
+    step_reach s (Write i minutes) a b x q kept e len served =
         either (Reach (length cat) (position a b x q) _ b _) (has (copy_at q i)) _ _
         (λ r. either (Reach (length cat) (position a b x q) _ b _) (leb (plan_used cat q) h) _ _
         (λ f. (
@@ -487,8 +487,8 @@ module _ (k h : ℕ) (low : 1 ≤ h) (high : h ≤ k) (cat : Catalog) (good : Ca
           run_to (a + event_cost m.events + cost_added cat (found m.state i)) _ b (b + 0) _ _ (set q i dirty_copy)
               (omega (arith, event_append (cost_added cat) m.events (found m.state i ∷ wrote i minutes ∷ []))) (sym (add-zero b))
               (ap (λ (c : Catalog). put_slot m.state i (written (full (item_at c i).write) (refilled (full (item_at c i).load) (brought (slot_at m.state i))))) (sym (catalog_kept i x e served.0 served.1)))
-              (Moves.append (request-run i a b x q kept e served.0 served.1 r (leb-true (plan_used cat q) h f))
-              (Run.step (write-move i _ b m.state q (slot_at m.state i) served.0 (placed i x kept e served.0 served.1) len r) Run.stay)),
+              (Moves.append (request_run i a b x q kept e served.0 served.1 r (leb-true (plan_used cat q) h f))
+              (Run.step (write_move i _ b m.state q (slot_at m.state i) served.0 (placed i x kept e served.0 served.1) len r) Run.stay)),
           none_past (set q i dirty_copy) (length-set q i dirty_copy ∙ len),
         ))
         (λ f. tt))
@@ -496,11 +496,11 @@ module _ (k h : ℕ) (low : 1 ≤ h) (high : h ≤ k) (cat : Catalog) (good : Ca
       where
         m : Moved
         m = make_room split k i x
-    step-reach s Flush a b x q kept e len served =
+    step_reach s Flush a b x q kept e len served =
         either (Reach (length cat) (position a b x q) _ b _) (leb (plan_used cat q) h) _ _
-        (λ f. (tab_length (length cat) _, Run.step (flush-move a b _ x q e (omega arith)) Run.stay, none_past (cleaned_all q) (tab_length (length cat) _)))
+        (λ f. (tab_length (length cat) _, Run.step (flush_move a b _ x q e (omega arith)) Run.stay, none_past (cleaned_all q) (tab_length (length cat) _)))
         (λ f. tt)
-    step-reach s (Arrive i bl lo wr) a b x q kept e len served =
+    step_reach s (Arrive i bl lo wr) a b x q kept e len served =
         either (Reach (length (cat ++ (it ∷ []))) (position a b x q) _ b _) (leb (plan_used cat q) h) _ _
         (λ f. (
           one_longer q no_copy ∙ ap suc len ∙ sym (one_longer cat it),
@@ -512,11 +512,11 @@ module _ (k h : ℕ) (low : 1 ≤ h) (high : h ≤ k) (cat : Catalog) (good : Ca
       where
         it : Item
         it = listed bl lo wr
-    step-reach s (Retire i) a b x q kept e len served =
+    step_reach s (Retire i) a b x q kept e len served =
         either (Reach (length (catalog_next cat (Retire i))) (position a b x q) _ b _) (leb (plan_used cat q) h) _ _
         (λ f. (
           length-set q i no_copy ∙ len ∙ sym (retired_length cat i),
-          Run.step (retire-move i a b _ x q served.0 (omega (arith, kept.slots, size_same x e, served.0)) len
+          Run.step (retire_move i a b _ x q served.0 (omega (arith, kept.slots, size_same x e, served.0)) len
               (omega (arith, event_append (cost_added cat) (drop_item i x).events (retired i ∷ [])))) Run.stay,
           none_past (set q i no_copy) (length-set q i no_copy ∙ len),
         ))
@@ -547,39 +547,39 @@ module _ (k h : ℕ) (low : 1 ≤ h) (high : h ≤ k) (cat : Catalog) (good : Ca
       record {
         copies = cleaned_all q;
         holds =
-            Moves.keeps (flush-move (total_cost v.figures) b (total_cost (closes v).figures) v.state q e (moved_cost v (flush v.state) true e)) now.0 now.1;
+            Moves.keeps (flush_move (total_cost v.figures) b (total_cost (closes v).figures) v.state q e (moved_cost v (flush v.state) true e)) now.0 now.1;
         clear = λ i l. ap is_changed (tab_at (length cat) (λ j. cleaned (copy_at q j)) i no_copy l) ∙ copy_clean (copy_at q i);
       }
 
-  served-reach :
+  served_reach :
       (s : ℕ) (st : Step) (t : ℕ) (v : Standing) (b : ℕ) (q : List Copy) →
       StandsAfter k cat t false v →
       length q ≡ length cat →
       Served k cat st →
       Reach (length (catalog_next cat st)) (stand v b q) (total_cost (took v st).figures) b (took v st).state (plan_serves cat h s st q)
   unfolding took
-  served-reach s st t v b q so len served =
+  served_reach s st t v b q so len served =
       subst (λ (z : ℕ). Reach n (stand v b q) z b (step v.split v.k st v.state).state (plan_serves cat h s st q))
       (sym (moved_cost v (step v.split v.k st v.state) v.closed so.catalog))
       (subst
       (λ (m : ℕ). Reach n (stand v b q) (total_cost v.figures + event_cost (step v.split m st v.state).events) b (step v.split m st v.state).state (plan_serves cat h s st q))
-      (sym so.capacity) (step-reach v.split so.fit s st (total_cost v.figures) b v.state q so.kept so.catalog len served))
+      (sym so.capacity) (step_reach v.split so.fit s st (total_cost v.figures) b v.state q so.kept so.catalog len served))
     where
       n : ℕ
       n = length (catalog_next cat st)
 
   -- the acts before a step, and the step
-  turn-reach :
+  turn_reach :
       (plan : Plan) (s : ℕ) (st : Step) (t : ℕ) (v : Standing) (b : ℕ) (q : List Copy) →
       StandsAfter k cat t false v →
       length q ≡ length cat →
       Served k cat st →
       Reach (length (catalog_next cat st)) (stand v b q) (total_cost (took v st).figures) b (took v st).state
       (and_then (all_acts cat s 0 (plan s) q) (plan_serves cat h s st))
-  turn-reach plan s st t v b q so len served =
-      then-reach (length (catalog_next cat st)) (stand v b q) (total_cost v.figures) b (total_cost (took v st).figures) v.state (took v st).state
+  turn_reach plan s st t v b q so len served =
+      then_reach (length (catalog_next cat st)) (stand v b q) (total_cost v.figures) b (total_cost (took v st).figures) v.state (took v st).state
       (all_acts cat s 0 (plan s) q) (plan_serves cat h s st) (acts_reach s 0 (plan s) (total_cost v.figures) b v.state q len)
-      (λ c r f. served-reach s st t v (b + c) r so f served)
+      (λ c r f. served_reach s st t v (b + c) r so f served)
 
   -- the start, where nothing is held and nothing paid
   fresh : Fresh terms (position 0 0 (emptied cat) (tab (length cat) (λ i. no_copy)))
@@ -603,14 +603,14 @@ module _ (k h : ℕ) (low : 1 ≤ h) (high : h ≤ k) where
       record { c_same = refl; p_same = refl; unit_same = refl; more = omega arith; load_same = λ i l. refl; write_same = λ i l. refl }
 
   -- the game of the catalog after a step has the items of the one before it, and what has come
-  next-game :
+  next_game :
       (cat : Catalog) (st : Step) (good : CatalogOk cat) (good' : CatalogOk (catalog_next cat st)) →
       Served k cat st →
       Moves.Extends (game cat good) (game (catalog_next cat st) good')
-  next-game cat (Read i) good good' served = same_game cat good good'
-  next-game cat (Write i m) good good' served = same_game cat good good'
-  next-game cat Flush good good' served = same_game cat good good'
-  next-game cat (Arrive i b l w) good good' served =
+  next_game cat (Read i) good good' served = same_game cat good good'
+  next_game cat (Write i m) good good' served = same_game cat good good'
+  next_game cat Flush good good' served = same_game cat good good'
+  next_game cat (Arrive i b l w) good good' served =
       record {
         c_same = refl;
         p_same = refl;
@@ -619,7 +619,7 @@ module _ (k h : ℕ) (low : 1 ≤ h) (high : h ≤ k) where
         load_same = λ j m. ap (λ (y : Item). y.load) (arrived_other cat (listed b l w) j m);
         write_same = λ j m. ap (λ (y : Item). y.write) (arrived_other cat (listed b l w) j m);
       }
-  next-game cat (Retire i) good good' served =
+  next_game cat (Retire i) good good' served =
       record {
         c_same = refl;
         p_same = refl;
@@ -638,7 +638,7 @@ module _ (k h : ℕ) (low : 1 ≤ h) (high : h ≤ k) where
   Ends cat v b (costs c) = Reached cat v (b + c)
   Ends cat v b (fault f) = Unit {0}
 
-  then-ends :
+  then_ends :
       (n : ℕ) (cat last : Catalog) (good : CatalogOk cat) (v w v' : Standing) (b : ℕ) (q : List Copy) (d : Done) (next : List Copy → Priced) →
       Reach k h low high cat good n (stand k h low high cat good v b q) (total_cost w.figures) b w.state d →
       Holds k h low high cat good (stand k h low high cat good v b q) →
@@ -648,23 +648,23 @@ module _ (k h : ℕ) (low : 1 ≤ h) (high : h ≤ k) where
       Holds k h low high cat good (stand k h low high cat good w (b + c) r) →
       Ends last v' (b + c) (next r)) →
       Ends last v' b (price_then d next)
-  then-ends n cat last good v w v' b q (done r c) next first now later =
+  then_ends n cat last good v w v' b q (done r c) next first now later =
       go (next r) (later c r first.0 first.2 (Moves.keeps_run first.1 now.0 now.1))
     where
       go : (p : Priced) → Ends last v' (b + c) p → Ends last v' b (priced_with c p)
       go (costs c') end = subst (Reached last v') (add_assoc b c c') end
       go (fault f) end = tt
-  then-ends n cat last good v w v' b q (faulty f) next first now later = tt
+  then_ends n cat last good v w v' b q (faulty f) next first now later = tt
 
   -- what has come is not held
-  new-absent :
+  new_absent :
       (cat : Catalog) (st : Step) (v : Standing) (t i : ℕ) →
       StandsAfter k cat t false v →
       Served k cat st →
       length cat ≤ i →
       slot_at (took v st).state i ≡ absent
   unfolding took step
-  new-absent cat st v t i so served past = by_step st served
+  new_absent cat st v t i so served past = by_step st served
     where
       x : State
       x = v.state
@@ -697,12 +697,12 @@ module _ (k h : ℕ) (low : 1 ≤ h) (high : h ≤ k) where
       let w : Standing = took v st in
       let so' : StandsAfter k (catalog_next cat st) (t + 1) false w = took_stands k cat t v st so served.0 in
       let good' : CatalogOk (catalog_next cat st) = subst CatalogOk so'.catalog so'.kept.catalog in
-      then-ends (length (catalog_next cat st)) cat (catalog_after (catalog_next cat st) steps) good v w (closes (fold took w steps)) b q
+      then_ends (length (catalog_next cat st)) cat (catalog_after (catalog_next cat st) steps) good v w (closes (fold took w steps)) b q
       (and_then (all_acts cat s 0 (plan s) q) (plan_serves cat h s st)) (price_from (catalog_next cat st) h plan (suc s) steps)
-      (turn-reach k h low high cat good plan s st t v b q so len served.0) now
+      (turn_reach k h low high cat good plan s st t v b q so len served.0) now
       (λ c r f none keeps. chain plan (suc s) (t + 1) steps (catalog_next cat st) good' w (b + c) r so' f served.1
-      (Moves.extended (next-game cat st good good' served.0)
-      (λ i past below z. joint (new-absent cat st v t i so served.0 past z) (none i past z)) keeps.0 keeps.1))
+      (Moves.extended (next_game cat st good good' served.0)
+      (λ i past below z. joint (new_absent cat st v t i so served.0 past z) (none i past z)) keeps.0 keeps.1))
 
 -- the ratio without the 0 from which the plan's cost was counted, and with its products turned round
 turned : (paid y k c : ℕ) → y * paid ≤ k * (0 + c) → y * paid ≤ k * c

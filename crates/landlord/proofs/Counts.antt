@@ -55,11 +55,11 @@ sum_one n v w l =
 
 -- a part of an item's line that adds up: minutes, loads and writebacks are three of them
 module _ (p : Use → ℕ) (plus : (a b : Use) → p (plus_use a b) ≡ p a + p b) (none : p no_use ≡ 0) where
-  use-part :
+  use_part :
       (cat : Catalog) (f : Figures) (e : Event) (i : ℕ) →
       i < lines_after cat e →
       p (use_at (tally cat f e) i) ≡ p (use_at f i) + cond (is_about i e) (p (usage e)) 0
-  use-part cat f e i l =
+  use_part cat f e i l =
       ap p (tab_at (lines_after cat e) _ i no_use l)
       ∙ plus (use_at f i) (cond (is_about i e) (usage e) no_use)
       ∙ ap (λ (z : ℕ). p (use_at f i) + z) (part (is_about i e))
@@ -79,15 +79,15 @@ module _ (p : Use → ℕ) (plus : (a b : Use) → p (plus_use a b) ≡ p a + p 
   about_sum n (retired i) l = sum_one n i (p (usage (retired i))) l
 
   -- the sum over all lines grows by what the event adds to one of them
-  uses-part :
+  uses_part :
       (cat : Catalog) (f : Figures) (e : Event) →
       Names (length cat) e →
       sum_to (length cat) (λ i. p (use_at (tally cat f e) i)) ≡ sum_to (length cat) (λ i. p (use_at f i)) + p (usage e)
-  uses-part cat f e l =
+  uses_part cat f e l =
       omega (
         arith,
         sum_eq (length cat) (λ i. p (use_at (tally cat f e) i)) (λ i. p (use_at f i) + cond (is_about i e) (p (usage e)) 0)
-            (λ i b. use-part cat f e i (rw (lines_same cat e l) b)),
+            (λ i b. use_part cat f e i (rw (lines_same cat e l) b)),
         sum_add (length cat) (λ i. p (use_at f i)) (λ i. cond (is_about i e) (p (usage e)) 0),
         about_sum (length cat) e l,
       )
@@ -177,12 +177,12 @@ tallied cat f e g t h d top g' t' h' d' top' good l o gone step held dirty line 
       load_cost = omega arith;
       write_cost = omega arith;
       uses = tab_length (lines_after cat e) _ ∙ lines_same cat e l;
-      loads_add = omega (arith, uses-part (λ (u : Use). u.loads) (λ x y. refl) refl cat f e l);
-      writebacks_add = omega (arith, uses-part (λ (u : Use). u.writebacks) (λ x y. refl) refl cat f e l);
+      loads_add = omega (arith, uses_part (λ (u : Use). u.loads) (λ x y. refl) refl cat f e l);
+      writebacks_add = omega (arith, uses_part (λ (u : Use). u.writebacks) (λ x y. refl) refl cat f e l);
       minutes =
           λ i b. omega (
             arith,
-            use-part (λ (u : Use). u.minutes) (λ x y. refl) refl cat f e i (rw (lines_same cat e l) b),
+            use_part (λ (u : Use). u.minutes) (λ x y. refl) refl cat f e i (rw (lines_same cat e l) b),
             o.minutes i b,
             most (is_about i e) (usage e).minutes,
           );
@@ -283,7 +283,7 @@ arrived_counted cat f i g t h d top top' o up =
         j < suc (length cat) →
         p (use_at (tally cat f (arrived i)) j) ≡ p (use_at f j)
     part p plus none nil j b =
-        omega (arith, use-part p plus none cat f (arrived i) j (omega arith), ap (λ (n : ℕ). cond (is_about j (arrived i)) n 0) nil, even (eqb j i))
+        omega (arith, use_part p plus none cat f (arrived i) j (omega arith), ap (λ (n : ℕ). cond (is_about j (arrived i)) n 0) nil, even (eqb j i))
 
     total :
         (p : Use → ℕ) →

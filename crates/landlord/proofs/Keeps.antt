@@ -24,7 +24,7 @@ use Rattle.landlord.proofs.Ranges.{catalog_facts, item_facts}
 use Rattle.landlord.proofs.Sums.{sum_zero, sum_none, sum_eq, sum_change}
 use Rattle.landlord.proofs.Folds.{tab_length, tab_at, Best, nobody, somebody, best_is}
 use Rattle.landlord.proofs.Catalogs.{padded, one_longer, below_more, arrived_other, arrived_here, Alike, retired_other, retired_length, retired_alike, arrived_ok, retired_ok}
-use Rattle.landlord.proofs.Slots.{blocks_divide, lose_held, lose-kept, absent_kept, read_kept, write_kept, flush_kept, read_held, write_held, flush_held}
+use Rattle.landlord.proofs.Slots.{blocks_divide, lose_held, lose_kept, absent_kept, read_kept, write_kept, flush_kept, read_held, write_held, flush_held}
 
 abbrev is_held : State → ℕ → Bool
 is_held x i = held (slot_at x i)
@@ -151,7 +151,7 @@ evict_kept k split v x ok kept low =
     at i l (yes e) = rw (ap (slot_at (evict_item split v x)) e ∙ evicted_slot split v x low.below) (absent_kept (item_at x.catalog i))
     at i l (no e) =
         rw (other_slot split v x i l e)
-        (lose-kept split ok (item_at x.catalog i) ((catalog_facts x.catalog kept.catalog).each i l).some (blocks_at x i * rank x v) (slot_at x i)
+        (lose_kept split ok (item_at x.catalog i) ((catalog_facts x.catalog kept.catalog).each i l).some (blocks_at x i * rank x v) (slot_at x i)
         (dvd-mul_right (blocks_at x i) (rank x v)) (kept.slot i l) (λ h. bears_rank k x v i kept l (least_rank low i l h)))
 
 -- Making room, as the paper's loop: evictions of the victim while the free blocks are too few, then nothing more.

@@ -95,34 +95,34 @@ module _ (split : Split) (ok : SplitOk split) (it : Item) (some : 1 ≤ it.block
   abbrev after : ℕ → Slot → Slot
   after loss x = lose split it.blocks loss x
 
-  pub lose-lost :
+  pub lose_lost :
       (loss : ℕ) (x : Slot) →
       held x ≡ true →
       it.blocks ∣ loss →
       SlotKept it x →
       loss ≤ load_credit x + write_credit x →
       Lost loss x (after loss x)
-  lose-lost loss absent h d kept l = absurd (false≢true h)
-  lose-lost loss (clean a) h d kept l = record { load = omega arith; write = omega arith; both = omega arith }
-  lose-lost loss (dirty a b) h d kept l =
+  lose_lost loss absent h d kept l = absurd (false≢true h)
+  lose_lost loss (clean a) h d kept l = record { load = omega arith; write = omega arith; both = omega arith }
+  lose_lost loss (dirty a b) h d kept l =
       let t : Bears it.blocks loss a b (split it.blocks loss a b) = ok.each it.blocks loss a b some d kept.whole_load kept.whole_write l in
       record { load = omega arith; write = omega arith; both = omega arith }
 
-  pub lose-kept :
+  pub lose_kept :
       (loss : ℕ) (x : Slot) →
       it.blocks ∣ loss →
       SlotKept it x →
       (held x ≡ true → loss ≤ load_credit x + write_credit x) →
       SlotKept it (after loss x)
-  lose-kept loss absent d kept l = kept
-  lose-kept loss (clean a) d kept l =
+  lose_kept loss absent d kept l = kept
+  lose_kept loss (clean a) d kept l =
       record {
         whole_load = dvd-sub it.blocks kept.whole_load d;
         whole_write = kept.whole_write;
         load_top = omega arith;
         write_top = kept.write_top;
       }
-  lose-kept loss (dirty a b) d kept l =
+  lose_kept loss (dirty a b) d kept l =
       let t : Bears it.blocks loss a b (split it.blocks loss a b) = ok.each it.blocks loss a b some d kept.whole_load kept.whole_write (l refl) in
       record {
         whole_load = dvd-sub it.blocks kept.whole_load (dvd-sub it.blocks d t.whole);

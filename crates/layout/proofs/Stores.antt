@@ -81,7 +81,7 @@ module _ {b : List ℕ} {c : Cache} (s : Coded b c) where
   -- ---- a store into a row
 
   -- `off` bytes into row `n`, which stands at the place `at`: d is the cache that has the row so
-  row-stored :
+  row_stored :
       (n at off : ℕ) (x y : List ℕ) (d : Cache) →
       n < 32 →
       (get_or (field_rows c) n (0, [])).0 ≡ at →
@@ -91,7 +91,7 @@ module _ {b : List ℕ} {c : Cache} (s : Coded b c) where
       Fits d →
       {after : List ℕ} → after ≡ sets b (at + off) x → Stands after d
   unfolding bytes_of field_rows
-  row-stored n at off x y d l place k e z f is =
+  row_stored n at off x y d l place k e z f is =
       stands
       (is
       ∙ ap (λ (u : List ℕ). sets u (at + off) x) s.bytes
@@ -101,20 +101,20 @@ module _ {b : List ℕ} {c : Cache} (s : Coded b c) where
       f
 
   -- a number over a number, and a number of a run
-  number-stored :
+  number_stored :
       (n at w u v : ℕ) (d : Cache) →
       n < 32 →
       get_or (field_rows c) n (0, []) ≡ (at, to_bytes w u) →
       row_bytes (replaced (field_rows c) n (to_bytes w v)) ≡ bytes_of d →
       Fits d →
       {after : List ℕ} → after ≡ sets b at (to_bytes w v) → Stands after d
-  number-stored n at w u v d l e z f is =
-      row-stored n at 0 (to_bytes w v) (to_bytes w v) d l (ap (λ (r : FieldRow). r.0) e)
+  number_stored n at w u v d l e z f is =
+      row_stored n at 0 (to_bytes w v) (to_bytes w v) d l (ap (λ (r : FieldRow). r.0) e)
       (rw e (omega (arith, length_to w v, length_to w u)))
       (rw e (sets_all (to_bytes w u) (to_bytes w v) (length_to w v ∙ sym (length_to w u)))) z f
       (is ∙ (let a : at ≡ at + 0 = omega arith in ap (λ (p : ℕ). sets b p (to_bytes w v)) a))
 
-  entry-stored :
+  entry_stored :
       (n at w : ℕ) (xs : List ℕ) (i v : ℕ) (d : Cache) →
       n < 32 →
       get_or (field_rows c) n (0, []) ≡ (at, run_of w xs) →
@@ -122,8 +122,8 @@ module _ {b : List ℕ} {c : Cache} (s : Coded b c) where
       row_bytes (replaced (field_rows c) n (run_of w (set xs i v))) ≡ bytes_of d →
       Fits d →
       {after : List ℕ} → after ≡ sets b (at + i * w) (to_bytes w v) → Stands after d
-  entry-stored n at w xs i v d l e k z f is =
-      row-stored n at (i * w) (to_bytes w v) (run_of w (set xs i v)) d l (ap (λ (r : FieldRow). r.0) e)
+  entry_stored n at w xs i v d l e k z f is =
+      row_stored n at (i * w) (to_bytes w v) (run_of w (set xs i v)) d l (ap (λ (r : FieldRow). r.0) e)
       (rw e (omega (arith, length_to w v, length_run w xs, mul-le-mul_right w k)))
       (rw e (run_set w xs i v k)) z f is
 
@@ -131,170 +131,170 @@ module _ {b : List ℕ} {c : Cache} (s : Coded b c) where
 
   pub capacity_stored : (v : ℕ) → v < 2 ^ 32 → {after : List ℕ} → after ≡ sets b at_capacity (to_bytes 4 v) → Stands after (with_capacity c v)
   unfolding bytes_of field_rows
-  capacity_stored v z is = number-stored 1 at_capacity 4 c.k v (with_capacity c v) (omega arith) refl refl (search rules) is
+  capacity_stored v z is = number_stored 1 at_capacity 4 c.k v (with_capacity c v) (omega arith) refl refl (search rules) is
 
   pub count_stored : (v : ℕ) → v < 2 ^ 16 → {after : List ℕ} → after ≡ sets b at_count (to_bytes 2 v) → Stands after (with_count c v)
   unfolding bytes_of field_rows
-  count_stored v z is = number-stored 2 at_count 2 c.n v (with_count c v) (omega arith) refl refl (search rules) is
+  count_stored v z is = number_stored 2 at_count 2 c.n v (with_count c v) (omega arith) refl refl (search rules) is
 
   pub closed_stored : (f : Bool) → {after : List ℕ} → after ≡ sets b at_closed (to_bytes 2 (bool_byte f)) → Stands after (with_closed c f)
   unfolding bytes_of field_rows
   closed_stored f is =
-      number-stored 3 at_closed 2 (flag c.closed) (flag f) (with_closed c f) (omega arith) refl refl (search rules)
+      number_stored 3 at_closed 2 (flag c.closed) (flag f) (with_closed c f) (omega arith) refl refl (search rules)
       (is ∙ ap (λ (v : ℕ). sets b at_closed (to_bytes 2 v)) (as_flag f))
 
   pub steps_stored : (v : ℕ) → v < 2 ^ 32 → {after : List ℕ} → after ≡ sets b at_steps (to_bytes 4 v) → Stands after (with_steps c v)
   unfolding bytes_of field_rows
-  steps_stored v z is = number-stored 4 at_steps 4 c.steps v (with_steps c v) (omega arith) refl refl (search rules) is
+  steps_stored v z is = number_stored 4 at_steps 4 c.steps v (with_steps c v) (omega arith) refl refl (search rules) is
 
   pub hits_stored : (v : ℕ) → v < 2 ^ 32 → {after : List ℕ} → after ≡ sets b at_hits (to_bytes 4 v) → Stands after (with_hits c v)
   unfolding bytes_of field_rows
-  hits_stored v z is = number-stored 5 at_hits 4 c.hits v (with_hits c v) (omega arith) refl refl (search rules) is
+  hits_stored v z is = number_stored 5 at_hits 4 c.hits v (with_hits c v) (omega arith) refl refl (search rules) is
 
   pub loads_stored : (v : ℕ) → v < 2 ^ 32 → {after : List ℕ} → after ≡ sets b at_loads (to_bytes 4 v) → Stands after (with_loads c v)
   unfolding bytes_of field_rows
-  loads_stored v z is = number-stored 6 at_loads 4 c.loads v (with_loads c v) (omega arith) refl refl (search rules) is
+  loads_stored v z is = number_stored 6 at_loads 4 c.loads v (with_loads c v) (omega arith) refl refl (search rules) is
 
   pub evictions_stored : (v : ℕ) → v < 2 ^ 32 → {after : List ℕ} → after ≡ sets b at_evictions (to_bytes 4 v) → Stands after (with_evictions c v)
   unfolding bytes_of field_rows
-  evictions_stored v z is = number-stored 7 at_evictions 4 c.evictions v (with_evictions c v) (omega arith) refl refl (search rules) is
+  evictions_stored v z is = number_stored 7 at_evictions 4 c.evictions v (with_evictions c v) (omega arith) refl refl (search rules) is
 
   pub dirty_evictions_stored : (v : ℕ) → v < 2 ^ 32 → {after : List ℕ} → after ≡ sets b at_dirty_evictions (to_bytes 4 v) → Stands after (with_dirty_evictions c v)
   unfolding bytes_of field_rows
-  dirty_evictions_stored v z is = number-stored 8 at_dirty_evictions 4 c.dirtyevictions v (with_dirty_evictions c v) (omega arith) refl refl (search rules) is
+  dirty_evictions_stored v z is = number_stored 8 at_dirty_evictions 4 c.dirtyevictions v (with_dirty_evictions c v) (omega arith) refl refl (search rules) is
 
   pub writebacks_stored : (v : ℕ) → v < 2 ^ 32 → {after : List ℕ} → after ≡ sets b at_writebacks (to_bytes 4 v) → Stands after (with_writebacks c v)
   unfolding bytes_of field_rows
-  writebacks_stored v z is = number-stored 9 at_writebacks 4 c.writebacks v (with_writebacks c v) (omega arith) refl refl (search rules) is
+  writebacks_stored v z is = number_stored 9 at_writebacks 4 c.writebacks v (with_writebacks c v) (omega arith) refl refl (search rules) is
 
   pub flushes_stored : (v : ℕ) → v < 2 ^ 32 → {after : List ℕ} → after ≡ sets b at_flushes (to_bytes 4 v) → Stands after (with_flushes c v)
   unfolding bytes_of field_rows
-  flushes_stored v z is = number-stored 10 at_flushes 4 c.flushes v (with_flushes c v) (omega arith) refl refl (search rules) is
+  flushes_stored v z is = number_stored 10 at_flushes 4 c.flushes v (with_flushes c v) (omega arith) refl refl (search rules) is
 
   pub load_cost_stored : (v : ℕ) → v < 2 ^ 64 → {after : List ℕ} → after ≡ sets b at_load_cost (to_bytes 8 v) → Stands after (with_load_cost c v)
   unfolding bytes_of field_rows
-  load_cost_stored v z is = number-stored 11 at_load_cost 8 c.loadcost v (with_load_cost c v) (omega arith) refl refl (search rules) is
+  load_cost_stored v z is = number_stored 11 at_load_cost 8 c.loadcost v (with_load_cost c v) (omega arith) refl refl (search rules) is
 
   pub write_cost_stored : (v : ℕ) → v < 2 ^ 64 → {after : List ℕ} → after ≡ sets b at_write_cost (to_bytes 8 v) → Stands after (with_write_cost c v)
   unfolding bytes_of field_rows
-  write_cost_stored v z is = number-stored 12 at_write_cost 8 c.writecost v (with_write_cost c v) (omega arith) refl refl (search rules) is
+  write_cost_stored v z is = number_stored 12 at_write_cost 8 c.writecost v (with_write_cost c v) (omega arith) refl refl (search rules) is
 
   pub dirty_stored : (ws : List ℕ) → length ws ≡ 4 → Below (2 ^ 64) ws → {after : List ℕ} → after ≡ sets b at_dirty (run_of 8 ws) → Stands after (with_dirty c ws)
   unfolding bytes_of field_rows
   dirty_stored ws l z is =
       let e : length (run_of 8 ws) ≡ length (run_of 8 c.dirty) = omega (arith, length_run 8 ws, length_run 8 c.dirty, s.fits.whole.dirty) in
-      row-stored 13 at_dirty 0 (run_of 8 ws) (run_of 8 ws) (with_dirty c ws) (omega arith) refl (omega arith) (sets_all (run_of 8 c.dirty) (run_of 8 ws) e) refl (search rules) is
+      row_stored 13 at_dirty 0 (run_of 8 ws) (run_of 8 ws) (with_dirty c ws) (omega arith) refl (omega arith) (sets_all (run_of 8 c.dirty) (run_of 8 ws) e) refl (search rules) is
 
   pub load_credit_stored : (i v : ℕ) → i < 256 → v < 2 ^ 64 → {after : List ℕ} → after ≡ sets b (at_load_credits + i * 8) (to_bytes 8 v) → Stands after (with_load_credit c i v)
   unfolding bytes_of field_rows
   load_credit_stored i v l z is =
       let u : Numbers (2 ^ 64) (set c.loadcredit i v) = with_one (2 ^ 64) c.loadcredit i v s.fits.whole.loadcredit s.fits.loadcredit l z in
-      entry-stored 14 at_load_credits 8 c.loadcredit i v (with_load_credit c i v) (omega arith) refl (omega (arith, s.fits.whole.loadcredit)) refl (search rules) is
+      entry_stored 14 at_load_credits 8 c.loadcredit i v (with_load_credit c i v) (omega arith) refl (omega (arith, s.fits.whole.loadcredit)) refl (search rules) is
 
   pub write_credit_stored : (i v : ℕ) → i < 256 → v < 2 ^ 64 → {after : List ℕ} → after ≡ sets b (at_write_credits + i * 8) (to_bytes 8 v) → Stands after (with_write_credit c i v)
   unfolding bytes_of field_rows
   write_credit_stored i v l z is =
       let u : Numbers (2 ^ 64) (set c.writecredit i v) = with_one (2 ^ 64) c.writecredit i v s.fits.whole.writecredit s.fits.writecredit l z in
-      entry-stored 15 at_write_credits 8 c.writecredit i v (with_write_credit c i v) (omega arith) refl (omega (arith, s.fits.whole.writecredit)) refl (search rules) is
+      entry_stored 15 at_write_credits 8 c.writecredit i v (with_write_credit c i v) (omega arith) refl (omega (arith, s.fits.whole.writecredit)) refl (search rules) is
 
   pub minutes_stored : (i v : ℕ) → i < 256 → v < 2 ^ 32 → {after : List ℕ} → after ≡ sets b (at_minutes + i * 4) (to_bytes 4 v) → Stands after (with_minutes c i v)
   unfolding bytes_of field_rows
   minutes_stored i v l z is =
       let u : Numbers (2 ^ 32) (set c.minutes i v) = with_one (2 ^ 32) c.minutes i v s.fits.whole.minutes s.fits.minutes l z in
-      entry-stored 16 at_minutes 4 c.minutes i v (with_minutes c i v) (omega arith) refl (omega (arith, s.fits.whole.minutes)) refl (search rules) is
+      entry_stored 16 at_minutes 4 c.minutes i v (with_minutes c i v) (omega arith) refl (omega (arith, s.fits.whole.minutes)) refl (search rules) is
 
   pub item_loads_stored : (i v : ℕ) → i < 256 → v < 2 ^ 32 → {after : List ℕ} → after ≡ sets b (at_item_loads + i * 4) (to_bytes 4 v) → Stands after (with_item_loads c i v)
   unfolding bytes_of field_rows
   item_loads_stored i v l z is =
       let u : Numbers (2 ^ 32) (set c.itemloads i v) = with_one (2 ^ 32) c.itemloads i v s.fits.whole.itemloads s.fits.itemloads l z in
-      entry-stored 17 at_item_loads 4 c.itemloads i v (with_item_loads c i v) (omega arith) refl (omega (arith, s.fits.whole.itemloads)) refl (search rules) is
+      entry_stored 17 at_item_loads 4 c.itemloads i v (with_item_loads c i v) (omega arith) refl (omega (arith, s.fits.whole.itemloads)) refl (search rules) is
 
   pub item_writebacks_stored : (i v : ℕ) → i < 256 → v < 2 ^ 32 → {after : List ℕ} → after ≡ sets b (at_item_writebacks + i * 4) (to_bytes 4 v) → Stands after (with_item_writebacks c i v)
   unfolding bytes_of field_rows
   item_writebacks_stored i v l z is =
       let u : Numbers (2 ^ 32) (set c.itemwritebacks i v) = with_one (2 ^ 32) c.itemwritebacks i v s.fits.whole.itemwritebacks s.fits.itemwritebacks l z in
-      entry-stored 18 at_item_writebacks 4 c.itemwritebacks i v (with_item_writebacks c i v) (omega arith) refl (omega (arith, s.fits.whole.itemwritebacks)) refl (search rules) is
+      entry_stored 18 at_item_writebacks 4 c.itemwritebacks i v (with_item_writebacks c i v) (omega arith) refl (omega (arith, s.fits.whole.itemwritebacks)) refl (search rules) is
 
   pub item_load_cost_stored : (i v : ℕ) → i < 256 → v < 2 ^ 16 → {after : List ℕ} → after ≡ sets b (at_item_load_costs + i * 2) (to_bytes 2 v) → Stands after (with_item_load_cost c i v)
   unfolding bytes_of field_rows
   item_load_cost_stored i v l z is =
       let u : Numbers (2 ^ 16) (set c.load i v) = with_one (2 ^ 16) c.load i v s.fits.whole.load s.fits.load l z in
-      entry-stored 19 at_item_load_costs 2 c.load i v (with_item_load_cost c i v) (omega arith) refl (omega (arith, s.fits.whole.load)) refl (search rules) is
+      entry_stored 19 at_item_load_costs 2 c.load i v (with_item_load_cost c i v) (omega arith) refl (omega (arith, s.fits.whole.load)) refl (search rules) is
 
   pub item_write_cost_stored : (i v : ℕ) → i < 256 → v < 2 ^ 16 → {after : List ℕ} → after ≡ sets b (at_item_write_costs + i * 2) (to_bytes 2 v) → Stands after (with_item_write_cost c i v)
   unfolding bytes_of field_rows
   item_write_cost_stored i v l z is =
       let u : Numbers (2 ^ 16) (set c.write i v) = with_one (2 ^ 16) c.write i v s.fits.whole.write s.fits.write l z in
-      entry-stored 20 at_item_write_costs 2 c.write i v (with_item_write_cost c i v) (omega arith) refl (omega (arith, s.fits.whole.write)) refl (search rules) is
+      entry_stored 20 at_item_write_costs 2 c.write i v (with_item_write_cost c i v) (omega arith) refl (omega (arith, s.fits.whole.write)) refl (search rules) is
 
   pub blocks_stored : (i v : ℕ) → i < 256 → v < 2 ^ 8 → {after : List ℕ} → after ≡ sets b (at_blocks + i) (to_bytes 1 v) → Stands after (with_blocks c i v)
   unfolding bytes_of field_rows
   blocks_stored i v l z is =
       let u : Numbers (2 ^ 8) (set c.blocks i v) = with_one (2 ^ 8) c.blocks i v s.fits.whole.blocks s.fits.blocks l z in
-      entry-stored 21 at_blocks 1 c.blocks i v (with_blocks c i v) (omega arith) refl (omega (arith, s.fits.whole.blocks)) refl (search rules) (is ∙ (let e : i ≡ i * 1 = omega arith in ap (λ (p : ℕ). sets b (at_blocks + p) (to_bytes 1 v)) e))
+      entry_stored 21 at_blocks 1 c.blocks i v (with_blocks c i v) (omega arith) refl (omega (arith, s.fits.whole.blocks)) refl (search rules) (is ∙ (let e : i ≡ i * 1 = omega arith in ap (λ (p : ℕ). sets b (at_blocks + p) (to_bytes 1 v)) e))
 
   pub held_stored : (i : ℕ) (f : Bool) → i < 256 → {after : List ℕ} → after ≡ sets b (at_held + i) (to_bytes 1 (bool_byte f)) → Stands after (with_held c i f)
   unfolding bytes_of field_rows
   held_stored i f l is =
       let e : length (set c.held i f) ≡ 256 = length-set c.held i f ∙ s.fits.whole.held in
-      row-stored 22 at_held i (flag f ∷ []) (flags (set c.held i f)) (with_held c i f) (omega arith) refl (omega (arith, length_flags c.held, s.fits.whole.held))
+      row_stored 22 at_held i (flag f ∷ []) (flags (set c.held i f)) (with_held c i f) (omega arith) refl (omega (arith, length_flags c.held, s.fits.whole.held))
       (flags_set c.held i f) refl (search rules) (is ∙ ap (sets b (at_held + i)) (as_byte f))
 
   pub rule_stored : (r : Deduction) {v : ℕ} → v ≡ deduction_number r → {after : List ℕ} → after ≡ sets b at_rule (to_bytes 4 v) → Stands after (with_rule c r)
   unfolding bytes_of field_rows
   rule_stored r e is =
-      number-stored 23 at_rule 4 (deduction_number c.rule) (deduction_number r) (with_rule c r) (omega arith) refl refl (search rules)
+      number_stored 23 at_rule 4 (deduction_number c.rule) (deduction_number r) (with_rule c r) (omega arith) refl refl (search rules)
       (is ∙ ap (λ (v : ℕ). sets b at_rule (to_bytes 4 v)) e)
 
   pub left_stored : (ws : List ℕ) → length ws ≡ 4 → Below (2 ^ 64) ws → {after : List ℕ} → after ≡ sets b at_left (run_of 8 ws) → Stands after (with_left c ws)
   unfolding bytes_of field_rows
   left_stored ws l z is =
       let e : length (run_of 8 ws) ≡ length (run_of 8 c.left) = omega (arith, length_run 8 ws, length_run 8 c.left, s.fits.whole.left) in
-      row-stored 24 at_left 0 (run_of 8 ws) (run_of 8 ws) (with_left c ws) (omega arith) refl (omega arith) (sets_all (run_of 8 c.left) (run_of 8 ws) e) refl (search rules) is
+      row_stored 24 at_left 0 (run_of 8 ws) (run_of 8 ws) (with_left c ws) (omega arith) refl (omega arith) (sets_all (run_of 8 c.left) (run_of 8 ws) e) refl (search rules) is
 
   pub arrivals_stored : (v : ℕ) → v < 2 ^ 32 → {after : List ℕ} → after ≡ sets b at_arrivals (to_bytes 4 v) → Stands after (with_arrivals c v)
   unfolding bytes_of field_rows
-  arrivals_stored v z is = number-stored 25 at_arrivals 4 c.arrivals v (with_arrivals c v) (omega arith) refl refl (search rules) is
+  arrivals_stored v z is = number_stored 25 at_arrivals 4 c.arrivals v (with_arrivals c v) (omega arith) refl refl (search rules) is
 
   pub retirements_stored : (v : ℕ) → v < 2 ^ 32 → {after : List ℕ} → after ≡ sets b at_retirements (to_bytes 4 v) → Stands after (with_retirements c v)
   unfolding bytes_of field_rows
-  retirements_stored v z is = number-stored 26 at_retirements 4 c.retirements v (with_retirements c v) (omega arith) refl refl (search rules) is
+  retirements_stored v z is = number_stored 26 at_retirements 4 c.retirements v (with_retirements c v) (omega arith) refl refl (search rules) is
 
   pub level_stored : (v : ℕ) → v < 2 ^ 64 → {after : List ℕ} → after ≡ sets b at_level (to_bytes 8 v) → Stands after (with_level c v)
   unfolding bytes_of field_rows
-  level_stored v z is = number-stored 28 at_level 8 c.level v (with_level c v) (omega arith) refl refl (search rules) is
+  level_stored v z is = number_stored 28 at_level 8 c.level v (with_level c v) (omega arith) refl refl (search rules) is
 
   pub key_stored : (i v : ℕ) → i < 256 → v < 2 ^ 64 → {after : List ℕ} → after ≡ sets b (at_keys + i * 8) (to_bytes 8 v) → Stands after (with_key c i v)
   unfolding bytes_of field_rows
   key_stored i v l z is =
       let u : Numbers (2 ^ 64) (set c.keys i v) = with_one (2 ^ 64) c.keys i v s.fits.whole.keys s.fits.keys l z in
-      entry-stored 29 at_keys 8 c.keys i v (with_key c i v) (omega arith) refl (omega (arith, s.fits.whole.keys)) refl (search rules) is
+      entry_stored 29 at_keys 8 c.keys i v (with_key c i v) (omega arith) refl (omega (arith, s.fits.whole.keys)) refl (search rules) is
 
   pub heap_item_stored : (i v : ℕ) → i < 256 → v < 2 ^ 8 → {after : List ℕ} → after ≡ sets b (at_heap + i) (to_bytes 1 v) → Stands after (with_heap_item c i v)
   unfolding bytes_of field_rows
   heap_item_stored i v l z is =
       let u : Numbers (2 ^ 8) (set c.heap i v) = with_one (2 ^ 8) c.heap i v s.fits.whole.heap s.fits.heap l z in
-      entry-stored 30 at_heap 1 c.heap i v (with_heap_item c i v) (omega arith) refl (omega (arith, s.fits.whole.heap)) refl (search rules) (is ∙ (let e : i ≡ i * 1 = omega arith in ap (λ (p : ℕ). sets b (at_heap + p) (to_bytes 1 v)) e))
+      entry_stored 30 at_heap 1 c.heap i v (with_heap_item c i v) (omega arith) refl (omega (arith, s.fits.whole.heap)) refl (search rules) (is ∙ (let e : i ≡ i * 1 = omega arith in ap (λ (p : ℕ). sets b (at_heap + p) (to_bytes 1 v)) e))
 
   pub place_stored : (i v : ℕ) → i < 256 → v < 2 ^ 8 → {after : List ℕ} → after ≡ sets b (at_places + i) (to_bytes 1 v) → Stands after (with_place c i v)
   unfolding bytes_of field_rows
   place_stored i v l z is =
       let u : Numbers (2 ^ 8) (set c.places i v) = with_one (2 ^ 8) c.places i v s.fits.whole.places s.fits.places l z in
-      entry-stored 31 at_places 1 c.places i v (with_place c i v) (omega arith) refl (omega (arith, s.fits.whole.places)) refl (search rules) (is ∙ (let e : i ≡ i * 1 = omega arith in ap (λ (p : ℕ). sets b (at_places + p) (to_bytes 1 v)) e))
+      entry_stored 31 at_places 1 c.places i v (with_place c i v) (omega arith) refl (omega (arith, s.fits.whole.places)) refl (search rules) (is ∙ (let e : i ≡ i * 1 = omega arith in ap (λ (p : ℕ). sets b (at_places + p) (to_bytes 1 v)) e))
 
   pub used_stored : (v : ℕ) → v < 2 ^ 32 → {after : List ℕ} → after ≡ sets b at_used (to_bytes 4 v) → Stands after (with_used c v)
   unfolding bytes_of field_rows
-  used_stored v z is = number-stored 27 at_used 4 c.used v (with_used c v) (omega arith) refl refl (search rules) is
+  used_stored v z is = number_stored 27 at_used 4 c.used v (with_used c v) (omega arith) refl refl (search rules) is
 
   -- the two rows of the heap, whole
   pub heap_stored : (xs : List ℕ) → length xs ≡ 256 → Below (2 ^ 8) xs → {after : List ℕ} → after ≡ sets b at_heap (run_of 1 xs) → Stands after (with_arrangement c xs c.places)
   unfolding bytes_of field_rows
   heap_stored xs l z is =
       let e : length (run_of 1 xs) ≡ length (run_of 1 c.heap) = omega (arith, length_run 1 xs, length_run 1 c.heap, s.fits.whole.heap) in
-      row-stored 30 at_heap 0 (run_of 1 xs) (run_of 1 xs) (with_arrangement c xs c.places) (omega arith) refl (omega arith) (sets_all (run_of 1 c.heap) (run_of 1 xs) e) refl (search rules) is
+      row_stored 30 at_heap 0 (run_of 1 xs) (run_of 1 xs) (with_arrangement c xs c.places) (omega arith) refl (omega arith) (sets_all (run_of 1 c.heap) (run_of 1 xs) e) refl (search rules) is
 
   pub places_stored : (xs : List ℕ) → length xs ≡ 256 → Below (2 ^ 8) xs → {after : List ℕ} → after ≡ sets b at_places (run_of 1 xs) → Stands after (with_arrangement c c.heap xs)
   unfolding bytes_of field_rows
   places_stored xs l z is =
       let e : length (run_of 1 xs) ≡ length (run_of 1 c.places) = omega (arith, length_run 1 xs, length_run 1 c.places, s.fits.whole.places) in
-      row-stored 31 at_places 0 (run_of 1 xs) (run_of 1 xs) (with_arrangement c c.heap xs) (omega arith) refl (omega arith) (sets_all (run_of 1 c.places) (run_of 1 xs) e) refl (search rules) is
+      row_stored 31 at_places 0 (run_of 1 xs) (run_of 1 xs) (with_arrangement c c.heap xs) (omega arith) refl (omega arith) (sets_all (run_of 1 c.places) (run_of 1 xs) e) refl (search rules) is

@@ -73,10 +73,10 @@ module _ {text : List ℕ} {from v end : ℕ} (d : DigitsAt text from v end) whe
   pub digits_small : end - from < 4 → v < 1000
   digits_small h = omega (arith, d.worth, three_worth (part from end text) d.digits (omega (arith, count)))
 
-  pub digits-next :
+  pub digits_next :
       end < length text → end - from < 4 → 48 ≤ get_or text end 0 → get_or text end 0 ≤ 57 →
       DigitsAt text from (v * 10 + (get_or text end 0 - 48)) (end + 1)
-  digits-next h k low high =
+  digits_next h k low high =
       let p = part_next text from end d.onward h in
       let b = get_or text end 0 in
       record {
@@ -184,7 +184,7 @@ ranged_under : (heading : ℕ) (n : Numbers) → (eqb n.kind 65 || eqb n.kind 81
 ranged_under heading n e r = ap range_refusal (under_same heading n (old_kind heading n.kind e)) ∙ range_free n r
 
 module _ (heading : ℕ) (text : List ℕ) where
-  pub read-begins :
+  pub read_begins :
       (v end bytes : ℕ) →
       take 2 text ≡ text_of "R " →
       NumberAt text 2 v end →
@@ -196,7 +196,7 @@ module _ (heading : ℕ) (text : List ℕ) where
       0 < bytes →
       Begins heading text (Read v) bytes
   unfolding step_text
-  read-begins v end bytes kind item some small space dash ends more =
+  read_begins v end bytes kind item some small space dash ends more =
       let feed = ends more in
       let last : List ℕ = text_of " -" ++ no_values heading in
       let close : TextAt text end last =
@@ -213,7 +213,7 @@ module _ (heading : ℕ) (text : List ℕ) where
         ranged = ranged_under heading (numbers_of (Read v)) refl (le-leb v 255 small);
       }
 
-  pub write-begins :
+  pub write_begins :
       (v space m end bytes : ℕ) →
       take 2 text ≡ text_of "W " →
       NumberAt text 2 v space →
@@ -227,7 +227,7 @@ module _ (heading : ℕ) (text : List ℕ) where
       0 < bytes →
       Begins heading text (Write v m) bytes
   unfolding step_text
-  write-begins v space m end bytes kind item some small between minutes more few ends all =
+  write_begins v space m end bytes kind item some small between minutes more few ends all =
       let feed = ends all in
       let last : List ℕ = digits_of m ++ no_values heading in
       let close : TextAt text (space + 1) last =

@@ -130,13 +130,13 @@ module _
     fields_here : take count fields ++ rest ≡ map held_field (fields_of l)
     fields_here = ap (λ (x : List Field). take count fields ++ x) (sym first) ∙ f.same
 
-    pub field-more :
+    pub field_more :
         (more : Bool) →
         more ≡ ltb (at + m) (length l) →
         count < 6 →
         is_empty field ≡ false →
         Fielded l (set fields count field) (count + 1) (at + m + 1) more
-    field-more more e h o =
+    field_more more e h o =
         let slots = f.slots in
         record {
           slots = length-set fields count field ∙ slots;

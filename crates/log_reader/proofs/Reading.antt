@@ -277,12 +277,12 @@ module _ (heading : ℕ) (text : List ℕ) (at count : ℕ) (next : Next)
   first = rw (tail_is at text) at is
 
   -- it is no step
-  pub read-stops :
+  pub read_stops :
       (r : Refusal) {old list : List ℕ} →
       next ≡ NextRefused r →
       ReadSoFar heading text old at count list →
       ReadInto (read_lines heading 2 (split 10 text)) old (Not r) list
-  read-stops r e g =
+  read_stops r e g =
       let stops : (x : Logged) → line_ahead (first_line heading line left) x ≡ fault r = rw e at first in
       let all : fault r ≡ read_lines heading 2 (split 10 text) = ap (onward g.read) (sym (leads ∙ stops rest)) ∙ g.left in
       rw (← all) refl
@@ -341,11 +341,11 @@ module _ (heading : ℕ) (text : List ℕ) (at count : ℕ) (r : Found) (list : 
   pub found_room : 24 * count + 24 ≤ length list
   found_room = read_room heading text at count (NextStep f.step r.bytes) more found_is f.step r.bytes refl list fit
 
-  found-goes :
+  found_goes :
       (after : List ℕ) →
       after ≡ sets list (24 * count) (numbers_onto (numbers_from r.kind r.item r.minutes 0 0 0) []) →
       ReadsOn heading text at count list (at + r.bytes) (count + 1) after × Roomy text (at + r.bytes) (count + 1) after
-  found-goes after put =
+  found_goes after put =
       read_goes heading text at count (NextStep f.step r.bytes) more found_is f.step r.bytes refl list after fit
       (put ∙ ap (λ (n : Numbers). sets list (24 * count) (numbers_onto n [])) f.numbers)
 
@@ -367,7 +367,7 @@ pub going_on :
     after ≡ sets list (24 * count) (numbers_onto (numbers_from r.kind r.item r.minutes 0 0 0) []) →
     Going heading text list₀ at₀ count₀ after (at + r.bytes) (count + 1)
 going_on {heading} {text} {list₀} {at₀} {count₀} {list} {at} {count} r after g more f put =
-    let goes = found-goes heading text at count r list more f g.fit after put in
+    let goes = found_goes heading text at count r list more f g.fit after put in
     record {
       fit = goes.1;
       same = ap length put ∙ length-sets list (24 * count) (numbers_onto (numbers_from r.kind r.item r.minutes 0 0 0) []) ∙ g.same;
@@ -397,10 +397,10 @@ table_empty (b ∷ text) old e = absurd (omega arith)
 -- the first line, which has m bytes
 module _ (text old : List ℕ) (m : ℕ) (e : m ≡ length (before 10 text)) where
   -- it has no line feed
-  pub table-unfed :
+  pub table_unfed :
       (length text ≡ 0 → ⊥) → length text ≤ m → ReadInto (read_table (split 10 text)) old (Not (Malformed 1)) old
   unfolding read_table
-  table-unfed p h =
+  table_unfed p h =
       rw
       (last_piece 10 text 0 m e (omega arith), ne_eqb (length (take m text)) 0 (λ z. p (omega (arith, piece_length 10 text 0 m e))))
       refl
@@ -417,12 +417,12 @@ module _ (text old : List ℕ) (m : ℕ) (e : m ≡ length (before 10 text)) whe
         )
 
     -- it is the line of names
-    pub table-read :
+    pub table_read :
         (heading : ℕ) (got : ReadAnswer) (after : List ℕ) →
         names ≡ Known heading →
         ReadInto (read_lines heading 2 (split 10 (tail (m + 1) text))) old got after →
         ReadInto (read_table (split 10 text)) old got after
-    table-read heading got after f h = rw (table_headed, f) h
+    table_read heading got after f h = rw (table_headed, f) h
 
     -- it is another
     pub table_unknown : names ≡ Unknown → ReadInto (read_table (split 10 text)) old (Not (Heading 1)) old
@@ -484,9 +484,9 @@ module _
           let less : length list < length (list_of found.0) = omega (arith, size) in
           rw found.1 (rw (lt-leb (length (list_of found.0)) (length list) less), sym (page_none (list_of found.0) list less))
 
-      pub answer-stored :
+      pub answer_stored :
           (new : List ℕ) → 24 * n ≤ length list → new ≡ text_over (take (24 * n) after) list → ReadAs text list (Steps heading n) new
-      answer-stored new h put =
+      answer_stored new h put =
           let ss = found.0 in
           let fit : length (list_of ss) ≤ length list = omega (arith, size) in
           let bytes : take (24 * n) after ≡ list_of ss =

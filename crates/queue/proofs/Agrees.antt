@@ -22,7 +22,7 @@ use Rattle.landlord.specs.Claims.{SplitOk, SlotKept, Least}
 use Rattle.landlord.proofs.Folds.{tab_at, tab_eq, tab_set, tab_more, Best, nobody, somebody, best_is}
 use Rattle.landlord.proofs.Slots.{absent_kept}
 use Rattle.queue.specs.Queue.{worth, key_now, slot_now, KeyOk, SplitAdds, Queue, stored_at, key_at, blocks_of, precedence_in, now_at, plain, dropped, reckoned, removed, longer, marked_left, QueueOk, First}
-use Rattle.queue.proofs.Losses.{now_held, now_worth, now-later, fresh, fresh_ok}
+use Rattle.queue.proofs.Losses.{now_held, now_worth, now_later, fresh, fresh_ok}
 
 -- what the rule keeps of a slot goes by the item's three values
 slot_alike : (y z : Item) (s : Slot) → Alike y z → SlotKept z s → SlotKept y s
@@ -133,7 +133,7 @@ module _ (split : Split) (ok : SplitOk split) (adds : SplitAdds split) (q : Queu
             let up : q.level ≤ key_at q v = (good.key v hv first.is_held).within in
             rw (ne_eqb i v e)
             (rw (get_or-set_other q.slots v i absent absent e, get_or-set_other q.keys v i 0 0 e, plain_slot i l, rank_is v hv first.is_held)
-            (now-later split ok adds (item_at q.catalog i) (some i l) q.level (key_at q i) (stored_at q i) (good.slot i l) (key_at q v) (λ h. good.key i l h) up
+            (now_later split ok adds (item_at q.catalog i) (some i l) q.level (key_at q i) (stored_at q i) (good.slot i l) (key_at q v) (λ h. good.key i l h) up
             (λ h. order_key v i (first.least i l h))))
 
     pub drop_ok : QueueOk (dropped q v)

@@ -81,10 +81,10 @@ module _ (o : Opening Catalog) (good : CatalogOk o.catalog) where
   from_more l close e = rw e
 
   -- one call more
-  pub one-call-in :
+  pub one_call_in :
       (l : Log) (call : Call) → AllowedLog o.k o.catalog l.steps → after_in (lazy_from o l) call ≡ lazy_from o (joins o.k o.catalog l call)
   unfolding after_in joins
-  one-call-in l call a = rw asked (go (eqb (refusal_in o.k o.catalog l call) 0) refl)
+  one_call_in l call a = rw asked (go (eqb (refusal_in o.k o.catalog l call) 0) refl)
     where
       asked : refusal_now (standing (lazy_from o l)) call ≡ refusal_in o.k o.catalog l call
       asked =

@@ -99,14 +99,14 @@ module _ (split : Split) (ok : SplitOk split) (adds : SplitAdds split) where
       ∙ lose_dirty split (blocks_of q i) (blocks_of q i * loss_since (blocks_of q i) q.level (key_at q i) (stored_at q i)) (stored_at q i)
 
   -- evictions for an item that fits the cache
-  evicts-alike :
+  evicts_alike :
       (k blocks : ℕ) → blocks ≤ k → (turns : ℕ) (q : Queue) → Sound q → Alike split q (evict_for_in turns k blocks q) (evict_for turns split k blocks (plain split q))
   unfolding evict_for_in evict_for
-  evicts-alike k blocks fits zero q s = record { state = refl; events = refl; sound = s; rise = omega arith }
-  evicts-alike k blocks fits (suc turns) q s =
+  evicts_alike k blocks fits zero q s = record { state = refl; events = refl; sound = s; rise = omega arith }
+  evicts_alike k blocks fits (suc turns) q s =
       rw (used_is q s)
       (go (leb (used_in q + blocks) k) refl
-      (λ f. evicts-alike k blocks fits turns (dropped q (victim_in q))
+      (λ f. evicts_alike k blocks fits turns (dropped q (victim_in q))
       (record { catalog = s.catalog; ok = drop_ok split ok adds q s.catalog s.ok (victim_in q) f })))
     where
       x : State
@@ -180,7 +180,7 @@ module _ (split : Split) (ok : SplitOk split) (adds : SplitAdds split) where
           Alike split q (cond b (stay_in q) (evict_for_in (held_count_in q) k (blocks_of q i) q))
           (cond b (stay (plain split q)) (evict_for (held_count_in q) split k (blocks_of q i) (plain split q)))
       go true = record { state = refl; events = refl; sound = s; rise = omega arith }
-      go false = evicts-alike k (blocks_of q i) fits (held_count_in q) q s
+      go false = evicts_alike k (blocks_of q i) fits (held_count_in q) q s
 
   -- a slot as it stands is as the rule keeps it
   now_good : (q : Queue) → Sound q → (i : ℕ) → i < length q.catalog → SlotKept (item_at q.catalog i) (now_at split q i)
@@ -309,13 +309,13 @@ module _ (split : Split) (ok : SplitOk split) (adds : SplitAdds split) where
                 (lose_dirty split (blocks_of q i) (blocks_of q i * loss_since (blocks_of q i) q.level (key_at q i) (stored_at q i)) (stored_at q i) ∙ e))
 
   -- one move after the other
-  joined-alike :
+  joined_alike :
       (q : Queue) (m n : MovedIn) (r : Moved) (f : State → Moved) →
       m.queue.catalog ≡ q.catalog →
       Alike split q m r →
       Alike split m.queue n (f (plain split m.queue)) →
       Alike split q (joined_in m n) (joined r (f r.state))
-  joined-alike q m n r f e a b =
+  joined_alike q m n r f e a b =
       record {
         state = b.state ∙ ap (λ (x : State). (f x).state) a.state;
         events = λ z. a.events z ++ (b.events ∙ ap (λ (x : State). (f x).events) a.state) z;
@@ -334,10 +334,10 @@ module _ (split : Split) (ok : SplitOk split) (adds : SplitAdds split) where
       ap (λ (x : State). x.catalog) (room_alike k i q s l fits).state ∙ (make_room_lem split k i (plain split q) ok l fits).catalog
 
   -- an arrival, and the two halves of a retirement
-  pub arrive-alike :
+  pub arrive_alike :
       (i b l w : ℕ) (q : Queue) → Sound q → length q.catalog < 256 → ItemFacts (listed b l w) →
       Alike split q (record { queue = longer q (Arrive i b l w); events = arrived i ∷ [] }) (arrive (Arrive i b l w) i (plain split q))
-  arrive-alike i b l w q s few new =
+  arrive_alike i b l w q s few new =
       record {
         state = arrive_agrees split ok adds q s.catalog s.ok i b l w;
         events = refl;
@@ -374,20 +374,20 @@ module _ (split : Split) (ok : SplitOk split) (adds : SplitAdds split) where
   step_alike k (Read i) q s served =
       let a : Alike split q (make_room_in k i q) (make_room split k i (plain split q)) = room_alike k i q s served.0 served.1 in
       let e : (make_room_in k i q).queue.catalog ≡ q.catalog = room_catalog k i q s served.0 served.1 in
-      joined-alike q (make_room_in k i q) (serve_read_in split i (make_room_in k i q).queue) (make_room split k i (plain split q)) (serve_read i) e a
+      joined_alike q (make_room_in k i q) (serve_read_in split i (make_room_in k i q).queue) (make_room split k i (plain split q)) (serve_read i) e a
       (read_alike i (make_room_in k i q).queue a.sound (rw e served.0))
   step_alike k (Write i minutes) q s served =
       let a : Alike split q (make_room_in k i q) (make_room split k i (plain split q)) = room_alike k i q s served.0 served.1 in
       let e : (make_room_in k i q).queue.catalog ≡ q.catalog = room_catalog k i q s served.0 served.1 in
-      joined-alike q (make_room_in k i q) (serve_write_in split i minutes (make_room_in k i q).queue) (make_room split k i (plain split q)) (serve_write i minutes) e a
+      joined_alike q (make_room_in k i q) (serve_write_in split i minutes (make_room_in k i q).queue) (make_room split k i (plain split q)) (serve_write i minutes) e a
       (write_alike i minutes (make_room_in k i q).queue a.sound (rw e served.0))
   step_alike k Flush q s served =
-      joined-alike q (record { queue = q; events = flush_step ∷ [] }) (flush_in split q) (record { state = plain split q; events = flush_step ∷ [] }) flush refl
+      joined_alike q (record { queue = q; events = flush_step ∷ [] }) (flush_in split q) (record { state = plain split q; events = flush_step ∷ [] }) flush refl
       (record { state = refl; events = refl; sound = s; rise = omega arith }) (flush_alike q s)
-  step_alike k (Arrive i b l w) q s served = arrive-alike i b l w q s served.1 (item_facts (listed b l w) served.2)
+  step_alike k (Arrive i b l w) q s served = arrive_alike i b l w q s served.1 (item_facts (listed b l w) served.2)
   step_alike k (Retire i) q s served =
       let a : Alike split q (drop_in i q) (drop_item i (plain split q)) = drop_alike i q s served.0 in
-      joined-alike q (drop_in i q) (leave_in i (drop_in i q).queue) (drop_item i (plain split q)) (leave i) (drop_keeps i q) a
+      joined_alike q (drop_in i q) (leave_in i (drop_in i q).queue) (drop_item i (plain split q)) (leave i) (drop_keeps i q) a
       (leave_alike i (drop_in i q).queue a.sound (rw (drop_keeps i q) served.0))
 
 -- ---- where the lazy form stands over a log
@@ -429,10 +429,10 @@ pub sound : (v : LazyStanding) → LazyOk v → Sound v.queue
 sound v so = record { catalog = so.catalog; ok = so.queue }
 
 module _ (v : LazyStanding) (fit : SplitOk v.split) (adds : SplitAdds v.split) (so : LazyOk v) where
-  step-now :
+  step_now :
       (s : Step) → Served v.k v.queue.catalog s →
       Alike v.split v.queue (step_in v.split v.k s v.queue) (step v.split v.k s (plain v.split v.queue))
-  step-now s served = step_alike v.split fit adds v.k s v.queue (sound v so) served
+  step_now s served = step_alike v.split fit adds v.k s v.queue (sound v so) served
 
   flush_now : Alike v.split v.queue (flush_in v.split v.queue) (flush (plain v.split v.queue))
   flush_now = flush_alike v.split fit adds v.queue (sound v so)
@@ -440,17 +440,17 @@ module _ (v : LazyStanding) (fit : SplitOk v.split) (adds : SplitAdds v.split) (
   pub took_agrees : (s : Step) → Served v.k v.queue.catalog s → standing (took_in v s) ≡ took (standing v) s
   unfolding took_in took
   took_agrees s served =
-      moved_stands v (step_in v.split v.k s v.queue) (step v.split v.k s (plain v.split v.queue)) v.closed (step-now s served)
+      moved_stands v (step_in v.split v.k s v.queue) (step v.split v.k s (plain v.split v.queue)) v.closed (step_now s served)
 
   pub took_ok : (s : Step) → Served v.k v.queue.catalog s → LazyOk (took_in v s)
   unfolding took_in
   took_ok s served =
-      moved_ok v (step_in v.split v.k s v.queue) (step v.split v.k s (plain v.split v.queue)) v.closed so (step-now s served)
+      moved_ok v (step_in v.split v.k s v.queue) (step v.split v.k s (plain v.split v.queue)) v.closed so (step_now s served)
 
   pub took_catalog : (s : Step) → Served v.k v.queue.catalog s → (took_in v s).queue.catalog ≡ catalog_next v.queue.catalog s
   unfolding took_in
   took_catalog s served =
-      ap (λ (x : State). x.catalog) (step-now s served).state ∙ step_catalog v.split v.k s (plain v.split v.queue) fit served
+      ap (λ (x : State). x.catalog) (step_now s served).state ∙ step_catalog v.split v.k s (plain v.split v.queue) fit served
 
   pub closes_agrees : standing (closes_in v) ≡ closes (standing v)
   unfolding closes_in closes

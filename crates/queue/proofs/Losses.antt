@@ -10,7 +10,7 @@ use Rattle.landlord.specs.Catalog.{Item}
 use Rattle.landlord.specs.Inner.{ItemFacts}
 use Rattle.landlord.specs.Slot.{Slot, absent, clean, dirty, held, load_credit, write_credit, Split, write_first, load_first, split_of, lose, flushed}
 use Rattle.landlord.specs.Claims.{Bears, SplitOk, SlotKept}
-use Rattle.landlord.proofs.Slots.{Lost, lose-lost, lose-kept, lose_held}
+use Rattle.landlord.proofs.Slots.{Lost, lose_lost, lose_kept, lose_held}
 use Rattle.queue.specs.Queue.{worth, key_now, loss_since, slot_now, KeyOk, SplitAdds, most_rise}
 -- of a wrong definition the row that it breaks is told before the laws
 use Rattle.queue.proofs.Bench.{bench_right}
@@ -39,16 +39,16 @@ module _ (split : Split) (ok : SplitOk split) (adds : SplitAdds split) (it : Ite
   s = it.blocks
 
   -- to lose x and then y
-  pub lose-adds :
+  pub lose_adds :
       (x y : ℕ) (t : Slot) →
       SlotKept it t →
       s ∣ x →
       s ∣ y →
       x + y ≤ load_credit t + write_credit t →
       lose split s (x + y) t ≡ lose split s y (lose split s x t)
-  lose-adds x y absent kept dx dy l = refl
-  lose-adds x y (clean a) kept dx dy l = ap clean (omega arith)
-  lose-adds x y (dirty a b) kept dx dy l =
+  lose_adds x y absent kept dx dy l = refl
+  lose_adds x y (clean a) kept dx dy l = ap clean (omega arith)
+  lose_adds x y (dirty a b) kept dx dy l =
       let e : split s (x + y) a b ≡ split s x a b + split s y (a - (x - split s x a b)) (b - split s x a b) =
       adds.each s x y a b some dx dy kept.whole_load kept.whole_write l
       in
@@ -93,13 +93,13 @@ module _ (split : Split) (ok : SplitOk split) (adds : SplitAdds split) (it : Ite
     -- the credits that a key stands for are as the rule keeps them
     pub now_kept : (held t ≡ true → KeyOk s level key t) → SlotKept it now
     now_kept k =
-        lose-kept split ok it some (s * loss_since s level key t) t (dvd-mul_right s (loss_since s level key t)) kept (λ h. borne (k h))
+        lose_kept split ok it some (s * loss_since s level key t) t (dvd-mul_right s (loss_since s level key t)) kept (λ h. borne (k h))
 
     -- and a block of them is worth the key less the level
     pub now_worth : held t ≡ true → KeyOk s level key t → worth s now ≡ key - level
     now_worth h k =
         let lost : Lost (s * loss_since s level key t) t now =
-        lose-lost split ok it some (s * loss_since s level key t) t h (dvd-mul_right s (loss_since s level key t)) kept (borne k)
+        lose_lost split ok it some (s * loss_since s level key t) t h (dvd-mul_right s (loss_since s level key t)) kept (borne k)
         in
         let e : worth s t ≡ (key - level) + loss_since s level key t = omega (arith, k.due, k.within) in
         let f : load_credit now + write_credit now ≡ s * (key - level) =
@@ -108,13 +108,13 @@ module _ (split : Split) (ok : SplitOk split) (adds : SplitAdds split) (it : Ite
         ap (λ (z : ℕ). z / s) f ∙ mul-div_cancel_left (key - level) some
 
     -- the level rises: each item loses the rise
-    pub now-later :
+    pub now_later :
         (higher : ℕ) →
         (held t ≡ true → KeyOk s level key t) →
         level ≤ higher →
         (held t ≡ true → higher ≤ key) →
         slot_now split s higher key t ≡ lose split s (s * (higher - level)) now
-    now-later higher k up within = go (held t) refl
+    now_later higher k up within = go (held t) refl
       where
         go : (b : Bool) → held t ≡ b → slot_now split s higher key t ≡ lose split s (s * (higher - level)) now
         go true h =
@@ -127,7 +127,7 @@ module _ (split : Split) (ok : SplitOk split) (adds : SplitAdds split) (it : Ite
             omega (arith, mul-le-mul_left s w, worth_whole t kept, f)
             in
             ap (λ (z : ℕ). lose split s z t) f
-            ∙ lose-adds (s * loss_since s level key t) (s * (higher - level)) t kept (dvd-mul_right s (loss_since s level key t)) (dvd-mul_right s (higher - level)) bound
+            ∙ lose_adds (s * loss_since s level key t) (s * (higher - level)) t kept (dvd-mul_right s (loss_since s level key t)) (dvd-mul_right s (higher - level)) bound
         go false h = gone t h
           where
             gone : (t : Slot) → held t ≡ false → slot_now split s higher key t ≡ lose split s (s * (higher - level)) (slot_now split s level key t)
@@ -147,13 +147,13 @@ module _ (split : Split) (ok : SplitOk split) (adds : SplitAdds split) (it : Ite
   fresh_ok level t = record { due = omega arith; within = omega arith }
 
   -- A landing reckons held items anew. A clean one has the same key and the same standing credits then, so it need not be stored again.
-  pub clean-stays :
+  pub clean_stays :
       (level key a : ℕ) →
       SlotKept it (clean a) →
       KeyOk s level key (clean a) →
       (key_now s level (flushed (slot_now split s level key (clean a))) ≡ key)
       × (slot_now split s level key (flushed (slot_now split s level key (clean a))) ≡ slot_now split s level key (clean a))
-  clean-stays level key a kept k =
+  clean_stays level key a kept k =
       let now : Slot = slot_now split s level key (clean a) in
       let same : key_now s level now ≡ key = omega (arith, now_worth level key (clean a) kept refl k, k.within) in
       (same, ap (λ (z : ℕ). slot_now split s level z now) (sym same) ∙ fresh level now (now_kept level key (clean a) kept (λ h. k)))

@@ -78,7 +78,7 @@ serve_write_in split i minutes q =
     }
 
 -- A landing and the close reckon held items anew. A clean one has the same key and the same standing credits then (proofs/Losses.antt,
--- clean-stays), so only a dirty one is stored again.
+-- clean_stays), so only a dirty one is stored again.
 abbrev pub landed_slot : Split → Queue → ℕ → Slot
 landed_slot split q i = cond (is_dirty (stored_at q i)) (flushed (now_at split q i)) (stored_at q i)
 

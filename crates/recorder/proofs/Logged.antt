@@ -28,12 +28,12 @@ module _
     lent_text n e = lent (Count n) e
 
     -- both halves as they are computed
-    pub lent-refusal :
+    pub lent_refusal :
         (r : Refusal) (number line : ℕ) →
         w ≡ Refused r →
         number ≡ refusal_number r →
         line ≡ refusal_line r →
         LoggedLent heading list before was (number + line * 4294967296) after was
-    lent-refusal r number line e n l =
+    lent_refusal r number line e n l =
         let sum : both_halves (Refused r) ≡ number + line * 4294967296 = omega (arith, n, l) in
         subst (λ (x : ℕ). LoggedLent heading list before was x after was) sum (lent (Refused r) e)

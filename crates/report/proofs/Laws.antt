@@ -82,6 +82,6 @@ module _ (b : List ℕ) (rival : Rival) (before : List ℕ) where
   pub invalid_told : (ValidBytes b → ⊥) → Reported b rival before (Refused (InvalidState 0)) before
   invalid_told f = record { fine = λ v. absurd (f v); invalid = λ g. (refl, refl) }
 
-  pub fine-told :
+  pub fine_told :
       (r : Written) (after : List ℕ) → ValidBytes b → Put (report_of (view (cache_of b)) rival) before r after → Reported b rival before r after
-  fine-told r after v p = record { fine = λ w. p; invalid = λ f. absurd (f v) }
+  fine_told r after v p = record { fine = λ w. p; invalid = λ f. absurd (f v) }

@@ -68,13 +68,13 @@ module _ (p : Present) (n : Numbers) where
   arrive_tells e cat few t = rw (step_arrive n e) (tells_more cat p (p.n + 1) n.blocks n.load n.write refl t)
 
   -- a retirement of an item that is there
-  retire-tells :
+  retire_tells :
       (left : List ℕ) →
       n.kind ≡ 81 →
       n.item < p.n →
       marks left ≡ set (marks p.left) n.item true →
       Advances p n (record { n = p.n; left = left })
-  retire-tells left e l m cat few t =
+  retire_tells left e l m cat few t =
       rw (step_retire n e)
       (record { count = omega (arith, t.count, retired_length cat n.item); marks = λ j b. each j b (ℕ_discrete j n.item) })
     where
@@ -117,13 +117,13 @@ module _ (p : Present) (n : Numbers) where
   pub advanced_arrive : n.kind ≡ 65 → Advanced p n (record { n = p.n + 1; left = p.left })
   advanced_arrive e = record { count = rw (eq-eqb n.kind 65 e); left = rw (ne_eqb n.kind 81 (λ z. omega arith)) }
 
-  pub advanced-retire :
+  pub advanced_retire :
       (left : List ℕ) →
       n.kind ≡ 81 →
       n.item < p.n →
       marks left ≡ set (marks p.left) n.item true →
       Advanced p n (record { n = p.n; left = left })
-  advanced-retire left e l m = record { count = rw (ne_eqb n.kind 65 (λ z. omega arith)); left = rw (eq-eqb n.kind 81 e, lt-ltb n.item p.n l) m }
+  advanced_retire left e l m = record { count = rw (ne_eqb n.kind 65 (λ z. omega arith)); left = rw (eq-eqb n.kind 81 e, lt-ltb n.item p.n l) m }
 
   pub advanced_same : n.kind ≢ 65 → (n.kind ≡ 81 → p.n ≤ n.item) → Advanced p n p
   advanced_same a q = record { count = rw (ne_eqb n.kind 65 a); left = go (ℕ_discrete n.kind 81) }
@@ -155,7 +155,7 @@ module _ (p : Present) (n : Numbers) where
           (arrive_tells p n e cat few t)
       go (no a) (yes e) true z =
           same_known next (record { n = p.n; left = r.left }) r (same a) refl
-          (retire-tells p n r.left e (ltb-true n.item p.n z) (h.left ∙ rw (eq-eqb n.kind 81 e, z)) cat few t)
+          (retire_tells p n r.left e (ltb-true n.item p.n z) (h.left ∙ rw (eq-eqb n.kind 81 e, z)) cat few t)
       go (no a) (yes e) false z =
           let l : n.kind ≡ 81 → p.n ≤ n.item = λ f. ltb-false n.item p.n z in
           same_known next p r (same a) (unmoved l) (same_tells p n a l cat few t)
@@ -298,12 +298,12 @@ arrival_facts n e r =
 
 -- it is stored, and nothing is for any other step
 module _ (n : Numbers) (bytes : List ℕ) where
-  pub stores-arrival :
+  pub stores_arrival :
       (put : List ℕ) →
       n.kind ≡ 65 →
       put ≡ sets bytes (5 * n.item) (item_bytes (listed n.blocks n.load n.write)) →
       put ≡ with_arrival (step_of n) bytes
-  stores-arrival put e h = rw (step_arrive n e) h
+  stores_arrival put e h = rw (step_arrive n e) h
 
   pub stores_nothing : n.kind ≢ 65 → bytes ≡ with_arrival (step_of n) bytes
   stores_nothing a = go (ℕ_discrete n.kind 82) (ℕ_discrete n.kind 87) (ℕ_discrete n.kind 81)

@@ -114,11 +114,11 @@ module _ (letter : ℕ) (item minutes blocks load write : Field) where
   held_numbers =
       numbers_from letter (value_in (held_field item)) (value_in (held_field minutes)) (value_in (held_field blocks)) (value_in (held_field load)) (value_in (held_field write))
 
-  held-shape :
+  held_shape :
       step_shape letter (held_field item) (held_field minutes) (held_field blocks) (held_field load) (held_field write)
       ≡ step_shape letter item minutes blocks load write
   unfolding step_shape
-  held-shape = rw (held_number item, held_dash item, held_number minutes, held_dash minutes, held_number blocks, held_dash blocks, held_number load, held_dash load, held_number write, held_dash write)
+  held_shape = rw (held_number item, held_dash item, held_number minutes, held_dash minutes, held_number blocks, held_dash blocks, held_number load, held_dash load, held_number write, held_dash write)
 
   held_range : range_refusal held_numbers ≡ range_refusal numbers
   unfolding range_refusal
@@ -183,7 +183,7 @@ held_step :
 unfolding step_line
 held_step heading (Letter b) item minutes blocks load write n =
     let letter = kind_under heading b in
-    same_judged _ _ _ _ _ _ n (held-shape letter item minutes blocks load write)
+    same_judged _ _ _ _ _ _ n (held_shape letter item minutes blocks load write)
     (held_range letter item minutes blocks load write) (λ e. ap Step (held_step_of letter item minutes blocks load write e))
 held_step heading (Number v) item minutes blocks load write n = refl
 held_step heading Dash item minutes blocks load write n = refl

@@ -156,11 +156,11 @@ module _ (k h rule : Field) (n : ℕ) where
       sizes_good w word e = rw (s, ← ea, ← eb, r, w, e)
 
 module _ (i b l w : Field) (n : ℕ) where
-  pub item-malformed :
+  pub item_malformed :
       (is_number i ≡ false) ⊎ (is_number b ≡ false) ⊎ (is_number l ≡ false) ⊎ (is_number w ≡ false) →
       Refused (Malformed n) ≡ item_line i b l w n
   unfolding item_line
-  item-malformed e = rw (one_of_4 (is_number i) (is_number b) (is_number l) (is_number w) e)
+  item_malformed e = rw (one_of_4 (is_number i) (is_number b) (is_number l) (is_number w) e)
 
   module _
       (vi vb vl vw : ℕ)
@@ -170,10 +170,10 @@ module _ (i b l w : Field) (n : ℕ) where
       (ew : vw ≡ value_in w)
       (s : item_shape i b l w ≡ true)
     where
-      pub item-far :
+      pub item_far :
           (leb vi 255 ≡ false) ⊎ (item_in_range (listed vb vl vw) ≡ false) → Refused (OutOfRange n) ≡ item_line i b l w n
       unfolding item_line refusal_from
-      item-far r = rw (s, ← ei, ← eb, ← el, ← ew, one_of_2 (leb vi 255) (item_in_range (listed vb vl vw)) r)
+      item_far r = rw (s, ← ei, ← eb, ← el, ← ew, one_of_2 (leb vi 255) (item_in_range (listed vb vl vw)) r)
 
       pub item_good : items_range vi vb vl vw ≡ true → ItemLine vi vb vl vw ≡ item_line i b l w n
       unfolding item_line
@@ -199,32 +199,32 @@ module _
     unfolding step_line
     line_is = ap line_by ex
 
-    pub step-malformed :
+    pub step_malformed :
         (is_letter kind ≡ false) ⊎ (step_shape x.kind item minutes blocks load write ≡ false) →
         Refused (Malformed n) ≡ step_line heading kind item minutes blocks load write n
-    step-malformed e = rw (← line_is, one_of_2 (is_letter kind) (step_shape x.kind item minutes blocks load write) e)
+    step_malformed e = rw (← line_is, one_of_2 (is_letter kind) (step_shape x.kind item minutes blocks load write) e)
 
     module _ (s : steps_shape kind x.kind item minutes blocks load write ≡ true) (number : ℕ) (en : number ≡ range_refusal x) where
-      pub step-far :
+      pub step_far :
           number ≢ 0 → (r : Refusal) → told r ≡ telling number n 0 → Refused r ≡ step_line heading kind item minutes blocks load write n
-      step-far f r e = rw (← line_is, s, ← en, ne_eqb number 0 f) (ap Refused (refusal_is r (telling number n 0) e))
+      step_far f r e = rw (← line_is, s, ← en, ne_eqb number 0 f) (ap Refused (refusal_is r (telling number n 0) e))
 
       pub step_good : number ≡ 0 → Step (step_of x) ≡ step_line heading kind item minutes blocks load write n
       step_good f = rw (← line_is, s, ← en, f)
 
 module _ (place kind item : Field) (n letter : ℕ) (ek : letter ≡ value_in kind) where
-  pub act-malformed :
+  pub act_malformed :
       (is_number place ≡ false) ⊎ (is_letter kind ≡ false) ⊎ (act_shape letter item ≡ false) →
       Refused (Malformed n) ≡ act_line place kind item n
   unfolding act_line
-  act-malformed e = rw (← ek, one_of_3 (is_number place) (is_letter kind) (act_shape letter item) e)
+  act_malformed e = rw (← ek, one_of_3 (is_number place) (is_letter kind) (act_shape letter item) e)
 
   module _ (p i : ℕ) (ep : p ≡ value_in place) (ei : i ≡ value_in item) (s : acts_shape place kind letter item ≡ true) where
-    pub act-far :
+    pub act_far :
         (leb p 999999 ≡ false) ⊎ (is_act_kind letter ≡ false) ⊎ (leb i 255 ≡ false) →
         Refused (OutOfRange n) ≡ act_line place kind item n
     unfolding act_line refusal_from
-    act-far r = rw (← ek, ← ep, ← ei, s, one_of_3 (leb p 999999) (is_act_kind letter) (leb i 255) r)
+    act_far r = rw (← ek, ← ep, ← ei, s, one_of_3 (leb p 999999) (is_act_kind letter) (leb i 255) r)
 
     pub act_good : acts_range p letter i ≡ true → ActLine p (act_of letter i) ≡ act_line place kind item n
     unfolding act_line
@@ -332,14 +332,14 @@ module _ (table : ℕ) (line : List ℕ) (right : Bool) where
   unfolding headings heading_among heading_of
   heading_1 e h = rw (e, h)
 
-  pub heading-3 :
+  pub heading_3 :
       (table ≡ 0 → ⊥) →
       (table ≡ 1 → ⊥) →
       (table ≡ 2 → ⊥) →
       right ≡ same_text line (text_of "at act sail") →
       cond right (Known 0) Unknown ≡ heading_of table line
   unfolding headings heading_among heading_of
-  heading-3 a b c h = rw (ne_eqb table 0 a, ne_eqb table 1 b, ne_eqb table 2 c, h)
+  heading_3 a b c h = rw (ne_eqb table 0 a, ne_eqb table 1 b, ne_eqb table 2 c, h)
 
 -- ## The line that the first `count` fields of an array make
 
@@ -375,21 +375,21 @@ module _ (table heading : ℕ) (fields : List Field) (count n : ℕ) (few : coun
         go true w = at 2 (omega (arith, names_rule table heading e (eqb-true heading 1 w)))
         go false w = refl
 
-    pub line-0 :
+    pub line_0 :
         table ≡ 0 →
         (word : Field) →
         word ≡ rule_field heading (slot fields 2) →
         sizes_line (slot fields 0) (slot fields 1) word n ≡ line_in table heading (take count fields) n
     unfolding line_in values_in
-    line-0 e word h =
+    line_0 e word h =
         let k = names_some table heading e in
         rw (as_due, eq-eqb table 0 e, at 0 (omega arith), at 1 (omega arith), rule_at e, h)
 
-    pub line-1 :
+    pub line_1 :
         table ≡ 1 →
         item_line (slot fields 0) (slot fields 1) (slot fields 2) (slot fields 3) n ≡ line_in table heading (take count fields) n
     unfolding line_in values_in
-    line-1 e =
+    line_1 e =
         let k = names_1 table heading e in
         rw (as_due, e, at 0 (omega arith), at 1 (omega arith), at 2 (omega arith), at 3 (omega arith))
 
@@ -401,7 +401,7 @@ module _ (table heading : ℕ) (fields : List Field) (count n : ℕ) (few : coun
         go true w = at j (omega (arith, names_values table heading e (eqb-true heading 1 w)))
         go false w = refl
 
-    pub line-2 :
+    pub line_2 :
         table ≡ 2 →
         (b l w : Field) →
         b ≡ value_field heading (slot fields 3) →
@@ -409,7 +409,7 @@ module _ (table heading : ℕ) (fields : List Field) (count n : ℕ) (few : coun
         w ≡ value_field heading (slot fields 5) →
         step_line heading (slot fields 0) (slot fields 1) (slot fields 2) b l w n ≡ line_in table heading (take count fields) n
     unfolding line_in values_in
-    line-2 e b l w eb el ew =
+    line_2 e b l w eb el ew =
         let k = names_three table heading e in
         rw (
           as_due,
@@ -427,13 +427,13 @@ module _ (table heading : ℕ) (fields : List Field) (count n : ℕ) (few : coun
           ew,
         )
 
-    pub line-3 :
+    pub line_3 :
         (table ≡ 0 → ⊥) →
         (table ≡ 1 → ⊥) →
         (table ≡ 2 → ⊥) →
         act_line (slot fields 0) (slot fields 1) (slot fields 2) n ≡ line_in table heading (take count fields) n
     unfolding line_in values_in
-    line-3 a b c =
+    line_3 a b c =
         let k = names_3 table heading a b c in
         rw (
           as_due,

@@ -94,13 +94,13 @@ module _ (table fields n : ℕ) where
       let both = and_parts (leb (value_in i) 255) (item_in_range (listed (value_in b) (value_in l) (value_in w))) r in
       (e, leb-true (value_in i) 255 both.0, both.1))
 
-  step-says :
+  step_says :
       (heading : ℕ) (kind item minutes blocks load write : Field) →
       table ≡ 2 →
       3 ≤ fields →
       Says table fields n (step_line heading kind item minutes blocks load write n)
   unfolding step_line
-  step-says heading kind item minutes blocks load write e f =
+  step_says heading kind item minutes blocks load write e f =
       judged_says table fields (steps_shape kind x.kind item minutes blocks load write) (range_refusal x) (Step (step_of x)) n
       (λ z. (e, f, free_range (numbers_of (step_of x)) (range_means x z)))
     where
@@ -143,7 +143,7 @@ line_says table heading fs n = go as_due (eqb table 0) (eqb table 1) (eqb table 
     go true false true r ew ep eq er = item_says table (length fs) n _ _ _ _ (eqb-true table 1 eq)
     go true false false true ew ep eq er =
         let t = eqb-true table 2 er in
-        step-says table (length fs) n heading _ _ _ _ _ _ t (omega (arith, counted ew, names_three table heading t))
+        step_says table (length fs) n heading _ _ _ _ _ _ t (omega (arith, counted ew, names_three table heading t))
     go true false false false ew ep eq er =
         let x = eqb-false table 0 ep in
         let y = eqb-false table 1 eq in

@@ -466,14 +466,14 @@ module _ (heading : ℕ) (k f g b l w : Field) (n : ℕ) (s : Step) where
   abbrev values : Numbers
   values = numbers_from (value_in k) (value_in f) (value_in g) (value_in b) (value_in l) (value_in w)
 
-  shaped-fields :
+  shaped_fields :
       (t : Bool) →
       is_letter k ≡ true →
       step_shape letter f g b l w ≡ true →
       in_range (numbers_under heading values) ≡ true →
       k ∷ f ∷ g ∷ last_fields t b l w ≡ fields_under t (numbers_under heading values)
   unfolding step_shape
-  shaped-fields t a h r =
+  shaped_fields t a h r =
       let named = not (eqb letter 76) in
       let timed = eqb letter 87 in
       let new = eqb letter 65 in
@@ -501,7 +501,7 @@ module _ (heading : ℕ) (k f g b l w : Field) (n : ℕ) (s : Step) where
           let same : step_of (numbers_under heading values) ≡ s = cc in
           let free = eqb-true (range_under heading values) 0 er in
           let near = free_range (numbers_under heading values) free in (
-            shaped-fields t ep eq near ∙ same_fields t (numbers_under heading values) near ∙ ap (λ (x : Step). fields_under t (numbers_of x)) same,
+            shaped_fields t ep eq near ∙ same_fields t (numbers_under heading values) near ∙ ap (λ (x : Step). fields_under t (numbers_of x)) same,
             ap (ranged heading) (sym same) ∙ step_ranged heading values free,
           )
       go true true false ep eq er e = absurd (no_step _ s e)

@@ -111,9 +111,9 @@ module _ (heading : ℕ) (n : Numbers) where
       omega (arith, length-append (digits_of n.item) (text_of " " ++ (digits_of n.minutes ++ no_values heading)), length-append (digits_of n.minutes) (no_values heading))
       ∙ ap (λ (s : Step). length (step_text heading s)) (sym (step_write n e))
 
-  pub named-line :
+  pub named_line :
       n.kind ≢ 76 → n.kind ≢ 87 → n.kind ≢ 65 → in_range n ≡ true → 4 + length (digits_of n.item) + length (no_values heading) ≡ length (step_text heading (step_of n))
-  named-line l w a r =
+  named_line l w a r =
       omega (arith, length-append (digits_of n.item) (text_of " -" ++ no_values heading)) ∙ ap length (named_step heading n l w a r)
 
 -- the digits of each number
@@ -238,21 +238,21 @@ module _ (heading : ℕ) where
   torn_at at = fault (OutOfRange (told_line (at / 24 + 2)))
 
   -- no whole step is left
-  rest-few :
+  rest_few :
       (list : List ℕ) (at : ℕ) → length list < at + 24 →
       rest_at at list ≡ cond (eqb (length (drop at list)) 0) (steps heading []) (torn_at at)
   unfolding lent_from
-  rest-few list at h =
+  rest_few list at h =
       let none : (length list - at) / 24 ≡ 0 = omega arith in
       ap (λ (w : ℕ). lent_from heading w (at / 24 + 2) (drop at list)) none
 
   rest_end : (list : List ℕ) (at : ℕ) → length list ≤ at → rest_at at list ≡ steps heading []
   rest_end list at h =
-      rest-few list at (omega arith) ∙ ap (λ (t : Bool). cond t (steps heading []) (torn_at at)) (eq-eqb (length (drop at list)) 0 (omega (arith, length-drop at list)))
+      rest_few list at (omega arith) ∙ ap (λ (t : Bool). cond t (steps heading []) (torn_at at)) (eq-eqb (length (drop at list)) 0 (omega (arith, length-drop at list)))
 
   rest_torn : (list : List ℕ) (at : ℕ) → at < length list → length list < at + 24 → rest_at at list ≡ torn_at at
   rest_torn list at h k =
-      rest-few list at k ∙ ap (λ (t : Bool). cond t (steps heading []) (torn_at at)) (ne_eqb (length (drop at list)) 0 (λ e. omega (arith, length-drop at list)))
+      rest_few list at k ∙ ap (λ (t : Bool). cond t (steps heading []) (torn_at at)) (ne_eqb (length (drop at list)) 0 (λ e. omega (arith, length-drop at list)))
 
   -- ## Whole lists
 
@@ -351,7 +351,7 @@ module _ (heading : ℕ) where
                 ∙ ap (λ (m : ℕ). size_from (b + m) (rest_at (at + 24) list)) (sym (e ∙ ap (λ (y : Numbers). length (step_text heading (step_of y))) is));
           }
 
-      pub counted-fault :
+      pub counted_fault :
           {number : ℕ} {line : ℕ} →
           number ≡ range_refusal x →
           number ≢ 0 →
@@ -359,7 +359,7 @@ module _ (heading : ℕ) where
           (r : Refusal) →
           told r ≡ telling number line 0 →
           Not r ≡ text_size (lent_under heading list)
-      counted-fault {number} {line} e f l r t =
+      counted_fault {number} {line} e f l r t =
           let same : number ≡ range_at heading at list = e ∙ range_is in
           ap Not (refusal_is r (telling number line 0) t ∙ (λ j. refusal_from (telling (same j) (l j) 0)))
           ∙ sym (g.leads ∙ ap (size_from b) (rest_fault list at more (λ z. f (same ∙ z))))
@@ -369,10 +369,10 @@ module _ (heading : ℕ) where
     counting_more h = omega (arith, g.even)
 
     -- and behind it none, but bytes of one
-    pub counted-torn :
+    pub counted_torn :
         {whole line : ℕ} → whole ≡ length list - length list % 24 → whole ≤ at → whole < length list → line ≡ told_line (whole / 24 + 2) →
         Not (OutOfRange line) ≡ text_size (lent_under heading list)
-    counted-torn {whole} e h k l =
+    counted_torn {whole} e h k l =
         let here : whole ≡ at = omega (arith, g.even, g.within) in
         ap (λ (n : ℕ). Not (OutOfRange n)) (l ∙ ap (λ (w : ℕ). told_line (w / 24 + 2)) here)
         ∙ sym (g.leads ∙ ap (size_from b) (rest_torn list at (omega arith) (omega arith)))
@@ -407,10 +407,10 @@ module _ (heading : ℕ) where
         go (no e) = absurd (false≢true (sym (ap is_whole (rest_fault list at more e)) ∙ w))
 
     -- and what is behind it is whole too
-    whole-next :
+    whole_next :
         at + 24 ≤ length list →
         (rest_at at list ≡ ahead (step_at heading at list) (rest_at (at + 24) list)) × (is_whole (rest_at (at + 24) list) ≡ true)
-    whole-next more =
+    whole_next more =
         let e = rest_next list at more (whole_range more) in
         (e, sym (whole_ahead (step_at heading at list) (rest_at (at + 24) list)) ∙ sym (ap is_whole e) ∙ w)
 
@@ -438,7 +438,7 @@ module _ (heading : ℕ) where
         TextGoing (step_lines heading (steps_of (lent_under heading list))) before to
         (step_text heading (step_at heading at list) ++ step_lines heading (steps_of (rest_at (at + 24) list))) page
     line_next =
-        let n = whole-next list at g.whole more in
+        let n = whole_next list at g.whole more in
         go_as (ap (λ (x : Logged). step_lines heading (steps_of x)) n.0 ∙ lines_ahead (step_at heading at list) (rest_at (at + 24) list) n.1) g.going
 
     -- and has room
@@ -451,23 +451,23 @@ module _ (heading : ℕ) where
         }
 
     -- and is written
-    pub putting-next :
+    pub putting_next :
         {w : ℕ} {ys : List ℕ} →
         w ≡ length (step_text heading (step_at heading at list)) →
         ys ≡ text_over (step_text heading (step_at heading at list)) (mid_of to (length page - to) page) →
         Putting list before (at + 24) (to + w) (put_mid to (length page - to) page ys)
-    putting-next l e =
+    putting_next l e =
         record {
           within = more;
-          whole = (whole-next list at g.whole more).1;
+          whole = (whole_next list at g.whole more).1;
           going = go_next room (step_text heading (step_at heading at list)) (step_lines heading (steps_of (rest_at (at + 24) list))) line_next l e;
         }
 
   -- all lines are written
-  lines-put :
+  lines_put :
       (x : Logged) (before after : List ℕ) → Under x → is_whole x ≡ true → after ≡ text_over (step_lines heading (steps_of x)) before → LinesOn x before after
-  lines-put (steps f ss) before after u w e = rw u e
-  lines-put (fault r) before after u w e = absurd (false≢true w)
+  lines_put (steps f ss) before after u w e = rw u e
+  lines_put (fault r) before after u w e = absurd (false≢true w)
 
   pub lines_end :
       (list before : List ℕ) {at to : ℕ} {page : List ℕ} →
@@ -475,7 +475,7 @@ module _ (heading : ℕ) where
   unfolding step_lines
   lines_end list before {at} {to} {page} f g h =
       let left : step_lines heading (steps_of (rest_at at list)) ≡ [] = ap (λ (x : Logged). step_lines heading (steps_of x)) (rest_end list at h) in
-      lines-put (lent_under heading list) before page (list_under list) (ap is_whole f.whole) (go_end (go_as left g.going)).1
+      lines_put (lent_under heading list) before page (list_under list) (ap is_whole f.whole) (go_end (go_as left g.going)).1
 
   pub lines_on : (x : Logged) (before after : List ℕ) → Under x → LinesOn x before after → after ≡ text_over (step_lines heading (steps_of x)) before
   lines_on (steps f ss) before after u l = rw (← u) l

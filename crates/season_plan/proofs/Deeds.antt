@@ -115,7 +115,7 @@ module _ (xs : List ℕ) (p : Copies) (i : ℕ) (l : i < p.n) (b : i < length p.
   lose_none r m count marks used sum = gone r no_copy (copy_none (get_or p.marks i 0) m) count marks (omega arith) (omega arith)
 
   -- nor for a clean one
-  pub lose-clean :
+  pub lose_clean :
       (r : Copies) →
       PlanReady xs p →
       get_or p.marks i 0 ≡ 1 →
@@ -124,7 +124,7 @@ module _ (xs : List ℕ) (p : Copies) (i : ℕ) (l : i < p.n) (b : i < length p.
       r.used ≡ p.used - (item_in xs i).blocks →
       r.paid ≡ p.paid →
       Loses xs p i r
-  lose-clean r ready m count marks used sum =
+  lose_clean r ready m count marks used sum =
       gone r clean_copy (copy_clean (get_or p.marks i 0) m) count marks (omega (arith, used_some ready (omega arith))) (omega arith)
 
   -- a dirty one costs its write cost
@@ -168,7 +168,7 @@ module _ (xs : List ℕ) (p : Copies) (i : ℕ) (l : i < p.n) (b : i < length p.
       (sym (holds_it cat q paid st m)) e
 
   -- an item not held comes, clean, at its load cost
-  pub fetch-does :
+  pub fetch_does :
       (r : Did) →
       get_or p.marks i 0 ≡ 0 →
       r.number ≡ 0 →
@@ -177,7 +177,7 @@ module _ (xs : List ℕ) (p : Copies) (i : ℕ) (l : i < p.n) (b : i < length p.
       r.copies.used ≡ p.used + (item_in xs i).blocks →
       r.copies.paid ≡ p.paid + (item_in xs i).load →
       Fetches xs p i r
-  fetch-does r m number count marks used sum cat s j paid q items st =
+  fetch_does r m number count marks used sum cat s j paid q items st =
       let below : i < length cat = omega (arith, st.count) in
       let none : has (copy_at q i) ≡ false = holds_not cat q paid st m in
       subst

@@ -16,7 +16,7 @@ use Rattle.season_plan.specs.declared.Did.{Did}
 use Rattle.season_plan.specs.declared.Acted.{Acted}
 use Rattle.season_plan.specs.Inner.{hitting, Serves, Actable, RunsActs, ActsWithin}
 use Rattle.season_plan.proofs.Acting.{Acting, acting_starts, acting_ends, acting_stops}
-use Rattle.season_plan.proofs.Serving.{serve_read, serve-write}
+use Rattle.season_plan.proofs.Serving.{serve_read, serve_write}
 
 -- the acts before the step are done, and this is what the plan has
 abbrev pub acted : Copies → ℕ → Acted
@@ -114,7 +114,7 @@ hit_serves xs h p q kind i known t is hit m is_m count marks used paid = go (eqb
     marked u e = marks ∙ ap (set p.marks i) (is_m ∙ ap (λ v. cond v 2 mark) e)
 
     go : (u : Bool) → eqb kind 87 ≡ u → Serves xs h p kind i (stood q)
-    go true e = serve-write xs h p kind i known (stood q) held found.1 refl (eqb-true kind 87 e) placed count (marked true e) used paid
+    go true e = serve_write xs h p kind i known (stood q) held found.1 refl (eqb-true kind 87 e) placed count (marked true e) used paid
     go false e =
         let isR : kind ≡ 82 = eqb-true kind 82 (first_of (eqb kind 82) (eqb kind 87) found.2 e) in
         serve_read xs h p kind i known (stood q) held found.1 refl

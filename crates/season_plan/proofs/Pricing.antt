@@ -273,9 +273,9 @@ module _ (x : Seen) (xs calls acts : List ℕ) (pre : Priceable x xs calls acts)
         pricing_act_number e = acts_number pre.text s (acts_of pre.text s (copies_in p)) p.paid b (did pre.text pre.holds pre.sound) e
 
         -- 11 or 12, with the act's line and item
-        pub pricing-act-fails :
+        pub pricing_act_fails :
             (line : ℕ) (y : Refusal) → told y ≡ telling b.number line (get_or acts (3 * b.next + 2) 0) → b.number ≢ 0 → line ≡ 9 + x.n + x.steps + b.next → PricedAs x xs calls acts (Refused y)
-        pricing-act-fails line y tells e is v h sound =
+        pricing_act_fails line y tells e is v h sound =
             subst (λ (z : Priced). PricedBy v z (Refused y)) (unrolled v h sound)
             (act_faulty v s (acts_of v s (copies_in p)) (step_on v s)
             (log_from v (suc s)) p.paid line (get_or acts (3 * b.next + 2) 0) b y tells (did v h sound) e
@@ -323,9 +323,9 @@ module _ (x : Seen) (xs calls acts : List ℕ) (pre : Priceable x xs calls acts)
                 (serves pre.text pre.holds (copies_in b.copies) b.copies.paid (ready pre.text pre.holds pre.sound)) f
 
             -- 14 or 13, with the step's line and item
-            pub pricing-step-fails :
+            pub pricing_step_fails :
                 (line : ℕ) (y : Refusal) → told y ≡ telling r.number line (get_or calls (7 * s + 2) 0) → r.number ≢ 0 → line ≡ 7 + x.n + s → PricedAs x xs calls acts (Refused y)
-            pricing-step-fails line y tells f is v h sound =
+            pricing_step_fails line y tells f is v h sound =
                 subst (λ (z : Priced). PricedBy v z (Refused y)) (unrolled v h sound)
                 (step_faulty v s (catalog_before v (suc s)) (acts_of v s (copies_in p)) (step_on v s)
                 (log_from v (suc s)) p.paid line (step_item (step_at v.steps s)) b r y
@@ -365,14 +365,14 @@ module _ (x : Seen) (xs calls acts : List ℕ) (pre : Priceable x xs calls acts)
                 }
 
     -- the closing flush is paid
-    pub pricing-ends :
+    pub pricing_ends :
         (o total : ℕ) →
         x.steps ≤ s →
         ((c : Catalog) → HasItems c xs → p.n ≡ length c → o ≡ owed c (copies_in p)) →
         total ≡ p.paid + o →
         PricedAs x xs calls acts (Cost total)
     unfolding price_from
-    pricing-ends o total l e is v h sound =
+    pricing_ends o total l e is v h sound =
         subst (λ (z : Priced). PricedBy v z (Cost total))
         (ap (λ t. priced_with p.paid (price_from (catalog_before v s) v.h (plan_of v.acts) s t (copies_in p)))
         (sym (drop_of_length-le v.steps (let z : length v.steps ≤ s = omega (arith, h.step_count) in z)))

@@ -204,7 +204,7 @@ module _ (xs : List ℕ) (h : ℕ) (p : Copies) (kind i : ℕ) (known : kind ≢
           go cat (Retire j) s paid q items k e hold = absurd (not_q k)
 
       -- a write makes its item dirty
-      pub serve-write :
+      pub serve_write :
           kind ≡ 87 →
           i < length p.marks →
           r.copies.n ≡ p.n →
@@ -212,7 +212,7 @@ module _ (xs : List ℕ) (h : ℕ) (p : Copies) (kind i : ℕ) (known : kind ≢
           r.copies.used ≡ p.used →
           r.copies.paid ≡ p.paid →
           Serves xs h p kind i r
-      serve-write is_w b count marks used sum = by_capacity true fits go
+      serve_write is_w b count marks used sum = by_capacity true fits go
         where
           go : Ends true r
           go cat (Write j minutes) s paid q items k e hold =
@@ -228,7 +228,7 @@ module _ (xs : List ℕ) (h : ℕ) (p : Copies) (kind i : ℕ) (known : kind ≢
           go cat (Retire j) s paid q items k e hold = absurd (let z : kind ≡ 81 = k in omega arith)
 
       -- a flush pays what is owed and cleans
-      pub serve-flush :
+      pub serve_flush :
           (paying : Copies) (o : ℕ) →
           kind ≡ 76 →
           ((cat : Catalog) → HasItems cat xs → p.n ≡ length cat → o ≡ owed cat (copies_in p)) →
@@ -238,7 +238,7 @@ module _ (xs : List ℕ) (h : ℕ) (p : Copies) (kind i : ℕ) (known : kind ≢
           paying.paid ≡ p.paid + o →
           Cleans paying r.copies →
           Serves xs h p kind i r
-      serve-flush paying o is_l owes count marks used sum cleans = by_capacity true fits go
+      serve_flush paying o is_l owes count marks used sum cleans = by_capacity true fits go
         where
           go : Ends true r
           go cat Flush s paid q items k e hold =
@@ -249,14 +249,14 @@ module _ (xs : List ℕ) (h : ℕ) (p : Copies) (kind i : ℕ) (known : kind ≢
           go cat (Retire j) s paid q items k e hold = absurd (let z : kind ≡ 81 = k in omega arith)
 
       -- an arrival counts one item more
-      pub serve-arrive :
+      pub serve_arrive :
           kind ≡ 65 →
           r.copies.n ≡ p.n + 1 →
           r.copies.marks ≡ p.marks →
           r.copies.used ≡ p.used →
           r.copies.paid ≡ p.paid →
           Serves xs h p kind i r
-      serve-arrive is_a count marks used sum = by_capacity true fits go
+      serve_arrive is_a count marks used sum = by_capacity true fits go
         where
           go : Ends true r
           go cat (Arrive j b l w) s paid q items k e hold = (number, arrived cat b l w p r.copies q paid hold count marks used sum)

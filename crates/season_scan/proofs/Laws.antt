@@ -31,7 +31,7 @@ use Rattle.line_fields.specs.Inner.{before}
 use Rattle.season_tables.specs.Tables.{Tables, Sofar, OrRefusal, gives, stops, goes_on, may_end, must_end, named_by, next_table, with_sizes, with_item, with_step, with_act, in_turn, takes, read_line, at_end, read_from}
 use Rattle.season_tables.specs.Inner.{is_blank, is_sized, wants_values}
 use Rattle.season_scan.specs.Inner.{onward, read_until}
-use Rattle.season_tables.proofs.Leads.{leads-values}
+use Rattle.season_tables.proofs.Leads.{leads_values}
 use Rattle.line_fields.proofs.Pieces.{before_le, before_take, split_last, split_more, split_some, fields_last, fields_more}
 use Rattle.season_lines.proofs.Pieces.{Says, line_says}
 
@@ -95,7 +95,7 @@ pub malformed_line :
     line_in v.stage.table v.stage.heading (fields_of l) n ≡ Refused (Malformed n) →
     read_line upto v l n ≡ stops (Malformed n)
 unfolding takes
-malformed_line upto v l n h e = leads-values upto v l n h ∙ rw e
+malformed_line upto v l n h e = leads_values upto v l n h ∙ rw e
 
 -- ## What a line that leads on adds
 

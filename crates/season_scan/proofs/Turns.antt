@@ -174,14 +174,14 @@ module _ (upto : ℕ) (s catalog₀ calls₀ acts₀ catalog calls acts : List �
         (omega (arith, h.holds.act_count)) led in
         (rw all led, (rw all few, leaves r same (until_end upto n at s sofar e)))
 
-    pub no-line-feed :
+    pub no_line_feed :
         (r : Scanned) →
         at < length s →
         length s ≤ at + length (before 10 (drop at s)) →
         r.verdict ≡ Refused (Malformed n) →
         r.seen ≡ q →
         ScanAnswers upto s catalog₀ calls₀ acts₀ r catalog calls acts
-    no-line-feed r a e f same =
+    no_line_feed r a e f same =
         let size = length-drop at s in
         let all : reading_to upto s ≡ stops (Malformed n) = sym h.left ∙ no_feed upto n (drop at s) sofar (omega arith) (omega arith) in
         refuses upto s catalog₀ calls₀ acts₀ catalog calls acts r (Malformed n) all f
@@ -194,7 +194,7 @@ filled : (fields : List Field) (count names : ℕ) → length fields ≡ 6 → c
 filled fields count names e h m = length-take-le count fields (omega arith)
 
 module _ (upto : ℕ) (s : List ℕ) (p : Stage) (q : Seen) (at end names : ℕ) where
-  pub field-none :
+  pub field_none :
       (fields : List Field) (more : Bool) →
       length fields ≡ 6 →
       names ≡ names_in p.table p.heading →
@@ -202,7 +202,7 @@ module _ (upto : ℕ) (s : List ℕ) (p : Stage) (q : Seen) (at end names : ℕ)
       at ≤ end →
       more ≡ due upto p q at end →
       Fielded upto s p q at end names fields 0 at more
-  field-none fields more k hn hm h e =
+  field_none fields more k hn hm h e =
       record {
         slots = k;
         heading = hn;
@@ -236,13 +236,13 @@ module _ (upto : ℕ) (s : List ℕ) (p : Stage) (q : Seen) (at end names : ℕ)
           go zero e = absurd (false≢true (sym o ∙ ap is_empty (e ∙ ap held_field no_bytes)))
           go (suc m) e = omega arith
 
-      pub field-more :
+      pub field_more :
           (more : Bool) →
           more ≡ ltb (i + m) end →
           count < names →
           is_empty field ≡ false →
           Fielded upto s p q at end names (set fields count field) (count + 1) (i + m + 1) more
-      field-more more e h o =
+      field_more more e h o =
           let g = f.going refl in
           let some = some_byte o in
           let rest = take (end - i) (drop i s) in
@@ -330,35 +330,35 @@ module _ (upto : ℕ) (s catalog₀ calls₀ acts₀ catalog calls acts : List �
         sym h.left ∙ line_first upto n (drop at s) here (omega arith)
         ∙ rw (drop-drop (length (before 10 (drop at s)) + 1) at s, behind_is, first_is, ← add-one n)
 
-    until-is :
+    until_is :
         read_until upto n (split 10 (drop at s)) here
         ≡ onward here (read_line upto here (line_within s at end) n) (read_until upto (n + 1) (split 10 (drop (end + 1) s)))
-    until-is =
+    until_is =
         let size = length-drop at s in
         until_first upto n (drop at s) here (omega arith)
         ∙ rw (drop-drop (length (before 10 (drop at s)) + 1) at s, behind_is, first_is, ← add-one n)
 
     -- the line stops the reading
-    stops-here :
+    stops_here :
         (r : Scanned) (x : Refusal) →
         read_line upto here (line_within s at end) n ≡ stops x →
         r.verdict ≡ Refused x →
         r.seen ≡ q →
         ScanAnswers upto s catalog₀ calls₀ acts₀ r catalog calls acts
-    stops-here r x is f same =
+    stops_here r x is f same =
         refuses upto s catalog₀ calls₀ acts₀ catalog calls acts r x (next_is ∙ rw is) f
-        (leaves upto s catalog₀ calls₀ acts₀ catalog calls acts p q at n h r same (until-is ∙ rw is))
+        (leaves upto s catalog₀ calls₀ acts₀ catalog calls acts p q at n h r same (until_is ∙ rw is))
 
     -- a field that no line has here
-    pub malformed-here :
+    pub malformed_here :
         (r : Scanned) →
         due upto p q at end ≡ true →
         line_in p.table p.heading (fields_of (line_within s at end)) n ≡ Torn (Malformed n) →
         r.verdict ≡ Refused (Malformed n) →
         r.seen ≡ q →
         ScanAnswers upto s catalog₀ calls₀ acts₀ r catalog calls acts
-    malformed-here r wants bad =
-        stops-here r (Malformed n)
+    malformed_here r wants bad =
+        stops_here r (Malformed n)
         (malformed_line upto here (line_within s at end) n (wants_is ∙ wants) bad)
 
     module _ (names : ℕ) (fields : List Field) (count i : ℕ) (f : Fielded upto s p q at end names fields count i false) where
@@ -409,7 +409,7 @@ module _ (upto : ℕ) (s catalog₀ calls₀ acts₀ catalog calls acts : List �
                   LeadsTo y r catalog_then calls_then acts_then →
                   ScanAnswers upto s catalog₀ calls₀ acts₀ r.scanned catalog calls acts
               go (gives w) u k = absurd (not_refused r.scanned.verdict x k.1.0 e)
-              go (stops y) u k = stops-here r.scanned y u k (kept.kept.refused x e).same_seen
+              go (stops y) u k = stops_here r.scanned y u k (kept.kept.refused x e).same_seen
 
           pub line_taken :
               AsLong catalog calls acts catalog_then calls_then acts_then →
@@ -430,7 +430,7 @@ module _ (upto : ℕ) (s catalog₀ calls₀ acts₀ catalog calls acts : List �
                   let table : r.stage.table ≡ w.stage.table = ap (λ (z : Stage). z.table) k.0 in
                   let there : ◌≡◌ {A = Sofar} w (record { stage = r.stage; read = w.read }) = ap (λ (z : Stage). record { stage = z; read = w.read }) (sym k.0) in
                   let rest = split 10 (drop (end + 1) s) in
-                  let until-then : read_until upto n (split 10 (drop at s)) here ≡ read_until upto (n + 1) rest w = until-is ∙ rw u in
+                  let until-then : read_until upto n (split 10 (drop at s)) here ≡ read_until upto (n + 1) rest w = until_is ∙ rw u in
                   let roomy = h.roomy in
                   record {
                     within = omega arith;

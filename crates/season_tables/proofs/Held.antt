@@ -181,7 +181,7 @@ module _ (q : Seen) (catalog : List ℕ) (i b l w line : ℕ) (r : Scanned) wher
       more : (p : Present) → Tells v.catalog p → Tells grown (counted (i + 1) p)
       more p k = tells_more v.catalog p (i + 1) b l w (omega (arith, k.count, h.item_count)) k
 
-  pub item-past :
+  pub item_past :
       (after : List ℕ) →
       item_room ≤ length catalog →
       i ≤ 255 →
@@ -189,7 +189,7 @@ module _ (q : Seen) (catalog : List ℕ) (i b l w line : ℕ) (r : Scanned) wher
       r.seen ≡ itemized q i →
       after ≡ sets catalog (5 * i) (item_bytes (listed b l w)) →
       KeepsPast (5 * r.seen.present.n) q catalog r after
-  item-past after long few t s put =
+  item_past after long few t s put =
       taken_past (5 * r.seen.present.n) q catalog r after t
       (ap (λ (z : Seen). drop (5 * z.present.n) after) s
       ∙ ap (drop (5 * (i + 1))) put
@@ -235,14 +235,14 @@ module _ (q : Seen) (catalog calls : List ℕ) (s : Step) (line number : ℕ) (e
       let v = t.line.read in
       step_range number f v.k (items_now v) s (same_number t.acts v t.line.holds)
 
-  pub step-refuses :
+  pub step_refuses :
       (r : Scanned) (x : Refusal) →
       number ≢ 0 →
       told x ≡ telling number line (step_item s) →
       r.verdict ≡ Refused x →
       NotesStep q catalog calls (λ v. takes v (StepLine s) line) r catalog calls
   unfolding takes
-  step-refuses r x f tells t acts v h =
+  step_refuses r x f tells t acts v h =
       let same = same_number acts v h in
       rw (sym same, ne_eqb number 0 f)
       (t ∙ ap Refused (refusal_one x _ (tells ∙ sym (step_told number f v.k (items_now v) s same line (step_item s)))))
@@ -264,7 +264,7 @@ module _ (q : Seen) (catalog calls : List ℕ) (s : Step) (line number : ℕ) (e
         pub step_items_past : drop (5 * p.n) (with_arrival s catalog) ≡ drop (5 * p.n) catalog
         step_items_past = rw now_tells.count now_stored.past
 
-      pub step-noted :
+      pub step_noted :
           (r : Scanned) (catalog_after calls-after : List ℕ) →
           7 * q.steps + 7 ≤ length calls →
           r.verdict ≡ Taken →
@@ -273,7 +273,7 @@ module _ (q : Seen) (catalog calls : List ℕ) (s : Step) (line number : ℕ) (e
           calls-after ≡ put_at calls (7 * q.steps) (call_numbers (s ∷ [])) →
           NotesStep q catalog calls (λ v. takes v (StepLine s) line) r catalog_after calls-after
       unfolding takes
-      step-noted r catalog_after calls-after places t y items put acts v h =
+      step_noted r catalog_after calls-after places t y items put acts v h =
           let after = now_stored acts v h in
           let known = now_tells acts v h in
           let more : catalog_next (items_now v) s ≡ catalog_after v.catalog (v.steps ++ (s ∷ [])) = sym (after_more v.catalog v.steps s) in
@@ -412,19 +412,19 @@ module _ (q : Seen) (calls acts : List ℕ) (place : ℕ) (act : Act) (line : �
       number_is : (catalog : List ℕ) (v : Tables) → Holds q catalog calls acts v → number ≡ if_known (catalog_before v place) (act_item act) 0
       number_is catalog v h = act_number q calls acts place act f p caught number k catalog v h
 
-      pub act-refuses :
+      pub act_refuses :
           (x : Refusal) →
           number ≢ 0 →
           told x ≡ telling number line (act_item act) →
           r.verdict ≡ Refused x →
           NotesAct q calls acts (λ v. takes v (ActLine place act) line) r acts
       unfolding takes
-      act-refuses x some tells t catalog v h =
+      act_refuses x some tells t catalog v h =
           let same = number_is catalog v h in
           rw (in_turn_lem catalog v h e f, sym same, ne_eqb number 0 some)
           (t ∙ ap Refused (refusal_one x _ (tells ∙ sym (act_told number some (catalog_before v place) (act_item act) same line (act_item act)))))
 
-      pub act-noted :
+      pub act_noted :
           (after : List ℕ) →
           number ≡ 0 →
           3 * q.acts + 3 ≤ length acts →
@@ -433,7 +433,7 @@ module _ (q : Seen) (calls acts : List ℕ) (place : ℕ) (act : Act) (line : �
           after ≡ put_at acts (3 * q.acts) (act_noted place act) →
           NotesAct q calls acts (λ v. takes v (ActLine place act) line) r after
       unfolding takes
-      act-noted after none room t s put catalog v h =
+      act_noted after none room t s put catalog v h =
           rw (in_turn_lem catalog v h e f, sym (number_is catalog v h), none)
           (goes r (acted q place p) catalog calls after _ t s
           (record {
@@ -457,14 +457,14 @@ module _ (q : Seen) (calls acts : List ℕ) (place : ℕ) (act : Act) (line : �
             passed = omega arith;
           }))
 
-      pub act-past :
+      pub act_past :
           (after : List ℕ) →
           3 * q.acts + 3 ≤ length acts →
           r.verdict ≡ Taken →
           r.seen ≡ acted q place p →
           after ≡ put_at acts (3 * q.acts) (act_noted place act) →
           KeepsPast (3 * r.seen.acts) q acts r after
-      act-past after room t s put =
+      act_past after room t s put =
           taken_past (3 * r.seen.acts) q acts r after t
           (ap (λ (z : Seen). drop (3 * z.acts) after) s
           ∙ ap (drop (3 * (q.acts + 1))) put

@@ -48,12 +48,12 @@ module _ (q : Seen) (catalog calls acts : List ℕ) (r : Scanned) where
         refused = λ x t. let s = k.1 x t in record { same_seen = s.0; same_items = s.1; same_steps = refl; same_acts = refl };
       }
 
-  pub keeps-steps :
+  pub keeps_steps :
       (catalog_after calls-after : List ℕ) →
       KeepsPast (5 * r.seen.present.n) q catalog r catalog_after →
       KeepsPast (7 * r.seen.steps) q calls r calls-after →
       Keeps q catalog calls acts r catalog_after calls-after acts
-  keeps-steps catalog_after calls-after j k =
+  keeps_steps catalog_after calls-after j k =
       record {
         past = record { past_items = j.0; past_steps = k.0; past_acts = refl };
         refused = λ x t. let s = k.1 x t in record { same_seen = s.0; same_items = (j.1 x t).1; same_steps = s.1; same_acts = refl };

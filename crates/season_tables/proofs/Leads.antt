@@ -60,26 +60,26 @@ must_may upto table k = go (eqb table 0)
 
 -- where each leads
 module _ (upto : ℕ) (v : Sofar) (l : List ℕ) (n : ℕ) where
-  pub leads-names :
+  pub leads_names :
       v.stage.named ≡ false →
       read_line upto v l n ≡ goes_on (named_by v.stage (heading_of v.stage.table l) n) (λ q. gives (record { stage = q; read = v.read }))
   unfolding read_line
-  leads-names e = unnamed v.stage.named _ _ e
+  leads_names e = unnamed v.stage.named _ _ e
 
-  pub leads-values :
+  pub leads_values :
       wants_values upto v.stage v.read.k (length l) ≡ true →
       read_line upto v l n
       ≡ goes_on (takes v.read (line_in v.stage.table v.stage.heading (fields_of l) n) n) (λ t. gives (record { stage = v.stage; read = t }))
   unfolding read_line wants_values
-  leads-values e =
+  leads_values e =
       valued v.stage.named (cond (eqb (length l) 0) (may_end upto v.stage.table v.read.k) false) (must_end v.stage.table v.read.k) _ _ _ _ e
 
-  pub leads-blank :
+  pub leads_blank :
       v.stage.named ≡ true →
       wants_values upto v.stage v.read.k (length l) ≡ false →
       read_line upto v l n ≡ goes_on (cond (eqb (length l) 0) (gives (next_table v.stage)) (stops (Malformed n))) (λ q. gives (record { stage = q; read = v.read }))
   unfolding read_line wants_values
-  leads-blank e f =
+  leads_blank e f =
       blank v.stage.named (eqb (length l) 0) (may_end upto v.stage.table v.read.k) (must_end v.stage.table v.read.k) _ _ _ _
       (must_may upto v.stage.table v.read.k) e f
       ∙ moving (eqb (length l) 0)
@@ -138,15 +138,15 @@ module _ (upto : ℕ) (p : Stage) (q : Seen) (catalog calls acts l : List ℕ) (
       same (gives to) e = (ap (λ (z : LineRead). z.scanned.seen) e, λ y t. absurd (not_refused _ y (ap (λ (z : LineRead). z.scanned.verdict) e) t))
       same (stops x) e = (ap (λ (z : LineRead). z.scanned.seen) e, λ y t. ap (λ (z : LineRead). z.stage) e)
 
-  pub lead-names :
+  pub lead_names :
       (names : Names) →
       p.named ≡ false →
       names ≡ heading_of p.table l →
       r ≡ moved p q (named_by p names n) →
       ReadsLine upto p q catalog calls acts l n r catalog calls acts × KeepsLine p q catalog calls acts r catalog calls acts
-  lead-names names e f so = (
+  lead_names names e f so = (
     λ v h.
-        subst (λ (x : OrRefusal Sofar). LeadsTo x r catalog calls acts) (sym (leads-names upto (record { stage = p; read = v }) l n e))
+        subst (λ (x : OrRefusal Sofar). LeadsTo x r catalog calls acts) (sym (leads_names upto (record { stage = p; read = v }) l n e))
         (moves (named_by p (heading_of p.table l) n) v (so ∙ ap (λ (x : Names). moved p q (named_by p x n)) f) h),
     moves_keeps (named_by p names n) so,
   )
@@ -154,7 +154,7 @@ module _ (upto : ℕ) (p : Stage) (q : Seen) (catalog calls acts l : List ℕ) (
   same_wants : (v : Tables) → Holds q catalog calls acts v → wants_values upto p v.k (length l) ≡ wants_values upto p q.k (length l)
   same_wants v h = ap (λ (k : ℕ). wants_values upto p k (length l)) (sym h.k)
 
-  pub lead-values :
+  pub lead_values :
       (fs : List Field) (line : Line) (catalog_after calls-after acts-after : List ℕ) →
       wants_values upto p q.k (length l) ≡ true →
       Looked upto p q.k l fs →
@@ -162,12 +162,12 @@ module _ (upto : ℕ) (p : Stage) (q : Seen) (catalog calls acts l : List ℕ) (
       r.stage ≡ p →
       LeadsFrom q catalog calls acts (λ v. takes v line n) r.scanned catalog_after calls-after acts-after →
       ReadsLine upto p q catalog calls acts l n r catalog_after calls-after acts-after
-  lead-values fs line catalog_after calls-after acts-after due looked g stays led v h =
+  lead_values fs line catalog_after calls-after acts-after due looked g stays led v h =
       let same : line ≡ line_in p.table p.heading (fields_of l) n =
       g ∙ ap (λ (z : List Field). line_in p.table p.heading z n) (looked due) ∙ held_line p.table p.heading (fields_of l) n in
       subst (λ (x : OrRefusal Sofar). LeadsTo x r catalog_after calls-after acts-after)
       (ap (λ (x : Line). goes_on (takes v x n) (λ t. gives (record { stage = p; read = t }))) same
-      ∙ sym (leads-values upto (record { stage = p; read = v }) l n (same_wants v h ∙ due)))
+      ∙ sym (leads_values upto (record { stage = p; read = v }) l n (same_wants v h ∙ due)))
       (go (takes v line n) (led v h))
     where
       go :
@@ -177,14 +177,14 @@ module _ (upto : ℕ) (p : Stage) (q : Seen) (catalog calls acts l : List ℕ) (
       go (gives w) k = (stays, k)
       go (stops x) k = k
 
-  pub lead-blank :
+  pub lead_blank :
       p.named ≡ true →
       wants_values upto p q.k (length l) ≡ false →
       r ≡ moved p q (cond (eqb (length l) 0) (gives (next_table p)) (stops (Malformed n))) →
       ReadsLine upto p q catalog calls acts l n r catalog calls acts × KeepsLine p q catalog calls acts r catalog calls acts
-  lead-blank e none so = (
+  lead_blank e none so = (
     λ v h.
-        subst (λ (x : OrRefusal Sofar). LeadsTo x r catalog calls acts) (sym (leads-blank upto (record { stage = p; read = v }) l n e (same_wants v h ∙ none)))
+        subst (λ (x : OrRefusal Sofar). LeadsTo x r catalog calls acts) (sym (leads_blank upto (record { stage = p; read = v }) l n e (same_wants v h ∙ none)))
         (moves (cond (eqb (length l) 0) (gives (next_table p)) (stops (Malformed n))) v so h),
     moves_keeps (cond (eqb (length l) 0) (gives (next_table p)) (stops (Malformed n))) so,
   )

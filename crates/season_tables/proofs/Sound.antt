@@ -273,13 +273,13 @@ module _ (u i fields n : ℕ) (v : Sofar) (p : After u i v) where
       all : catalog_after v.read.catalog v.read.steps ≡ catalog_before (with_step v.read s) (length v.read.steps)
       all = ap (catalog_after v.read.catalog) (sym (take-append_seam v.read.steps (s ∷ [])))
 
-  act-after :
+  act_after :
       (place : ℕ) (act : Act) →
       3 ≤ v.stage.table →
       in_turn v.read place ≡ true →
       if_known (catalog_before v.read place) (act_item act) 0 ≡ 0 →
       Still (with_act v.read place act)
-  act-after place act table e k =
+  act_after place act table e k =
       record {
         few = omega (arith, p.few, length-append t.acts (a ∷ []));
         low = p.low;
@@ -342,7 +342,7 @@ module _ (u i fields n : ℕ) (v : Sofar) (p : After u i v) where
   takes_after (ActLine place act) t =
       let number = if_known (catalog_before v.read place) (act_item act) 0 in
       either (Leading Still) (in_turn v.read place) _ _
-      (λ e. either (Leading Still) (eqb number 0) _ _ (λ k. act-after place act t.0 e (eqb-true number 0 k)) (λ k. tt))
+      (λ e. either (Leading Still) (eqb number 0) _ _ (λ k. act_after place act t.0 e (eqb-true number 0 k)) (λ k. tt))
       (λ e. tt)
   takes_after (Refused r) s = tt
 

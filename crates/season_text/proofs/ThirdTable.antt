@@ -177,16 +177,16 @@ step_anywhere heading fs m n s e =
 
 -- what each line that leads on leaves to be said
 module _ (n : ℕ) (l : List ℕ) (rest : List (List ℕ)) where
-  due-names :
+  due_names :
       (table heading f : ℕ) → heading_of table l ≡ Known f → lacks 10 l ≡ true → due table true (heading_behind table heading f) 2 rest ≡ due table false heading n (l ∷ rest)
-  due-names zero heading f e h = ap (λ (ls : List (List ℕ)). table_alone (behind_blank ls)) (sym (behind_more l rest (names_some 0 l f e)))
-  due-names (suc zero) heading f e h = ap table_alone (sym (behind_more l rest (names_some 1 l f e)))
-  due-names (suc (suc zero)) heading f e h =
+  due_names zero heading f e h = ap (λ (ls : List (List ℕ)). table_alone (behind_blank ls)) (sym (behind_more l rest (names_some 0 l f e)))
+  due_names (suc zero) heading f e h = ap table_alone (sym (behind_more l rest (names_some 1 l f e)))
+  due_names (suc (suc zero)) heading f e h =
       sym
       (ap read_table (text_first l rest h (names_some 2 l f e))
       ∙ table_first l (table_text rest)
       ∙ ap (λ (x : Names). headed x (split 10 (table_text rest))) e)
-  due-names (suc (suc (suc t))) heading f e h = refl
+  due_names (suc (suc (suc t))) heading f e h = refl
 
   module _ (heading : ℕ) where
     due_blank : (table : ℕ) → length l ≡ 0 → due (suc table) false heading n rest ≡ due table true heading n (l ∷ rest)
@@ -202,21 +202,21 @@ module _ (n : ℕ) (l : List ℕ) (rest : List (List ℕ)) where
     due_value (suc (suc zero)) t some = absurd (t refl)
     due_value (suc (suc (suc k))) t some = refl
 
-    due-step :
+    due_step :
         (table m : ℕ) (s : Step) →
         table ≡ 2 →
         line_in table heading (fields_of l) m ≡ StepLine s →
         lacks 10 l ≡ true →
         (length l ≡ 0 → ⊥) →
         ahead s (due table true heading (suc n) rest) ≡ due table true heading n (l ∷ rest)
-    due-step zero m s t e h some = absurd (omega arith)
-    due-step (suc zero) m s t e h some = absurd (omega arith)
-    due-step (suc (suc zero)) m s t e h some =
+    due_step zero m s t e h some = absurd (omega arith)
+    due_step (suc zero) m s t e h some = absurd (omega arith)
+    due_step (suc (suc zero)) m s t e h some =
         sym
         (ap (read_lines heading n) (text_first l rest h some)
         ∙ lines_first heading n l (table_text rest)
         ∙ ap (λ (x : Line). line_ahead x (read_lines heading (suc n) (split 10 (table_text rest)))) (step_anywhere heading (fields_of l) m n s e))
-    due-step (suc (suc (suc k))) m s t e h some = absurd (omega arith)
+    due_step (suc (suc (suc k))) m s t e h some = absurd (omega arith)
 
 -- ## Each line that leads on keeps it
 
@@ -239,7 +239,7 @@ module _ (x : Logged) (l : List ℕ) (rest : List (List ℕ)) (h : lacks 10 l �
         line = 2;
         heading = heading_behind v.stage.table q.heading f;
         its = λ t z. ap (λ (table : ℕ). heading_behind table q.heading f) t;
-        says = ap (onward v.read.steps) (due-names q.line l rest v.stage.table q.heading f e h) ∙ here false b;
+        says = ap (onward v.read.steps) (due_names q.line l rest v.stage.table q.heading f e h) ∙ here false b;
       }
 
   blank_kept : v.stage.named ≡ true → length l ≡ 0 → Kept x rest (record { stage = next_table v.stage; read = v.read })
@@ -277,30 +277,30 @@ module _ (x : Logged) (l : List ℕ) (rest : List (List ℕ)) (h : lacks 10 l �
           says =
               onward_more v.read.steps s (due v.stage.table v.stage.named q.heading (suc q.line) rest)
               ∙ ap (λ (z : Bool). onward v.read.steps (ahead s (due v.stage.table z q.heading (suc q.line) rest))) b
-              ∙ ap (onward v.read.steps) (due-step q.line l rest q.heading v.stage.table n s t judged h some)
+              ∙ ap (onward v.read.steps) (due_step q.line l rest q.heading v.stage.table n s t judged h some)
               ∙ here true b;
         }
 
-    takes-kept :
+    takes_kept :
         (n : ℕ) (y : Line) →
         line_in v.stage.table v.stage.heading (fields_of l) n ≡ y →
         Says v.stage.table (length (fields_of l)) n y →
         Leading Still (takes v.read y n)
     unfolding takes
-    takes-kept n (Sizes k j r) e s =
+    takes_kept n (Sizes k j r) e s =
         either (Leading Still) (leb j k) _ _
         (λ _. record { line = q.line; heading = q.heading; its = q.its; says = other (λ t. omega (arith, s.0)) }) (λ _. tt)
-    takes-kept n (ItemLine i c d w) e s =
+    takes_kept n (ItemLine i c d w) e s =
         either (Leading Still) (eqb i (length v.read.catalog)) _ _
         (λ _. record { line = q.line; heading = q.heading; its = q.its; says = other (λ t. omega (arith, s.0)) }) (λ _. tt)
-    takes-kept n (StepLine z) e s =
+    takes_kept n (StepLine z) e s =
         either (Leading Still) (eqb (item_refusal v.read.k (catalog_after v.read.catalog v.read.steps) z) 0) _ _ (λ _. step_kept n z s.0 e) (λ _. tt)
-    takes-kept n (ActLine place act) e s =
+    takes_kept n (ActLine place act) e s =
         either (Leading Still) (in_turn v.read place) _ _
         (λ _. either (Leading Still) (eqb (if_known (catalog_after v.read.catalog (take place v.read.steps)) (act_item act) 0) 0) _ _
         (λ _. record { line = q.line; heading = q.heading; its = q.its; says = other (λ t. omega (arith, s.0)) }) (λ _. tt))
         (λ _. tt)
-    takes-kept n (Refused r) e s = tt
+    takes_kept n (Refused r) e s = tt
 
   values_kept : (n : ℕ) → v.stage.named ≡ true → Leading Still (takes v.read (line_in v.stage.table v.stage.heading (fields_of l) n) n)
   unfolding takes
@@ -312,7 +312,7 @@ module _ (x : Logged) (l : List ℕ) (rest : List (List ℕ)) (h : lacks 10 l �
       go : (t : Bool) → is_blank l ≡ t → Leading Still (takes v.read line n)
       go true e =
           subst (λ (y : Line). Leading Still (takes v.read y n)) (sym (blank_refused v.stage.table v.stage.heading l n (eqb-true (length l) 0 e))) tt
-      go false e = takes-kept b (eqb-false (length l) 0 e) n line refl (line_says v.stage.table v.stage.heading (fields_of l) n)
+      go false e = takes_kept b (eqb-false (length l) 0 e) n line refl (line_says v.stage.table v.stage.heading (fields_of l) n)
 
   -- any line
   line_kept : (n : ℕ) → Leading (Kept x rest) (read_line 3 v l n)

@@ -32,12 +32,12 @@ module _ (label : List ℕ) (limit : ℕ) (s : List ℕ) where
   unfolding part_of
   part_other h = rw h
 
-  part-read :
+  part_read :
       same_text label (take (length label) s) ≡ true →
       (let digits = piece_of (drop (length label) s) in
       part_of label limit s ≡ part_from (length label + length digits) (read_of digits limit))
   unfolding part_of
-  part-read h = rw h
+  part_read h = rw h
 
   -- the text is too short for the label, or begins with another
   pub part_short : length s < length label → Missing ≡ part_of label limit s
@@ -48,17 +48,17 @@ module _ (label : List ℕ) (limit : ℕ) (s : List ℕ) where
   part_none h = sym (part_other h)
 
   -- x is what stands behind the label, up to e, read as a number
-  pub part-found :
+  pub part_found :
       {e : ℕ} {x : Number} →
       same_text label (take (length label) s) ≡ true →
       e ≡ length label + length (piece_of (drop (length label) s)) →
       x ≡ read_of (take (e - length label) (drop (length label) s)) limit →
       part_from e x ≡ part_of label limit s
-  part-found {e} {x} h k r =
+  part_found {e} {x} h k r =
       let rest = drop (length label) s in
       let n : e - length label ≡ length (piece_of rest) = omega arith in
       let digits : take (e - length label) rest ≡ piece_of rest = ap (λ (j : ℕ). take j rest) n ∙ take_piece rest in
-      rw k (ap (part_from (length label + length (piece_of rest))) (r ∙ ap (λ (l : List ℕ). read_of l limit) digits)) ∙ sym (part-read h)
+      rw k (ap (part_from (length label + length (piece_of rest))) (r ∙ ap (λ (l : List ℕ). read_of l limit) digits)) ∙ sym (part_read h)
 
   -- what is read as a number behind its label is that number's text
   pub part_is : (v bytes : ℕ) → part_of label limit s ≡ Told v bytes → (s ≡ labelled label v ++ drop bytes s) × (v ≤ limit) × (bytes ≤ length s)
@@ -91,7 +91,7 @@ module _ (label : List ℕ) (limit : ℕ) (s : List ℕ) where
       go :
           (t : Bool) → same_text label (take (length label) s) ≡ t →
           (s ≡ labelled label v ++ drop bytes s) × (v ≤ limit) × (bytes ≤ length s)
-      go true e = found (read_of (piece_of rest) limit) refl e (sym (part-read e) ∙ h)
+      go true e = found (read_of (piece_of rest) limit) refl e (sym (part_read e) ∙ h)
       go false e = let m = part_other e in let z : ◌≡◌ {A = ℕ} 0 1 = cc in absurd (omega arith)
 
 -- a number behind its label is read

@@ -1,7 +1,7 @@
 -- `cache_arrivals::arrive` meets its contract: an item listed in the bytes in which its arrival is counted. Assumes nothing.
 use borrow.Author.Rules.{rules}
 use Rattle.cache_counts.proofs.Counts.{valid_ready}
-use Rattle.cache_arrivals.proofs.InPlace.{listable_at, arrive-at}
+use Rattle.cache_arrivals.proofs.InPlace.{listable_at, arrive_at}
 use Rattle.cache_arrivals.proofs.arrive.Statement.{statement}
 use Rattle.cache_arrivals.proofs.arrive.Tie as tie
 
@@ -22,7 +22,7 @@ returns c =
     let i = c.before.before in
     let w = i.before.before.before.before in
     let s = w.before.before.before in
-    arrive-at s.args.b.now s.requires _ w.count-step.ensures _ s.args.blocks s.args.load s.args.write i.list-item.ensures
+    arrive_at s.args.b.now s.requires _ w.count-step.ensures _ s.args.blocks s.args.load s.args.write i.list-item.ensures
 
 pub arrive-spec : {M : Type 1} → statement M
 arrive-spec =

@@ -103,7 +103,7 @@ returns-8 : tie.Need-returns-8
 returns-8 c =
     let b = c.before.before.before.before.before.before.before.before.before.before.before.before.before.before.before.before.before.args.b.now in
     let bytes : Below 256 b = λ j. omega (arith, c.before.before.before.before.before.before.before.before.before.before.before.before.before.before.before.before.shared-slice-known.given j) in
-    whole_so bytes (costs b bytes) (found c.before) c.heap-ok.ensures
+    whole_so bytes (costs b bytes) (found c.before) c.heap_ok.ensures
 
 pub cache-ok-spec : {M : Type 1} → statement M
 cache-ok-spec =

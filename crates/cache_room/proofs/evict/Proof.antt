@@ -1,5 +1,5 @@
 -- `cache_room::evict` meets its contract: the root of the heap is the item that goes, and the level is its key then. Assumes nothing.
-use Rattle.cache_room.proofs.Bytes.{crowded_holds, root_first, evict_countable, evicted-at}
+use Rattle.cache_room.proofs.Bytes.{crowded_holds, root_first, evict_countable, evicted_at}
 use Rattle.layout.specs.Layout.{cache_of}
 use lib.ListN.{get_or}
 use Prim.Native.Nat.{ℕ}
@@ -36,7 +36,7 @@ same_length c = search rules
 returns : tie.Need-returns
 returns c =
     let s = c.before.before.before.before.before.before.before.before.before.before.before.before.before.before.before.before.before.before.before in
-    (c.before.before.before.before.before.before.before.before.before.before.let_go.ensures.0 ∙ ap (λ (i : ℕ). get_or (cache_of s.args.b.now).blocks i 0) (sym (root_first s.args.b.now s.requires c.before.before.before.before.before.before.before.before.before.before.before.before.before.before.before.before.root.ensures.0)), evicted-at s.args.b.now _ _ s.requires c.before.before.before.before.before.before.before.before.before.before.before.before.before.before.before.before.root.ensures.0 c.before.before.before.before.before.before.before.before.before.before.before.before.before.before.key.ensures c.before.before.before.before.before.before.before.before.before.before.before.before.is_dirty.ensures c.before.before.before.before.before.before.before.before.before.before.let_go.ensures.1 c.before.before.before.before.before.before.put-level.ensures _ c.before.before.count-eviction.ensures)
+    (c.before.before.before.before.before.before.before.before.before.before.let_go.ensures.0 ∙ ap (λ (i : ℕ). get_or (cache_of s.args.b.now).blocks i 0) (sym (root_first s.args.b.now s.requires c.before.before.before.before.before.before.before.before.before.before.before.before.before.before.before.before.root.ensures.0)), evicted_at s.args.b.now _ _ s.requires c.before.before.before.before.before.before.before.before.before.before.before.before.before.before.before.before.root.ensures.0 c.before.before.before.before.before.before.before.before.before.before.before.before.before.before.key.ensures c.before.before.before.before.before.before.before.before.before.before.before.before.is_dirty.ensures c.before.before.before.before.before.before.before.before.before.before.let_go.ensures.1 c.before.before.before.before.before.before.put-level.ensures _ c.before.before.count-eviction.ensures)
 
 pub evict-spec : {M : Type 1} → statement M
 evict-spec =

@@ -1,5 +1,5 @@
 -- `cache_room::let_go` meets its contract: out of the heap, then its key, its blocks and its slot. Assumes nothing.
-use Rattle.cache_room.proofs.Bytes.{holds_place, holds_filled, holds_used, let-go-at}
+use Rattle.cache_room.proofs.Bytes.{holds_place, holds_filled, holds_used, let_go_at}
 use native.Mathlib.Omega.{arith}
 use borrow.Author.Rules.{rules}
 use Rattle.cache_room.proofs.let_go.Statement.{statement}
@@ -49,7 +49,7 @@ same_length c = search rules
 returns : tie.Need-returns
 returns c =
     let s = c.before.before.before.before.before.before.before.before.before.before.before.before.before.before.before.before.before.before.before.before.before.before.before.before.before in
-    (c.before.before.before.before.before.before.before.before.before.before.before.before.before.before.before.before.before.before.blocks2.ensures, let-go-at s.args.b.now s.args.v s.requires _ _ _ _ _ _ _ _ c.before.before.before.before.before.before.before.before.before.before.before.before.before.before.before.before.before.before.before.before.before.before.held_items.ensures c.before.before.before.before.before.before.before.before.before.before.before.before.before.before.before.before.before.before.before.before.place.ensures.0 c.before.before.before.before.before.before.before.before.before.before.before.before.before.before.before.before.used.ensures c.before.before.before.before.before.before.before.before.before.before.before.before.before.before.before.before.before.before.blocks2.ensures c.before.before.before.before.before.before.before.before.before.before.before.before.before.before.remove.ensures c.before.before.before.before.before.before.before.before.before.before.put-used.ensures c.before.before.before.before.before.before.put-key.ensures c.before.before.drop-item.ensures)
+    (c.before.before.before.before.before.before.before.before.before.before.before.before.before.before.before.before.before.before.blocks2.ensures, let_go_at s.args.b.now s.args.v s.requires _ _ _ _ _ _ _ _ c.before.before.before.before.before.before.before.before.before.before.before.before.before.before.before.before.before.before.before.before.before.before.held_items.ensures c.before.before.before.before.before.before.before.before.before.before.before.before.before.before.before.before.before.before.before.before.place.ensures.0 c.before.before.before.before.before.before.before.before.before.before.before.before.before.before.before.before.used.ensures c.before.before.before.before.before.before.before.before.before.before.before.before.before.before.before.before.before.before.blocks2.ensures c.before.before.before.before.before.before.before.before.before.before.before.before.before.before.remove.ensures c.before.before.before.before.before.before.before.before.before.before.put-used.ensures c.before.before.before.before.before.before.put-key.ensures c.before.before.drop-item.ensures)
 
 pub let-go-spec : {M : Type 1} → statement M
 let-go-spec =

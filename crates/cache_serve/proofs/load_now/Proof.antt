@@ -2,7 +2,7 @@
 use Prim.Native.Nat.{◌-◌}
 use mathlib.Core.Path.{sym, ◌∙◌}
 use native.Mathlib.Omega.{arith}
-use Rattle.cache_serve.proofs.Losses.{keyed_losing, keyed-borne}
+use Rattle.cache_serve.proofs.Losses.{keyed_losing, keyed_borne}
 use borrow.Author.Rules.{rules}
 use Rattle.cache_serve.proofs.load_now.Statement.{statement}
 use Rattle.cache_serve.proofs.load_now.Tie as tie
@@ -23,7 +23,7 @@ sub-result c =
     omega (
       arith,
       at-loss.loss.ensures,
-      keyed-borne s.args.b.now s.args.i s.requires at-loss.loss.ensures c.borne.ensures,
+      keyed_borne s.args.b.now s.args.i s.requires at-loss.loss.ensures c.borne.ensures,
       (keyed_losing s.args.b.now s.args.i s.requires).bears.part,
     )
 
@@ -36,7 +36,7 @@ sub-result-2 c =
       arith,
       at-loss.loss.ensures,
       at-load-credit.load-credit.ensures,
-      keyed-borne s.args.b.now s.args.i s.requires at-loss.loss.ensures c.borne.ensures,
+      keyed_borne s.args.b.now s.args.i s.requires at-loss.loss.ensures c.borne.ensures,
       (keyed_losing s.args.b.now s.args.i s.requires).bears.part,
       (keyed_losing s.args.b.now s.args.i s.requires).bears.rest,
     )
@@ -46,7 +46,7 @@ returns c =
     let at-load-credit = c.before in
     let at-loss = at-load-credit.before in
     let s = at-loss.before.before in
-    (λ z. at-load-credit.load-credit.ensures z - (at-loss.loss.ensures z - keyed-borne s.args.b.now s.args.i s.requires at-loss.loss.ensures c.borne.ensures z))
+    (λ z. at-load-credit.load-credit.ensures z - (at-loss.loss.ensures z - keyed_borne s.args.b.now s.args.i s.requires at-loss.loss.ensures c.borne.ensures z))
     ∙ sym (keyed_losing s.args.b.now s.args.i s.requires).load_now
 
 pub load-now-spec : {M : Type 1} → statement M

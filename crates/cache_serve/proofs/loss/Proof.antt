@@ -1,5 +1,5 @@
 -- `cache_serve::loss` meets its contract: one quotient and one product, which is at most the two credits. Assumes nothing.
-use Rattle.cache_serve.proofs.Losses.{keyed_losing, keyed-worth, keyed-loss}
+use Rattle.cache_serve.proofs.Losses.{keyed_losing, keyed_worth, keyed_loss}
 use native.Mathlib.Omega.{arith}
 use borrow.Author.Rules.{rules}
 use Rattle.cache_serve.proofs.loss.Statement.{statement}
@@ -47,7 +47,7 @@ add-result c =
     omega (
       arith,
       c.level.ensures,
-      keyed-worth s.args.b.now s.args.i s.requires at-load-credit.load-credit.ensures at-write-credit.write-credit.ensures at-blocks2.blocks2.ensures,
+      keyed_worth s.args.b.now s.args.i s.requires at-load-credit.load-credit.ensures at-write-credit.write-credit.ensures at-blocks2.blocks2.ensures,
       (keyed_losing s.args.b.now s.args.i s.requires).small,
       (keyed_losing s.args.b.now s.args.i s.requires).level,
     )
@@ -66,7 +66,7 @@ sub-result c =
       arith,
       c.key.ensures,
       at_level.level.ensures,
-      keyed-worth s.args.b.now s.args.i s.requires at-load-credit.load-credit.ensures at-write-credit.write-credit.ensures at-blocks2.blocks2.ensures,
+      keyed_worth s.args.b.now s.args.i s.requires at-load-credit.load-credit.ensures at-write-credit.write-credit.ensures at-blocks2.blocks2.ensures,
       (keyed_losing s.args.b.now s.args.i s.requires).due,
     )
 
@@ -79,7 +79,7 @@ mul-result c =
     let s = at-blocks2.before.before in
     omega (
       arith,
-      keyed-loss s.args.b.now s.args.i s.requires at-load-credit.load-credit.ensures at-write-credit.write-credit.ensures at-blocks2.blocks2.ensures at_level.level.ensures c.key.ensures,
+      keyed_loss s.args.b.now s.args.i s.requires at-load-credit.load-credit.ensures at-write-credit.write-credit.ensures at-blocks2.blocks2.ensures at_level.level.ensures c.key.ensures,
       (keyed_losing s.args.b.now s.args.i s.requires).within,
       (keyed_losing s.args.b.now s.args.i s.requires).load,
       (keyed_losing s.args.b.now s.args.i s.requires).write,
@@ -92,7 +92,7 @@ returns c =
     let at-load-credit = at-write-credit.before in
     let at-blocks2 = at-load-credit.before in
     let s = at-blocks2.before.before in
-    keyed-loss s.args.b.now s.args.i s.requires at-load-credit.load-credit.ensures at-write-credit.write-credit.ensures
+    keyed_loss s.args.b.now s.args.i s.requires at-load-credit.load-credit.ensures at-write-credit.write-credit.ensures
     at-blocks2.blocks2.ensures at_level.level.ensures c.key.ensures
 
 pub loss-spec : {M : Type 1} → statement M

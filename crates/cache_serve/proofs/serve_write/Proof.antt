@@ -1,5 +1,5 @@
 -- `cache_serve::serve_write` meets its contract: the write's law after that of the fetch. Assumes nothing.
-use Rattle.cache_serve.proofs.Serves.{serve_facts, write_ready, write_reckonable, write-becomes}
+use Rattle.cache_serve.proofs.Serves.{serve_facts, write_ready, write_reckonable, write_becomes}
 use Rattle.cache_serve.proofs.Shares.{blocks_read}
 use Rattle.landlord.specs.Catalog.{full}
 use mathlib.Core.Path.{◌∙◌, ap}
@@ -69,7 +69,7 @@ returns c =
     let at-full-credit = at-item-write-cost.before.before in
     let at-item-load-cost = at-full-credit.before in
     let s = at-item-load-cost.before.before.before.before.before in
-    write-becomes s.args.b.now s.args.i s.requires.0 _ _ at-fetch.fetch.ensures s.args.minutes _
+    write_becomes s.args.b.now s.args.i s.requires.0 _ _ at-fetch.fetch.ensures s.args.minutes _
     at-count-write.count-write.ensures (at-full-credit.full-credit.ensures ∙ ap full at-item-load-cost.item-load-cost.ensures)
     (at-full-credit2.full-credit2.ensures ∙ ap full at-item-write-cost.item-write-cost.ensures) _ at-reckon.reckon.ensures
 

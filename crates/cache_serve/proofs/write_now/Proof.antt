@@ -2,7 +2,7 @@
 use Prim.Native.Nat.{◌-◌}
 use mathlib.Core.Path.{sym, ◌∙◌}
 use native.Mathlib.Omega.{arith}
-use Rattle.cache_serve.proofs.Losses.{keyed_losing, keyed-borne}
+use Rattle.cache_serve.proofs.Losses.{keyed_losing, keyed_borne}
 use borrow.Author.Rules.{rules}
 use Rattle.cache_serve.proofs.write_now.Statement.{statement}
 use Rattle.cache_serve.proofs.write_now.Tie as tie
@@ -24,7 +24,7 @@ sub-result c =
     omega (
       arith,
       at-write-credit.write-credit.ensures,
-      keyed-borne s.args.b.now s.args.i s.requires at-loss.loss.ensures c.borne.ensures,
+      keyed_borne s.args.b.now s.args.i s.requires at-loss.loss.ensures c.borne.ensures,
       (keyed_losing s.args.b.now s.args.i s.requires).bears.within,
     )
 
@@ -33,7 +33,7 @@ returns c =
     let at-write-credit = c.before in
     let at-loss = at-write-credit.before in
     let s = at-loss.before.before in
-    (λ z. at-write-credit.write-credit.ensures z - keyed-borne s.args.b.now s.args.i s.requires at-loss.loss.ensures c.borne.ensures z)
+    (λ z. at-write-credit.write-credit.ensures z - keyed_borne s.args.b.now s.args.i s.requires at-loss.loss.ensures c.borne.ensures z)
     ∙ sym (keyed_losing s.args.b.now s.args.i s.requires).write_now
 
 pub write-now-spec : {M : Type 1} → statement M

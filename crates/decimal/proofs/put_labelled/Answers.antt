@@ -6,7 +6,7 @@ use borrow.Author.Rules.{rules}
 use lib.ListN.{length-append}
 use Rattle.decimal.specs.Decimal.{digits_of}
 use Rattle.decimal.specs.InnerPages.{labelled}
-use Rattle.decimal.proofs.Pages.{TextGoing, go_first, go_as, go-number, go_end}
+use Rattle.decimal.proofs.Pages.{TextGoing, go_first, go_as, go_number, go_end}
 use Rattle.decimal.proofs.put_labelled.Goals as goal
 
 pub put_text-at-requires : goal.put_text-at-requires
@@ -25,7 +25,7 @@ returns c =
     let named : TextGoing (labelled c.args.label.now c.args.v) c.args.page.now c.put_text-at.result (digits_of c.args.v ++ []) c.put_text-at.new.page =
     go_as (sym (append-nil _))
     (go_first c.args.label.now (digits_of c.args.v) c.args.page.now c.requires c.put_text-at.ensures.value c.put_text-at.ensures.page_after) in
-    let both = go_end (go-number c.requires c.args.v [] named c.write.ensures) in
+    let both = go_end (go_number c.requires c.args.v [] named c.write.ensures) in
     record { value = both.0; page_after = both.1 }
 
 pub overflow_add-result : goal.overflow_add-result
@@ -33,5 +33,5 @@ overflow_add-result c =
     let named : TextGoing (labelled c.args.label.now c.args.v) c.args.page.now c.put_text-at.result (digits_of c.args.v ++ []) c.put_text-at.new.page =
     go_as (sym (append-nil _))
     (go_first c.args.label.now (digits_of c.args.v) c.args.page.now c.requires c.put_text-at.ensures.value c.put_text-at.ensures.page_after) in
-    let both = go_end (go-number c.requires c.args.v [] named c.write.ensures) in
+    let both = go_end (go_number c.requires c.args.v [] named c.write.ensures) in
     omega (arith, c.requires, both.0)

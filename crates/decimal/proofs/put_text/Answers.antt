@@ -3,7 +3,7 @@ use Prim.Native.Nat.{◌-◌, ◌≤◌}
 use native.Mathlib.Omega.{arith}
 use borrow.Author.Rules.{rules}
 use lib.ListN.{length, drop, drop_of_length-le}
-use Rattle.decimal.proofs.Pages.{TextGoing, go_start, go_as, go-byte, go_end, text_next}
+use Rattle.decimal.proofs.Pages.{TextGoing, go_start, go_as, go_byte, go_end, text_next}
 use Rattle.decimal.proofs.put_text.Goals as goal
 
 pub loop-i-init : goal.loop-i-init
@@ -13,7 +13,7 @@ loop-i-init c =
 pub loop-i-preserved : goal.loop-i-preserved
 loop-i-preserved c =
     let l = c.loop-i in
-    (omega arith, go-byte c.requires (go_as (text_next c.args.text.now l.i (omega arith)) l.invariant.1))
+    (omega arith, go_byte c.requires (go_as (text_next c.args.text.now l.i (omega arith)) l.invariant.1))
 
 pub returns : goal.returns
 returns c =

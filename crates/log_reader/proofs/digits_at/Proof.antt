@@ -5,7 +5,7 @@ use borrow.Author.Tests.{leb-false, ltb-false}
 use borrow.Author.Rules.{rules}
 use lib.ListN.{length, get_or}
 use Rattle.log_reader.specs.Inner.{DigitsAt}
-use Rattle.log_reader.proofs.Finding.{digits_none, digits_small, digits-next}
+use Rattle.log_reader.proofs.Finding.{digits_none, digits_small, digits_next}
 use Rattle.log_reader.proofs.digits_at.Statement.{statement}
 use Rattle.log_reader.proofs.digits_at.Tie as tie
 
@@ -46,7 +46,7 @@ loop-less c = search rules
 
 loop-again : tie.Need-loop-preserved invariant-loop decreases-loop
 loop-again c =
-    digits-next c.before.before.before.before.before.loop.invariant (omega arith) (leb-false _ _ c.if3.false) c.before.before.if1.false (ltb-false 57 _ c.before.if2.false)
+    digits_next c.before.before.before.before.before.loop.invariant (omega arith) (leb-false _ _ c.if3.false) c.before.before.if1.false (ltb-false 57 _ c.before.if2.false)
 
 returns : tie.Need-returns invariant-loop decreases-loop
 returns c = c.before.loop.invariant

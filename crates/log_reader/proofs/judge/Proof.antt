@@ -8,7 +8,7 @@ use borrow.Author.Rules.{rules}
 use borrow.Author.Tests.{leb-true, leb-false}
 use lib.ListN.{length}
 use Rattle.season_lines.specs.Inner.{Judgeable}
-use Rattle.log_reader.proofs.Judging.{Fielded, fields_left, fields_begin, field_le, field-more, field_malformed, fields_judged, fewer_left}
+use Rattle.log_reader.proofs.Judging.{Fielded, fields_left, fields_begin, field_le, field_more, field_malformed, fields_judged, fewer_left}
 use Rattle.log_reader.proofs.judge.Statement.{statement}
 use Rattle.log_reader.proofs.judge.Tie as tie
 
@@ -87,7 +87,7 @@ loop-less c = fewer_left (length c.before.before.before.before.before.before.bef
 loop-again : tie.Need-loop-preserved invariant-loop decreases-loop
 loop-again c =
     let l = c.before.before.before.before.before.before.before.before.loop in
-    field-more c.before.before.before.before.before.before.before.before.before.before.args.l.now l.fields l.count l.at c.before.before.before.before.before.find.result c.before.before.before.field_of.result (here c.before.before.before.before.before.before.before) c.before.before.before.before.before.find.ensures c.before.before.before.field_of.ensures
+    field_more c.before.before.before.before.before.before.before.before.before.before.args.l.now l.fields l.count l.at c.before.before.before.before.before.find.result c.before.before.before.field_of.result (here c.before.before.before.before.before.before.before) c.before.before.before.before.before.find.ensures c.before.before.before.field_of.ensures
     _ refl (few c) (sym c.before.before.is-empty.ensures ∙ c.before.if1.false)
 
 -- no field is left

@@ -8,7 +8,7 @@ use borrow.Author.Rules.{rules}
 use Rattle.decimal.specs.Decimal.{text_of}
 use Rattle.types.specs.declared.Step.TheVariants.{Read}
 use Rattle.log_reader.specs.Inner.{TextAt}
-use Rattle.log_reader.proofs.Finding.{none_in, stands_within, stands_byte, read-begins}
+use Rattle.log_reader.proofs.Finding.{none_in, stands_within, stands_byte, read_begins}
 use Rattle.log_reader.proofs.read_in.Statement.{statement}
 use Rattle.log_reader.proofs.read_in.Tie as tie
 
@@ -57,7 +57,7 @@ returns-3 c =
       step = Read item.result.value;
       numbers = refl;
       begins =
-          read-begins a.heading text item.result.value end c.end-at.result c.before.before.before.before.before.before.before.before.before.before.requires item.ensures (omega (arith, item.ensures.onward, c.before.before.before.before.before.before.before.if1.false)) (ltb-false 255 item.result.value c.before.before.before.before.before.if2.false)
+          read_begins a.heading text item.result.value end c.end-at.result c.before.before.before.before.before.before.before.before.before.before.requires item.ensures (omega (arith, item.ensures.onward, c.before.before.before.before.before.before.before.if1.false)) (ltb-false 255 item.result.value c.before.before.before.before.before.if2.false)
           (stands_byte text end 32 _ c.before.before.before.before.is_byte_lem.ensures c.before.before.before.if3.false)
           (dash c.before) c.end-at.ensures some;
     })

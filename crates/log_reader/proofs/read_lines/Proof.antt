@@ -10,7 +10,7 @@ use lib.Seq.{sets}
 use Rattle.types.specs.declared.Numbers.{Numbers}
 use Rattle.season_log.specs.Log.{numbers_onto}
 use Rattle.log_reader.specs.Inner.{ReadSoFar, Roomy, ReadsOn}
-use Rattle.log_reader.proofs.Reading.{reading_begins, so_far_roomy, read_ends, read-stops, read_long, read_room, read_goes}
+use Rattle.log_reader.proofs.Reading.{reading_begins, so_far_roomy, read_ends, read_stops, read_long, read_room, read_goes}
 use Rattle.log_reader.proofs.read_lines.Statement.{statement}
 use Rattle.log_reader.proofs.read_lines.Tie as tie
 
@@ -64,7 +64,7 @@ returns : tie.Need-returns invariant-loop decreases-loop
 returns c =
     let l = c.before.before.before.before.before.before.before.loop.place in
     let j = c.before.before.before.judged-line in
-    read-stops c.before.before.before.before.before.before.before.before.before.before.before.before.before.before.args.heading c.before.before.before.before.before.before.before.before.before.before.before.before.before.before.args.text.now l.at l.count j.result c.before.before.before.before.before.if1.true j.ensures _ c.before.r.given.1 (so_far c.before.before.before.before.before)
+    read_stops c.before.before.before.before.before.before.before.before.before.before.before.before.before.before.args.heading c.before.before.before.before.before.before.before.before.before.before.before.before.before.before.args.text.now l.at l.count j.result c.before.before.before.before.before.if1.true j.ensures _ c.before.r.given.1 (so_far c.before.before.before.before.before)
 
 enum-known-step : tie.Need-enum-known-step invariant-loop decreases-loop
 enum-known-step c = search rules

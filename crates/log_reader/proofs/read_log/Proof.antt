@@ -5,7 +5,7 @@ use native.Mathlib.Omega.{arith}
 use borrow.Author.Rules.{rules}
 use lib.Seq.{length-take-le}
 use Rattle.log_reader.proofs.Answers.{log_read}
-use Rattle.log_reader.proofs.Reading.{answer_long, answer_refused, answer_few, answer_short, answer-stored}
+use Rattle.log_reader.proofs.Reading.{answer_long, answer_refused, answer_few, answer_short, answer_stored}
 use Rattle.log_reader.proofs.read_log.Statement.{statement}
 use Rattle.log_reader.proofs.read_log.Tie as tie
 
@@ -64,7 +64,7 @@ returns-4 : tie.Need-returns-4
 returns-4 c =
     let a = c.before.before.before.before.before.before.before.before.before.before.before.before.before.before.before.args in
     let r = c.before.before.before.before.before.before.before.before.before.before.read_table in
-    log_read (answer-stored a.text.now a.list.now _ _ r.result c.before.before.before.before.before.before.before.before.before.before.before.before.if1.false r.ensures _ _ c.before.before.before.before.before.before.before.heading.given.1 _ c.before.before.before.before.before.if2.false c.before.before.put-text.ensures.1)
+    log_read (answer_stored a.text.now a.list.now _ _ r.result c.before.before.before.before.before.before.before.before.before.before.before.before.if1.false r.ensures _ _ c.before.before.before.before.before.before.before.heading.given.1 _ c.before.before.before.before.before.if2.false c.before.before.put-text.ensures.1)
 
 pub read-log-spec : {M : Type 1} → statement M
 read-log-spec =

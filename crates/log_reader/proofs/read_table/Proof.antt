@@ -2,7 +2,7 @@
 use native.Mathlib.Omega.{arith}
 use borrow.Author.Rules.{rules}
 use lib.Seq.{length-take-le}
-use Rattle.log_reader.proofs.Reading.{table_empty, table-unfed, table-read, table_unknown}
+use Rattle.log_reader.proofs.Reading.{table_empty, table_unfed, table_read, table_unknown}
 use Rattle.log_reader.proofs.read_table.Statement.{statement}
 use Rattle.log_reader.proofs.read_table.Tie as tie
 
@@ -15,7 +15,7 @@ find-requires c κs = search rules
 returns-2 : tie.Need-returns-2
 returns-2 c =
     let a = c.before.before.before.before.before.args in
-    table-unfed a.text.now a.list.now c.before.find.result c.before.find.ensures c.before.before.if1.false c.if2.true
+    table_unfed a.text.now a.list.now c.before.find.result c.before.find.ensures c.before.before.if1.false c.if2.true
 
 slice-aggregate-heading-of : tie.Need-slice-aggregate-heading-of
 slice-aggregate-heading-of c =
@@ -52,7 +52,7 @@ same_length c = search rules
 returns-3 : tie.Need-returns-3
 returns-3 c =
     let a = c.before.before.before.before.before.before.before.before.before.before.before.before.before.before.before.args in
-    table-read a.text.now a.list.now c.before.before.before.before.before.before.before.before.before.before.before.find.result c.before.before.before.before.before.before.before.before.before.before.before.find.ensures c.before.before.before.before.before.before.before.before.heading-of.result c.before.before.before.before.before.before.before.before.before.before.if2.false c.before.before.before.before.before.before.before.before.heading-of.ensures _ _ _ c.before.before.before.before.before.before.heading.given.1 c.before.before.read-lines.ensures
+    table_read a.text.now a.list.now c.before.before.before.before.before.before.before.before.before.before.before.find.result c.before.before.before.before.before.before.before.before.before.before.before.find.ensures c.before.before.before.before.before.before.before.before.heading-of.result c.before.before.before.before.before.before.before.before.before.before.if2.false c.before.before.before.before.before.before.before.before.heading-of.ensures _ _ _ c.before.before.before.before.before.before.heading.given.1 c.before.before.read-lines.ensures
 
 returns-4 : tie.Need-returns-4
 returns-4 c =

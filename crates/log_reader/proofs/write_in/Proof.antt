@@ -6,7 +6,7 @@ use borrow.Author.Tests.{ltb-false}
 use borrow.Author.Rules.{rules}
 use Rattle.decimal.specs.Decimal.{text_of}
 use Rattle.types.specs.declared.Step.TheVariants.{Write}
-use Rattle.log_reader.proofs.Finding.{none_in, stands_within, stands_byte, write-begins}
+use Rattle.log_reader.proofs.Finding.{none_in, stands_within, stands_byte, write_begins}
 use Rattle.log_reader.proofs.write_in.Statement.{statement}
 use Rattle.log_reader.proofs.write_in.Tie as tie
 
@@ -52,7 +52,7 @@ returns-3 c =
       step = Write item.result.value minutes.result.value;
       numbers = refl;
       begins =
-          write-begins a.heading text item.result.value space minutes.result.value minutes.result.end c.end-at.result c.before.before.before.before.before.before.before.before.before.before.before.before.requires
+          write_begins a.heading text item.result.value space minutes.result.value minutes.result.end c.end-at.result c.before.before.before.before.before.before.before.before.before.before.before.before.requires
           item.ensures (omega (arith, item.ensures.onward, c.before.before.before.before.before.before.before.before.before.if1.false)) (ltb-false 255 item.result.value c.before.before.before.before.before.before.before.if2.false)
           (stands_byte text space 32 _ c.before.before.before.before.before.before.is_byte_lem.ensures c.before.before.before.before.before.if3.false)
           minutes.ensures (omega (arith, minutes.ensures.onward, c.before.before.before.if4.false)) (ltb-false 1440 minutes.result.value c.before.if5.false)

@@ -1,7 +1,7 @@
 -- `recorder::recorder_log` meets its contract: each arm is a law of proofs/Logged.antt. Assumes nothing.
 use borrow.Author.Rules.{rules}
 use Rattle.season_log.proofs.Answers.{log_one}
-use Rattle.recorder.proofs.Logged.{lent_text, lent-refusal}
+use Rattle.recorder.proofs.Logged.{lent_text, lent_refusal}
 use Rattle.recorder.proofs.recorder_log.Statement.{statement}
 use Rattle.recorder.proofs.recorder_log.Tie as tie
 
@@ -51,7 +51,7 @@ returns-2 c =
     let w = c.before.before.before.before.before.before.before.write-log in
     let r = c.before.before.before.r.given in
     let number = c.before.number in
-    lent-refusal a.heading a.list.now a.page.now _ a.written.now w.result (log_one w.ensures) w.ensures.page r.0.0 number.result c.line.result r.1 number.ensures c.line.ensures
+    lent_refusal a.heading a.list.now a.page.now _ a.written.now w.result (log_one w.ensures) w.ensures.page r.0.0 number.result c.line.result r.1 number.ensures c.line.ensures
 
 pub recorder-log-spec : {M : Type 1} → statement M
 recorder-log-spec =

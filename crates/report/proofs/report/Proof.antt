@@ -8,7 +8,7 @@ use Rattle.cache_state.specs.Cache.{view}
 use Rattle.layout.specs.Layout.{cache_of, ValidBytes}
 use Rattle.report_lines.specs.Inner.{RivalOk}
 use Rattle.report.specs.Report.{report_of}
-use Rattle.report.proofs.Laws.{put_short, put_whole, invalid_told, fine-told}
+use Rattle.report.proofs.Laws.{put_short, put_whole, invalid_told, fine_told}
 use Rattle.report.proofs.report.Statement.{statement}
 use Rattle.report.proofs.report.Tie as tie
 
@@ -35,7 +35,7 @@ returns-2 : tie.Need-returns-2
 returns-2 c =
     let a = c.before.before.before.before.before.before.args in
     let t = report_of (view (cache_of a.b.now)) a.rival in
-    fine-told a.b.now a.rival a.page.now _ _ (valid c.before.before) (put_short t a.page.now (omega arith))
+    fine_told a.b.now a.rival a.page.now _ _ (valid c.before.before) (put_short t a.page.now (omega arith))
 
 put-report-requires : tie.Need-put-report-requires
 put-report-requires c κs = let e = c.before.before.before in record { valid = valid e; fair = fair e; room = omega arith }
@@ -47,7 +47,7 @@ returns-3 : tie.Need-returns-3
 returns-3 c =
     let a = c.before.before.before.before.before.before.before.before.before.before.args in
     let t = report_of (view (cache_of a.b.now)) a.rival in
-    fine-told a.b.now a.rival a.page.now _ _ (valid c.before.before.before.before.before.before)
+    fine_told a.b.now a.rival a.page.now _ _ (valid c.before.before.before.before.before.before)
     (put_whole t a.page.now _ _ (omega arith) c.before.before.before.before.before.report-length.ensures c.before.before.put-report.ensures)
 
 pub report-spec : {M : Type 1} → statement M

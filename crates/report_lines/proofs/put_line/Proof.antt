@@ -7,7 +7,7 @@ use native.Mathlib.Omega.{arith}
 use borrow.Author.Rules.{rules}
 use borrow.Rule.Slice.PartMut.{put_mid}
 use lib.ListN.{length, get_or, drop}
-use Rattle.decimal.proofs.Pages.{TextGoing, go_start, go_as, go-byte, go-number, go_end}
+use Rattle.decimal.proofs.Pages.{TextGoing, go_start, go_as, go_byte, go_number, go_end}
 use Rattle.report_lines.specs.Lines.{separator, line_of}
 use Rattle.report_lines.proofs.Laws.{line_next, line_end, space_next, feed_last}
 use Rattle.report_lines.proofs.put_line.Statement.{statement}
@@ -54,7 +54,7 @@ written c =
     let s = c.before.before.before.before.before.before.before in
     let l = c.before.before.before.before.loop in
     let ns = s.args.numbers.now in
-    go-number s.requires (get_or ns l.i 0) (separator (drop (l.i + 1) ns) ∷ line_of (drop (l.i + 1) ns))
+    go_number s.requires (get_or ns l.i 0) (separator (drop (l.i + 1) ns) ∷ line_of (drop (l.i + 1) ns))
     (go_as (line_next ns l.i (omega arith)) l.invariant.1) c.write.ensures
 
 add_at : tie.Need-overflow-add-at invariant-loop decreases-loop
@@ -79,7 +79,7 @@ loop-again c =
     let i = c.before.before.before.before.before.before.before.loop.i in
     let byte : c.if1.page ≡ separator (drop (i + 1) ns) =
     ⊎_elim (λ x. omega (arith, space_next ns (i + 1) x.0.taken)) (λ x. omega (arith, feed_last ns (i + 1) x.0.left)) c.if1.branch in
-    (omega arith, rw byte (go-byte s.requires (written c.before.before.before)))
+    (omega arith, rw byte (go_byte s.requires (written c.before.before.before)))
 
 same_length : tie.Need-same-length invariant-loop decreases-loop
 same_length c = search rules

@@ -2,7 +2,7 @@
 use borrow.Author.Rules.{rules}
 use mathlib.Core.Logic.{⊎_elim}
 use borrow.Author.Tests.{ltb-true, ltb-false}
-use Rattle.season_items.proofs.Presence.{advanced_arrive, advanced-retire, advanced_same}
+use Rattle.season_items.proofs.Presence.{advanced_arrive, advanced_retire, advanced_same}
 use Rattle.season_items.proofs.advanced.Statement.{statement}
 use Rattle.season_items.proofs.advanced.Tie as tie
 use Rattle.season_items.proofs.advanced.Reads as reads
@@ -22,7 +22,7 @@ mark-requires : tie.Need-mark-requires
 mark-requires c κs = search rules
 
 returns-2 : tie.Need-returns-2
-returns-2 c = let a = c.before.before.before.before.before.before.before.before.before.args in advanced-retire a.p a.step c.mark.result c.before.before.before.before.if2.true (ltb-true _ _ c.before.before.if3.true) c.mark.ensures
+returns-2 c = let a = c.before.before.before.before.before.before.before.before.before.args in advanced_retire a.p a.step c.mark.result c.before.before.before.before.if2.true (ltb-true _ _ c.before.before.if3.true) c.mark.ensures
 
 returns-3 : tie.Need-returns-3
 returns-3 c =

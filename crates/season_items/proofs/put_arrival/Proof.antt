@@ -1,7 +1,7 @@
 -- `season_items::put_arrival` meets its contract: an arrival's values fit their bytes, being in range. Assumes nothing.
 use borrow.Author.Rules.{rules}
 use native.Mathlib.Omega.{arith}
-use Rattle.season_items.proofs.Presence.{arrival_facts, stores-arrival, stores_nothing}
+use Rattle.season_items.proofs.Presence.{arrival_facts, stores_arrival, stores_nothing}
 use Rattle.season_items.proofs.put_arrival.Statement.{statement}
 use Rattle.season_items.proofs.put_arrival.Tie as tie
 use Rattle.season_items.proofs.put_arrival.Reads as reads
@@ -29,7 +29,7 @@ same_length : tie.Need-same-length
 same_length c = search rules
 
 returns : tie.Need-returns
-returns c = let a = c.before.before.before.before.before.before.before.before.before.before.before.args in stores-arrival a.step a.catalog.now c.before.before.put.new.0 c.before.before.before.before.before.before.before.before.if1.true c.before.before.put.ensures
+returns c = let a = c.before.before.before.before.before.before.before.before.before.before.before.args in stores_arrival a.step a.catalog.now c.before.before.put.new.0 c.before.before.before.before.before.before.before.before.if1.true c.before.before.put.ensures
 
 returns-2 : tie.Need-returns-2
 returns-2 c = let a = c.before.before.before.args in stores_nothing a.step a.catalog.now c.if1.false

@@ -6,7 +6,7 @@ use native.Mathlib.Omega.{arith}
 use borrow.Author.Rules.{rules}
 use borrow.Author.Tests.{le-leb, lt-leb, ltb-true, ltb-false}
 use Rattle.season_lines.specs.declared.Line.TheVariants.{Act as ActLine}
-use Rattle.season_lines.proofs.Laws.{both_yes, told_no, told_yes, acts_shape, act-malformed, act-far, act_good}
+use Rattle.season_lines.proofs.Laws.{both_yes, told_no, told_yes, acts_shape, act_malformed, act_far, act_good}
 use Rattle.season_lines.proofs.act_line.Statement.{statement}
 use Rattle.season_lines.proofs.act_line.Tie as tie
 
@@ -37,7 +37,7 @@ shape c =
 returns : tie.Need-returns
 returns c =
     let letter = c.before.before.value_in in
-    act-malformed _ _ _ _ letter.result letter.ensures
+    act_malformed _ _ _ _ letter.result letter.ensures
     (⊎_elim (λ w. inl (told_no _ _ c.before.is_number.ensures w.taken))
     (⊎_elim (λ w. inr (inl (told_no _ _ w.1.ensures w.2.taken)))
     (λ w. inr (inr (told_no _ _ w.3.ensures w.4.taken)))) c.if1.branch)
@@ -56,7 +56,7 @@ returns-2 c =
     let letter = c.before.before.before.before.before.before.before.before.before.value_in in
     let place = c.before.before.value-in2 in
     let item = c.before.value-in3 in
-    act-far _ _ _ _ letter.result letter.ensures place.result item.result place.ensures item.ensures
+    act_far _ _ _ _ letter.result letter.ensures place.result item.result place.ensures item.ensures
     (shape c.before.before.before)
     (⊎_elim (λ w. inl (lt-leb place.result 999999 (omega (arith, w.taken))))
     (⊎_elim (λ w. inr (inl (told_no _ _ w.1.ensures w.2.taken)))

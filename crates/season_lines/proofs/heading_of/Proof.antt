@@ -1,7 +1,7 @@
 -- `season_lines::heading_of` meets its contract: each return compares with the headings of its table. Assumes nothing.
 use mathlib.Core.Path.{◌∙◌}
 use borrow.Author.Rules.{rules}
-use Rattle.season_lines.proofs.Laws.{heading_0, heading_1, heading_2, heading-3}
+use Rattle.season_lines.proofs.Laws.{heading_0, heading_1, heading_2, heading_3}
 use Rattle.season_lines.proofs.heading_of.Statement.{statement}
 use Rattle.season_lines.proofs.heading_of.Tie as tie
 
@@ -56,7 +56,7 @@ returns-4 : tie.Need-returns-4
 returns-4 c =
     let a = c.before.before.before.before.before.before.before.args in
     c.the-heading2.ensures
-    ∙ heading-3 a.table a.line.now c.before.same2.result c.before.before.before.before.before.if1.false c.before.before.before.before.if2.false c.before.before.before.if3.false c.before.same2.ensures
+    ∙ heading_3 a.table a.line.now c.before.same2.result c.before.before.before.before.before.if1.false c.before.before.before.before.if2.false c.before.before.before.if3.false c.before.same2.ensures
 
 pub heading-of-spec : {M : Type 1} → statement M
 heading-of-spec =

@@ -8,7 +8,7 @@ use borrow.Author.Rules.{rules}
 use borrow.Author.Tests.{le-leb, lt-leb}
 use Rattle.landlord.specs.Catalog.{item_in_range}
 use Rattle.landlord.specs.Catalog.{listed}
-use Rattle.season_lines.proofs.Laws.{both_yes, told_no, told_yes, item_bounds, item_shape, item-malformed, item-far, item_good}
+use Rattle.season_lines.proofs.Laws.{both_yes, told_no, told_yes, item_bounds, item_shape, item_malformed, item_far, item_good}
 use Rattle.season_lines.proofs.item_line.Statement.{statement}
 use Rattle.season_lines.proofs.item_line.Tie as tie
 
@@ -41,7 +41,7 @@ shape c =
 
 returns : tie.Need-returns
 returns c =
-    item-malformed _ _ _ _ _
+    item_malformed _ _ _ _ _
     (⊎_elim (λ w. inl (told_no _ _ c.before.is_number.ensures w.taken))
     (⊎_elim (λ w. inr (inl (told_no _ _ w.1.ensures w.2.taken)))
     (⊎_elim (λ w. inr (inr (inl (told_no _ _ w.3.ensures w.4.taken))))
@@ -68,7 +68,7 @@ returns-2 c =
     let b = c.before.before.before.value-in2 in
     let l = c.before.before.value-in3 in
     let w = c.before.value-in4 in
-    item-far _ _ _ _ _ i.result b.result l.result w.result i.ensures b.ensures l.ensures w.ensures
+    item_far _ _ _ _ _ i.result b.result l.result w.result i.ensures b.ensures l.ensures w.ensures
     (shape c.before.before.before.before.before)
     (⊎_elim (λ p. inl (lt-leb i.result 255 p.taken))
     (λ p. inr (told_no _ _ p.1.ensures p.2.taken)) c.if5.branch)

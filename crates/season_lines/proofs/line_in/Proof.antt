@@ -3,7 +3,7 @@ use mathlib.Core.Path.{◌≡◌, sym, ◌∙◌}
 use native.Mathlib.Omega.{arith}
 use borrow.Author.Rules.{rules}
 use Rattle.season_lines.specs.Lines.{names_in}
-use Rattle.season_lines.proofs.Laws.{line_count, line-0, line-1, line-2, line-3}
+use Rattle.season_lines.proofs.Laws.{line_count, line_0, line_1, line_2, line_3}
 use Rattle.season_lines.proofs.line_in.Statement.{statement}
 use Rattle.season_lines.proofs.line_in.Tie as tie
 
@@ -36,7 +36,7 @@ returns-2 : tie.Need-returns-2
 returns-2 c =
     let whole = c.before.before.before.before.before.before in
     c.sizes-line.ensures
-    ∙ line-0 _ _ _ _ _ (omega arith) whole.before.before.requires.some (full whole) c.before.before.if2.true _ c.before.rule-field.ensures
+    ∙ line_0 _ _ _ _ _ (omega arith) whole.before.before.requires.some (full whole) c.before.before.if2.true _ c.before.rule-field.ensures
 
 array-copy-out-item-line : tie.Need-array-copy-out-item-line
 array-copy-out-item-line c = search rules
@@ -47,7 +47,7 @@ item-line-requires c κs = search rules
 returns-3 : tie.Need-returns-3
 returns-3 c =
     let whole = c.before.before.before.before.before.before.before in
-    c.item-line.ensures ∙ line-1 _ _ _ _ _ (omega arith) whole.before.before.requires.some (full whole) c.before.before.if3.true
+    c.item-line.ensures ∙ line_1 _ _ _ _ _ (omega arith) whole.before.before.requires.some (full whole) c.before.before.if3.true
 
 array-copy-out-value-field : tie.Need-array-copy-out-value-field
 array-copy-out-value-field c = search rules
@@ -75,7 +75,7 @@ returns-4 c =
     let values = c.before.before.before.before.before.before in
     let whole = values.before.before.before.before.before.before.before in
     c.step_line.ensures
-    ∙ line-2 _ _ _ _ _ (omega arith) whole.before.before.requires.some (full whole) values.before.if4.true _ _ _ c.before.before.before.before.before.value-field.ensures c.before.before.before.value-field2.ensures c.before.value-field3.ensures
+    ∙ line_2 _ _ _ _ _ (omega arith) whole.before.before.requires.some (full whole) values.before.if4.true _ _ _ c.before.before.before.before.before.value-field.ensures c.before.before.before.value-field2.ensures c.before.value-field3.ensures
 
 act-line-requires : tie.Need-act-line-requires
 act-line-requires c κs = search rules
@@ -83,7 +83,7 @@ act-line-requires c κs = search rules
 returns-5 : tie.Need-returns-5
 returns-5 c =
     let whole = c.before.before.before.before.before.before.before in
-    c.act-line.ensures ∙ line-3 _ _ _ _ _ (omega arith) whole.before.before.requires.some (full whole) c.before.before.before.if2.false c.before.before.if3.false c.before.if4.false
+    c.act-line.ensures ∙ line_3 _ _ _ _ _ (omega arith) whole.before.before.requires.some (full whole) c.before.before.before.if2.false c.before.before.if3.false c.before.if4.false
 
 pub line-in-spec : {M : Type 1} → statement M
 line-in-spec =

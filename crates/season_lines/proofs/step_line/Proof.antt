@@ -8,7 +8,7 @@ use Rattle.types.specs.Types.{numbers_from}
 use Rattle.landlord.proofs.Steps.{range_few}
 use Rattle.season_lines.specs.Lines.{numbers_under}
 use Rattle.season_lines.specs.declared.Line.TheVariants.{Step}
-use Rattle.season_lines.proofs.Laws.{both_yes, told_no, told_yes, steps_shape, values_of, step-malformed, step-far, step_good}
+use Rattle.season_lines.proofs.Laws.{both_yes, told_no, told_yes, steps_shape, values_of, step_malformed, step_far, step_good}
 use Rattle.season_lines.proofs.step_line.Statement.{statement}
 use Rattle.season_lines.proofs.step_line.Tie as tie
 
@@ -50,7 +50,7 @@ step-shaped-requires c κs = search rules
 
 returns : tie.Need-returns
 returns c =
-    step-malformed _ _ _ _ _ _ _ _ _ (numbers c.before.before)
+    step_malformed _ _ _ _ _ _ _ _ _ (numbers c.before.before)
     (⊎_elim (λ w. inl (told_no _ _ c.before.is-letter.ensures w.taken))
     (λ w. inr (told_no _ _ w.1.ensures w.2.taken)) c.if1.branch)
 
@@ -72,7 +72,7 @@ refusal-of-requires : tie.Need-refusal-of-requires
 refusal-of-requires c κs = omega (arith, c.before.range-refusal.ensures, range_few c.before.before.before.before.before.before.numbers-under.result, c.if3.true)
 
 returns-2 : tie.Need-returns-2
-returns-2 c = step-far _ _ _ _ _ _ _ _ _ (numbers c.before.before.before.before.before.before.before) (shape c.before.before.before) _ c.before.before.range-refusal.ensures c.before.if3.true _ c.refusal-of.ensures
+returns-2 c = step_far _ _ _ _ _ _ _ _ _ (numbers c.before.before.before.before.before.before.before) (shape c.before.before.before) _ c.before.before.range-refusal.ensures c.before.if3.true _ c.refusal-of.ensures
 
 step-of-requires : tie.Need-step-of-requires
 step-of-requires c κs = search rules

@@ -5,7 +5,7 @@ use native.Mathlib.Omega.{arith}
 use borrow.Author.Rules.{rules}
 use lib.ListN.{length}
 use Rattle.decimal.specs.Decimal.{digits_of}
-use Rattle.season_log.proofs.Writing.{item_range, minutes_range, arrives, item_digits, minutes_digits, arrive_line, flush_line, write_line, named-line}
+use Rattle.season_log.proofs.Writing.{item_range, minutes_range, arrives, item_digits, minutes_digits, arrive_line, flush_line, write_line, named_line}
 use Rattle.season_log.proofs.line_bytes.Statement.{statement}
 use Rattle.season_log.proofs.line_bytes.Tie as tie
 
@@ -69,7 +69,7 @@ add-result-6 c = omega (arith, counted c.before.before)
 
 returns-4 : tie.Need-returns-4
 returns-4 c = (
-  (λ j. 4 + c.before.before.short-width.ensures j + c.before.before.before.before.before.end-bytes.ensures.0 j) ∙ named-line c.before.before.before.before.before.before.before.before.args.heading c.before.before.before.before.before.before.before.before.args.n c.before.before.before.if2.false c.if3.false c.before.before.before.before.before.before.if1.false c.before.before.before.before.before.before.before.before.requires,
+  (λ j. 4 + c.before.before.short-width.ensures j + c.before.before.before.before.before.end-bytes.ensures.0 j) ∙ named_line c.before.before.before.before.before.before.before.before.args.heading c.before.before.before.before.before.before.before.before.args.n c.before.before.before.if2.false c.if3.false c.before.before.before.before.before.before.if1.false c.before.before.before.before.before.before.before.before.requires,
   omega (arith, counted c.before.before),
 )
 

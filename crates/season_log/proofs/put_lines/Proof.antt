@@ -5,7 +5,7 @@ use borrow.Author.Rules.{rules}
 use borrow.Rule.Slice.PartMut.{put_mid}
 use lib.ListN.{length}
 use Rattle.season_log.specs.Log.{step_lines, lent_under}
-use Rattle.season_log.proofs.Writing.{steps_of, whole_more, Putting, putting, lines_room, line_fits, putting-next, lines_end}
+use Rattle.season_log.proofs.Writing.{steps_of, whole_more, Putting, putting, lines_room, line_fits, putting_next, lines_end}
 use Rattle.season_log.proofs.put_lines.Statement.{statement}
 use Rattle.season_log.proofs.put_lines.Tie as tie
 
@@ -46,7 +46,7 @@ written :
     let l = c.before.before.before.loop in
     Putting s.args.heading s.args.list.now s.args.page.now (l.at + 24) (l.to + c.put_step.result)
     (put_mid l.to (length l.page - l.to) l.page c.put_step.new.1.1.1.0))
-written c = putting-next c.before.before.before.before.before.before.args.heading c.before.before.before.loop.invariant (room c.before.before.before.before.before.before) (more c.before.before) c.put_step.ensures.0 c.put_step.ensures.1
+written c = putting_next c.before.before.before.before.before.before.args.heading c.before.before.before.loop.invariant (room c.before.before.before.before.before.before) (more c.before.before) c.put_step.ensures.0 c.put_step.ensures.1
 
 add-to : tie.Need-overflow-add-to invariant-loop decreases-loop
 add-to c = omega (arith, room c.before.before.before.before.before.before.before.before, (written c.before.before).going)

@@ -7,7 +7,7 @@ use borrow.Author.Rules.{rules}
 use borrow.Rule.Slice.PartMut.{put_mid}
 use lib.ListN.{length, set, length-set}
 use Rattle.decimal.specs.Decimal.{text_of, digits_of}
-use Rattle.decimal.proofs.Pages.{TextGoing, go_start, go-byte, go_as, go_room, go_next, go_end}
+use Rattle.decimal.proofs.Pages.{TextGoing, go_start, go_byte, go_as, go_room, go_next, go_end}
 use Rattle.season_log.specs.Log.{no_values}
 use Rattle.season_log.specs.Inner.{named_text}
 use Rattle.season_log.proofs.put_named.Statement.{statement}
@@ -31,7 +31,7 @@ abbrev page-1 : (s : tie.Start) → List ℕ
 page-1 s = set (set s.args.page.now 0 s.args.letter) 1 32
 
 lettered : (s : tie.Start) → TextGoing (whole s) s.args.page.now 2 (digits_of s.args.item ++ late s) (page-1 s)
-lettered s = go-byte s.requires.1 (go-byte s.requires.1 (go_start (whole s) s.args.page.now))
+lettered s = go_byte s.requires.1 (go_byte s.requires.1 (go_start (whole s) s.args.page.now))
 
 sub-put-short : tie.Need-overflow-sub-put-short
 sub-put-short c = omega (arith, c.before.requires.1, lettered c.before)

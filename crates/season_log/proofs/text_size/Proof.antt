@@ -5,7 +5,7 @@ use native.Mathlib.Omega.{arith}
 use borrow.Author.Rules.{rules}
 use Rattle.landlord.proofs.Steps.{range_free, range_few}
 use Rattle.season_lines.specs.Lines.{numbers_under}
-use Rattle.season_log.proofs.Writing.{kept, Counting, counting, counting_more, counting_next, counted-fault, counted-torn, counted_whole}
+use Rattle.season_log.proofs.Writing.{kept, Counting, counting, counting_more, counting_next, counted_fault, counted_torn, counted_whole}
 use Rattle.season_log.proofs.text_size.Statement.{statement}
 use Rattle.season_log.proofs.text_size.Tie as tie
 
@@ -38,7 +38,7 @@ refusal-of-requires c κs = omega (arith, c.before.before.range-under.ensures, r
 
 returns : tie.Need-returns invariant-loop decreases-loop
 returns c =
-    counted-fault c.before.before.before.before.before.before.before.before.before.args.heading c.before.before.before.before.before.before.loop.invariant (counting_more c.before.before.before.before.before.before.before.before.before.args.heading c.before.before.before.before.before.before.loop.invariant c.before.before.before.before.before.loop-test.true) (ap (numbers_under c.before.before.before.before.before.before.before.before.before.args.heading) c.before.before.before.before.list_numbers.ensures) c.before.before.before.range-under.ensures c.before.before.if1.true c.before.Line-of.ensures _ c.refusal-of.ensures
+    counted_fault c.before.before.before.before.before.before.before.before.before.args.heading c.before.before.before.before.before.before.loop.invariant (counting_more c.before.before.before.before.before.before.before.before.before.args.heading c.before.before.before.before.before.before.loop.invariant c.before.before.before.before.before.loop-test.true) (ap (numbers_under c.before.before.before.before.before.before.before.before.before.args.heading) c.before.before.before.before.list_numbers.ensures) c.before.before.before.range-under.ensures c.before.before.if1.true c.before.Line-of.ensures _ c.refusal-of.ensures
 
 line-bytes-requires : tie.Need-line-bytes-requires invariant-loop decreases-loop
 line-bytes-requires c κs = (kept c.before.before.before.before.before.before.before.args.heading c.before.before.list_numbers.result (sym c.before.range-under.ensures ∙ c.if1.false)).1
@@ -62,7 +62,7 @@ line-of-requires-2 : tie.Need-line-of-requires-2 invariant-loop decreases-loop
 line-of-requires-2 c κs = search rules
 
 returns-2 : tie.Need-returns-2 invariant-loop decreases-loop
-returns-2 c = counted-torn c.before.before.before.before.before.before.args.heading c.before.before.before.loop.invariant refl c.before.before.loop-test.false c.before.if2.true c.line-of2.ensures
+returns-2 c = counted_torn c.before.before.before.before.before.before.args.heading c.before.before.before.loop.invariant refl c.before.before.loop-test.false c.before.if2.true c.line-of2.ensures
 
 returns-3 : tie.Need-returns-3 invariant-loop decreases-loop
 returns-3 c = counted_whole c.before.before.before.before.before.args.heading c.before.before.loop.invariant (omega (arith, c.before.loop-test.false, c.if2.false))

@@ -5,7 +5,7 @@ use native.Mathlib.Omega.{arith}
 use lib.ListN.{length}
 use borrow.Author.Rules.{rules}
 use Rattle.season_plan.specs.declared.Copies.{Copies}
-use Rattle.season_plan.proofs.Deeds.{few_items_lem, fetch_fails, fetch-does, used_most}
+use Rattle.season_plan.proofs.Deeds.{few_items_lem, fetch_fails, fetch_does, used_most}
 use Rattle.season_plan.proofs.fetch.Statement.{statement}
 use Rattle.season_plan.proofs.fetch.Tie as tie
 
@@ -59,7 +59,7 @@ returns-2 : tie.Need-returns-2
 returns-2 c =
     let s = c.before.before.before.before.before.before in
     let is = c.done.ensures.1 in
-    fetch-does s.args.catalog.now s.args.t2 s.args.item s.requires.known (placed s) c.done.result (omega arith)
+    fetch_does s.args.catalog.now s.args.t2 s.args.item s.requires.known (placed s) c.done.result (omega arith)
     c.done.ensures.0 (ap (λ (t : Copies). t.n) is) (ap (λ (t : Copies). t.marks) is) (ap (λ (t : Copies). t.used) is ∙ ap (λ t. s.args.t2.used + t) c.before.before.blocks2.ensures) (ap (λ (t : Copies). t.paid) is ∙ ap (λ t. s.args.t2.paid + t) c.before.load_cost.ensures)
 
 pub fetch_spec : {M : Type 1} → statement M

@@ -4,7 +4,7 @@ use Prim.Native.Nat.{◌+◌, ◌-◌, ◌<◌}
 use native.Mathlib.Omega.{arith}
 use lib.ListN.{length}
 use borrow.Author.Rules.{rules}
-use Rattle.season_plan.proofs.Deeds.{few_items_lem, lose_none, lose-clean, lose_dirty, used_some}
+use Rattle.season_plan.proofs.Deeds.{few_items_lem, lose_none, lose_clean, lose_dirty, used_some}
 use Rattle.season_plan.proofs.lose.Statement.{statement}
 use Rattle.season_plan.proofs.lose.Tie as tie
 
@@ -61,7 +61,7 @@ returns-2 c =
 returns-3 : tie.Need-returns-3
 returns-3 c =
     let s = c.before.before.before.before.before in
-    lose-clean s.args.catalog.now s.args.t2 s.args.item s.requires.known (placed s) _ s.requires.ready c.if2.false refl refl
+    lose_clean s.args.catalog.now s.args.t2 s.args.item s.requires.known (placed s) _ s.requires.ready c.if2.false refl refl
     (ap (λ t. s.args.t2.used - t) c.before.blocks2.ensures) refl
 
 pub lose-spec : {M : Type 1} → statement M

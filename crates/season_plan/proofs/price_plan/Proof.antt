@@ -9,7 +9,7 @@ use Rattle.season_plan.specs.declared.Copies.{Copies}
 use Rattle.season_plan.specs.Inner.{PlanServable}
 use Rattle.season_plan.proofs.Marks.{by_cases}
 use Rattle.season_plan.proofs.InPlace.{acted, stood, Settled, acts_none, acts_done, hit_serves}
-use Rattle.season_plan.proofs.Pricing.{Pricing, pricing_few, pricing_starts, pricing_low, pricing_ready, pricing_acts, pricing_act_number, pricing-act-fails, pricing_serves, pricing_step_number, pricing-step-fails, pricing_turn, pricing-ends}
+use Rattle.season_plan.proofs.Pricing.{Pricing, pricing_few, pricing_starts, pricing_low, pricing_ready, pricing_acts, pricing_act_number, pricing_act_fails, pricing_serves, pricing_step_number, pricing_step_fails, pricing_turn, pricing_ends}
 use Rattle.season_plan.proofs.price_plan.Statement.{statement}
 use Rattle.season_plan.proofs.price_plan.Tie as tie
 
@@ -104,7 +104,7 @@ returns c =
     let t = c.before.before.before.before.before.before.before.before.before.before.before.before in
     let l = c.before.before.before.before.before.before.before.before.loop in
     let b = c.before.before.before.before.acts-before in
-    (pricing-act-fails t.args.seen t.args.catalog.now t.args.calls.now t.args.acts.now t.requires l.p l.a l.s l.invariant (omega (arith, c.before.before.before.before.before.before.before.loop-test.true)) b.result b.ensures.0 b.ensures.1 _ _ c.refusal-of.ensures c.before.before.before.if2.true (omega arith), tt)
+    (pricing_act_fails t.args.seen t.args.catalog.now t.args.calls.now t.args.acts.now t.requires l.p l.a l.s l.invariant (omega (arith, c.before.before.before.before.before.before.before.loop-test.true)) b.result b.ensures.0 b.ensures.1 _ _ c.refusal-of.ensures c.before.before.before.if2.true (omega arith), tt)
 
 mul-kind : tie.Need-overflow-mul-kind invariant-loop decreases-loop
 mul-kind c = omega (arith, c.before.before.before.before.before.before.before.requires.few.steps, c.before.before.before.before.before.before.before.requires.few.acts, few (c.before.before.before.before.before.before.before))
@@ -169,7 +169,7 @@ returns-2 c =
     let t = c.before.before.before.before.before.before.before.before.before.before.before.before.before.before.before.before in
     let l = c.before.before.before.before.before.before.before.before.before.before.before.before.loop in
     let j = c.before.before.before.before.before.before.before.before.before in
-    (pricing-step-fails t.args.seen t.args.catalog.now t.args.calls.now t.args.acts.now t.requires l.p l.a l.s l.invariant (omega (arith, c.before.before.before.before.before.before.before.before.before.before.before.loop-test.true)) (acted j.if1.p j.if1.a) (settled j).0 (settled j).1 refl c.before.before.before.serve.result c.before.before.before.serve.ensures _ _ c.refusal-of2.ensures c.before.before.if4.true (omega arith), tt)
+    (pricing_step_fails t.args.seen t.args.catalog.now t.args.calls.now t.args.acts.now t.requires l.p l.a l.s l.invariant (omega (arith, c.before.before.before.before.before.before.before.before.before.before.before.loop-test.true)) (acted j.if1.p j.if1.a) (settled j).0 (settled j).1 refl c.before.before.before.serve.result c.before.before.before.serve.ensures _ _ c.refusal-of2.ensures c.before.before.if4.true (omega arith), tt)
 
 add-s : tie.Need-overflow-add-s invariant-loop decreases-loop
 add-s c = omega (arith, c.before.before.before.before.before.before.before.before.before.before.before.before.requires.few.steps, c.before.before.before.before.before.before.before.before.before.before.before.before.requires.few.acts, few (c.before.before.before.before.before.before.before.before.before.before.before.before))
@@ -212,7 +212,7 @@ returns-3 : tie.Need-returns-3 invariant-loop decreases-loop
 returns-3 c =
     let t = c.before.before.before.before.before.before in
     let l = c.before.before.loop in
-    (pricing-ends t.args.seen t.args.catalog.now t.args.calls.now t.args.acts.now t.requires l.p l.a l.s l.invariant c.owed.result _ (omega arith) c.owed.ensures.0 (omega arith), omega (arith, pricing_low t.args.seen t.args.catalog.now t.args.calls.now t.args.acts.now t.requires l.p l.a l.s l.invariant, c.owed.ensures.1))
+    (pricing_ends t.args.seen t.args.catalog.now t.args.calls.now t.args.acts.now t.requires l.p l.a l.s l.invariant c.owed.result _ (omega arith) c.owed.ensures.0 (omega arith), omega (arith, pricing_low t.args.seen t.args.catalog.now t.args.calls.now t.args.acts.now t.requires l.p l.a l.s l.invariant, c.owed.ensures.1))
 
 pub price-plan-spec : {M : Type 1} → statement M
 price-plan-spec =

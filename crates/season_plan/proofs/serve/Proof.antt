@@ -8,7 +8,7 @@ use borrow.Author.Rules.{rules}
 use Rattle.season_plan.specs.declared.Copies.{Copies}
 use Rattle.season_plan.proofs.Marks.{by_cases}
 use Rattle.season_plan.proofs.Deeds.{few_items_lem}
-use Rattle.season_plan.proofs.Serving.{known_retire, serve_missing, serve_over, serve_read, serve-write, serve-flush, serve-arrive, serve_retire}
+use Rattle.season_plan.proofs.Serving.{known_retire, serve_missing, serve_over, serve_read, serve_write, serve_flush, serve_arrive, serve_retire}
 use Rattle.season_plan.proofs.serve.Statement.{statement}
 use Rattle.season_plan.proofs.serve.Tie as tie
 
@@ -71,7 +71,7 @@ done-requires-2 c κs = search rules
 returns-4 : tie.Need-returns-4
 returns-4 c =
     let s = c.before.before.before.before.before.before.before.before.before.before.before in
-    serve-flush s.args.catalog.now s.args.h s.args.t3 s.args.kind s.args.item s.requires.known c.done2.result (sym c.before.before.before.before.before.before.before.before.lacks.ensures ∙ c.before.before.before.before.before.before.if1.false) (sym c.before.before.before.before.before.before.before.within.ensures ∙ not-false c.before.before.before.before.before.before.before.within.result c.before.before.before.before.before.if2.false) c.done2.ensures.0 _ c.before.before.owed.result c.before.before.before.if4.true c.before.before.owed.ensures.0 refl refl refl refl (rw c.done2.ensures.1 c.before.clean.ensures)
+    serve_flush s.args.catalog.now s.args.h s.args.t3 s.args.kind s.args.item s.requires.known c.done2.result (sym c.before.before.before.before.before.before.before.before.lacks.ensures ∙ c.before.before.before.before.before.before.if1.false) (sym c.before.before.before.before.before.before.before.within.ensures ∙ not-false c.before.before.before.before.before.before.before.within.result c.before.before.before.before.before.if2.false) c.done2.ensures.0 _ c.before.before.owed.result c.before.before.before.if4.true c.before.before.owed.ensures.0 refl refl refl refl (rw c.done2.ensures.1 c.before.clean.ensures)
 
 add-q-2 : tie.Need-overflow-add-q-2
 add-q-2 c = let s = c.before.before.before.before.before.before.before.before.before in omega (arith, few_items_lem s.args.catalog.now s.args.t3 s.requires.ready)
@@ -83,7 +83,7 @@ returns-5 : tie.Need-returns-5
 returns-5 c =
     let s = c.before.before.before.before.before.before.before.before.before.before in
     let is = c.done3.ensures.1 in
-    serve-arrive s.args.catalog.now s.args.h s.args.t3 s.args.kind s.args.item s.requires.known c.done3.result (sym c.before.before.before.before.before.before.before.lacks.ensures ∙ c.before.before.before.before.before.if1.false) (sym c.before.before.before.before.before.before.within.ensures ∙ not-false c.before.before.before.before.before.before.within.result c.before.before.before.before.if2.false) c.done3.ensures.0 c.before.if5.true
+    serve_arrive s.args.catalog.now s.args.h s.args.t3 s.args.kind s.args.item s.requires.known c.done3.result (sym c.before.before.before.before.before.before.before.lacks.ensures ∙ c.before.before.before.before.before.if1.false) (sym c.before.before.before.before.before.before.within.ensures ∙ not-false c.before.before.before.before.before.before.within.result c.before.before.before.before.if2.false) c.done3.ensures.0 c.before.if5.true
     (ap (λ (t : Copies). t.n) is) (ap (λ (t : Copies). t.marks) is) (ap (λ (t : Copies). t.used) is) (ap (λ (t : Copies). t.paid) is)
 
 element-write-q : tie.Need-element-write-q
@@ -100,7 +100,7 @@ returns-6 c =
     by_cases c.before.if6.branch
     (λ w.
     let is = c.done4.ensures.1 ∙ w.1 in
-    serve-write s.args.catalog.now s.args.h s.args.t3 s.args.kind s.args.item s.requires.known c.done4.result held fits c.done4.ensures.0 w.0.taken (placed s)
+    serve_write s.args.catalog.now s.args.h s.args.t3 s.args.kind s.args.item s.requires.known c.done4.result held fits c.done4.ensures.0 w.0.taken (placed s)
     (ap (λ (t : Copies). t.n) is) (ap (λ (t : Copies). t.marks) is) (ap (λ (t : Copies). t.used) is) (ap (λ (t : Copies). t.paid) is))
     (λ w. serve_read s.args.catalog.now s.args.h s.args.t3 s.args.kind s.args.item s.requires.known c.done4.result held fits c.done4.ensures.0 c.before.before.before.before.if3.false c.before.before.before.if4.false c.before.before.if5.false w.0.left (c.done4.ensures.1 ∙ w.1))
 

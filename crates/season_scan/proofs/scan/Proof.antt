@@ -14,7 +14,7 @@ use Rattle.line_fields.specs.Fields.{field_of}
 use Rattle.line_fields.specs.Inner.{before, held_field}
 use Rattle.line_fields.proofs.Pieces.{before_le}
 use Rattle.season_scan.proofs.Laws.{line_end, length_part}
-use Rattle.season_scan.proofs.Turns.{AsLong, Lined, Fielded, begins, ends, no-line-feed, field-none, field-more, field_malformed, malformed-here, can_read, line_refused, line_taken}
+use Rattle.season_scan.proofs.Turns.{AsLong, Lined, Fielded, begins, ends, no_line_feed, field_none, field_more, field_malformed, malformed_here, can_read, line_refused, line_taken}
 use Rattle.season_scan.proofs.scan.Statement.{statement}
 use Rattle.season_scan.proofs.scan.Tie as tie
 
@@ -158,7 +158,7 @@ wants-values-requires c κs = search rules
 loop-holds : tie.Need-loop-init invariant-loop decreases-loop invariant-lines decreases-lines
 loop-holds c =
     let names = c.before.names_in in
-    field-none _ _ _ _ _ _ _ _ _ refl names.ensures.0 names.ensures.1 (omega arith) c.wants-values.ensures
+    field_none _ _ _ _ _ _ _ _ _ refl names.ensures.0 names.ensures.1 (omega arith) c.wants-values.ensures
 
 sub-find-2 : tie.Need-overflow-sub-find-2 invariant-loop decreases-loop invariant-lines decreases-lines
 sub-find-2 c = ((fielded c.before true c.loop-test.true).going refl).0
@@ -226,7 +226,7 @@ loop-again : tie.Need-loop-preserved invariant-loop decreases-loop invariant-lin
 loop-again c =
     let f = c.before.before.before in
     let b = f.before.before in
-    field-more _ _ _ _ _ _ _ _ _ _ _ _ (found-le b.before.before.before.before.before.before.before)
+    field_more _ _ _ _ _ _ _ _ _ _ _ _ (found-le b.before.before.before.before.before.before.before)
     (fielded b.before.before.before true b.before.before.loop-test.true) b.find2.ensures (field_is f) _
     (cc) (leb-false _ _ c.if4.false) (sym c.before.before.is-empty.ensures ∙ c.before.if3.false)
 
@@ -305,7 +305,7 @@ same-length-6 c = same-acts c.before.before.before.before.before
 returns-2 : tie.Need-returns-2 invariant-loop decreases-loop invariant-lines decreases-lines
 returns-2 c =
     let a = c.before.before in
-    no-line-feed _ _ _ _ _ _ _ _ _ _ _ _ a.before.before.before.lines.invariant c.stopped.result
+    no_line_feed _ _ _ _ _ _ _ _ _ _ _ _ a.before.before.before.lines.invariant c.stopped.result
     (omega (arith, a.before.before.if1.false))
     (omega (arith, found a, c.before.if2.true)) c.stopped.ensures.0 c.stopped.ensures.1
 
@@ -328,7 +328,7 @@ returns-3 c =
     let bad =
     ⊎_elim (λ w. inl (sym c.before.before.is-empty.ensures ∙ w.taken))
     (λ w. inr (leb-true l.before.before.names_in.result l.loop.count w.1.taken)) c.before.if3.branch in
-    malformed-here _ _ _ _ _ _ _ _ _ _ _ _ a.before.before.before.lines.invariant _ (found a) l.before.before.before.if2.false
+    malformed_here _ _ _ _ _ _ _ _ _ _ _ _ a.before.before.before.lines.invariant _ (found a) l.before.before.before.if2.false
     c.stopped2.result
     (h.going refl).1 (field_malformed _ _ _ _ _ _ _ _ _ _ _ _ (found-le a) h b.find2.ensures (field_is f) _ bad)
     c.stopped2.ensures.0 c.stopped2.ensures.1

@@ -3,7 +3,7 @@ use borrow.Author.Rules.{rules}
 use borrow.Author.Tests.{not-true, not-false}
 use mathlib.Core.Path.{refl, sym, ◌∙◌}
 use lib.ListN.{take}
-use Rattle.season_tables.proofs.Leads.{line_sayable, lead-names, lead-values, lead-blank}
+use Rattle.season_tables.proofs.Leads.{line_sayable, lead_names, lead_values, lead_blank}
 use Rattle.season_tables.proofs.read_line.Statement.{statement}
 use Rattle.season_tables.proofs.read_line.Tie as tie
 use Rattle.season_tables.proofs.read_line.Reads as reads
@@ -25,7 +25,7 @@ returns : tie.Need-returns
 returns c =
     let a = c.before.before.before.before.before.before.before.before.args in
     let r = c.take-names in
-    lead-names a.upto a.stage a.seen a.catalog.now a.calls.now a.acts.now a.text.now a.line r.result c.before.heading-of.result (not-true _ c.before.before.if1.true) c.before.heading-of.ensures r.ensures
+    lead_names a.upto a.stage a.seen a.catalog.now a.calls.now a.acts.now a.text.now a.line r.result c.before.heading-of.result (not-true _ c.before.before.if1.true) c.before.heading-of.ensures r.ensures
 
 wants-values-requires : tie.Need-wants-values-requires
 wants-values-requires c κs = search rules
@@ -54,7 +54,7 @@ returns-2 c =
     let a = c.before.before.before.before.before.before.before.before.before.before.before.before.before.before.before.before.before.before.before.args in
     let p = c.before.before.before.before.before.before.take-line in
     let line = c.before.before.before.before.before.before.before.before.before.before.line-in in (
-      lead-values a.upto a.stage a.seen a.catalog.now a.calls.now a.acts.now a.text.now a.line _ (take a.count a.fields) line.result p.new.1.1.1.0 p.new.1.1.1.1.0 p.new.1.1.1.1.1.0 (sym c.before.before.before.before.before.before.before.before.before.before.before.before.wants-values.ensures ∙ c.before.before.before.before.before.before.before.before.before.before.before.if2.true) c.before.before.before.before.before.before.before.before.before.before.before.before.before.before.before.before.before.before.before.requires.looked line.ensures refl p.ensures.0,
+      lead_values a.upto a.stage a.seen a.catalog.now a.calls.now a.acts.now a.text.now a.line _ (take a.count a.fields) line.result p.new.1.1.1.0 p.new.1.1.1.1.0 p.new.1.1.1.1.1.0 (sym c.before.before.before.before.before.before.before.before.before.before.before.before.wants-values.ensures ∙ c.before.before.before.before.before.before.before.before.before.before.before.if2.true) c.before.before.before.before.before.before.before.before.before.before.before.before.before.before.before.before.before.before.before.requires.looked line.ensures refl p.ensures.0,
       record { kept = p.ensures.1; refused = λ x t. refl },
     )
 
@@ -65,7 +65,7 @@ returns-3 : tie.Need-returns-3
 returns-3 c =
     let a = c.before.before.before.before.before.before.before.before.before.args in
     let r = c.take-blank in
-    lead-blank a.upto a.stage a.seen a.catalog.now a.calls.now a.acts.now a.text.now a.line r.result (not-false _ c.before.before.before.if1.false) (sym c.before.before.wants-values.ensures ∙ c.before.if2.false) r.ensures
+    lead_blank a.upto a.stage a.seen a.catalog.now a.calls.now a.acts.now a.text.now a.line r.result (not-false _ c.before.before.before.if1.false) (sym c.before.before.wants-values.ensures ∙ c.before.if2.false) r.ensures
 
 pub read-line-spec : {M : Type 1} → statement M
 read-line-spec =

@@ -8,7 +8,7 @@ use lib.ListN.{length}
 use borrow.Author.Tests.{leb-true, leb-false}
 use Rattle.types.specs.Types.{telling}
 use Rattle.season_tables.proofs.Told.{known_of}
-use Rattle.season_tables.proofs.Held.{act_few, act_walkable, act_in_range, act_early, act_late, act-refuses, act-noted, act-past}
+use Rattle.season_tables.proofs.Held.{act_few, act_walkable, act_in_range, act_early, act_late, act_refuses, act_noted, act_past}
 use Rattle.season_tables.proofs.take_act.Statement.{statement}
 use Rattle.season_tables.proofs.take_act.Tie as tie
 use Rattle.season_tables.proofs.take_act.Reads as reads
@@ -64,7 +64,7 @@ returns-2 c =
     let a = c.before.before.before.before.before.before.before.before.before.before.before.before.before.args in
     let k = known_of c.before.before.before.before.caught-up.result c.before.before.before.before.before.before.before.before.before.before.item.result c.before.before.before.known.result a.act c.before.before.before.before.before.before.before.before.before.before.item.ensures c.before.before.before.known.ensures in
     let told = c.before.refusal-of.ensures ∙ ap (telling c.before.before.before.known.result a.line) c.before.before.before.before.before.before.before.before.before.before.item.ensures in (
-      act-refuses a.seen a.calls.now a.acts.now a.place a.act a.line c.stopped2.result c.before.before.before.before.before.before.before.before.if1.false (leb-false _ _ c.before.before.before.before.before.before.if2.false) c.before.before.before.before.caught-up.result c.before.before.before.before.caught-up.ensures c.before.before.before.known.result k _ c.before.before.if3.true told c.stopped2.ensures.0,
+      act_refuses a.seen a.calls.now a.acts.now a.place a.act a.line c.stopped2.result c.before.before.before.before.before.before.before.before.if1.false (leb-false _ _ c.before.before.before.before.before.before.if2.false) c.before.before.before.before.caught-up.result c.before.before.before.before.caught-up.ensures c.before.before.before.known.result k _ c.before.before.if3.true told c.stopped2.ensures.0,
       (refl, λ x t. (c.stopped2.ensures.1, refl)),
     )
 
@@ -90,8 +90,8 @@ returns-3 c =
     let p = c.before.before.before.put-act in
     let k = known_of c.before.before.before.before.before.before.before.caught-up.result c.before.before.before.before.before.before.before.before.before.before.before.before.before.item.result c.before.before.before.before.before.before.known.result a.act c.before.before.before.before.before.before.before.before.before.before.before.before.before.item.ensures c.before.before.before.before.before.before.known.ensures in
     let room : 3 * a.seen.acts + 3 ≤ length a.acts.now = omega (arith, t.room.few.acts, t.room.roomy.for_acts) in (
-      act-noted a.seen a.calls.now a.acts.now a.place a.act a.line c.taken.result c.before.before.before.before.before.before.before.before.before.before.before.if1.false (leb-false _ _ c.before.before.before.before.before.before.before.before.before.if2.false) c.before.before.before.before.before.before.before.caught-up.result c.before.before.before.before.before.before.before.caught-up.ensures c.before.before.before.before.before.before.known.result k p.new.0 c.before.before.before.before.before.if3.false room c.taken.ensures.0 c.taken.ensures.1 p.ensures,
-      act-past a.seen a.calls.now a.acts.now a.place a.act a.line c.taken.result c.before.before.before.before.before.before.before.before.before.before.before.if1.false (leb-false _ _ c.before.before.before.before.before.before.before.before.before.if2.false) c.before.before.before.before.before.before.before.caught-up.result c.before.before.before.before.before.before.before.caught-up.ensures c.before.before.before.before.before.before.known.result k p.new.0 room c.taken.ensures.0 c.taken.ensures.1 p.ensures,
+      act_noted a.seen a.calls.now a.acts.now a.place a.act a.line c.taken.result c.before.before.before.before.before.before.before.before.before.before.before.if1.false (leb-false _ _ c.before.before.before.before.before.before.before.before.before.if2.false) c.before.before.before.before.before.before.before.caught-up.result c.before.before.before.before.before.before.before.caught-up.ensures c.before.before.before.before.before.before.known.result k p.new.0 c.before.before.before.before.before.if3.false room c.taken.ensures.0 c.taken.ensures.1 p.ensures,
+      act_past a.seen a.calls.now a.acts.now a.place a.act a.line c.taken.result c.before.before.before.before.before.before.before.before.before.before.before.if1.false (leb-false _ _ c.before.before.before.before.before.before.before.before.before.if2.false) c.before.before.before.before.before.before.before.caught-up.result c.before.before.before.before.before.before.before.caught-up.ensures c.before.before.before.before.before.before.known.result k p.new.0 room c.taken.ensures.0 c.taken.ensures.1 p.ensures,
     )
 
 pub take-act-spec : {M : Type 1} → statement M

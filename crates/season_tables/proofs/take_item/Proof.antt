@@ -1,7 +1,7 @@
 -- `season_tables::take_item` meets its contract: each return is a law of proofs/Held.antt. Assumes nothing.
 use borrow.Author.Rules.{rules}
 use mathlib.Core.Path.{refl}
-use Rattle.season_tables.proofs.Held.{item_next, item-past, item_skipped}
+use Rattle.season_tables.proofs.Held.{item_next, item_past, item_skipped}
 use Rattle.season_tables.proofs.take_item.Statement.{statement}
 use Rattle.season_tables.proofs.take_item.Tie as tie
 use Rattle.season_tables.proofs.take_item.Reads as reads
@@ -36,7 +36,7 @@ returns-2 c =
     let p = c.before.before.before.before.before.put in
     let asked = c.before.before.before.before.before.before.before.before.before.before.requires in (
       item_next a.seen a.catalog.now a.number a.blocks a.load a.write a.line c.taken.result p.new.0 asked.2 asked.0 asked.1 c.before.before.before.before.before.before.before.if1.false c.taken.ensures.0 c.taken.ensures.1 p.ensures,
-      item-past a.seen a.catalog.now a.number a.blocks a.load a.write a.line c.taken.result p.new.0 asked.2 asked.0 c.taken.ensures.0 c.taken.ensures.1 p.ensures,
+      item_past a.seen a.catalog.now a.number a.blocks a.load a.write a.line c.taken.result p.new.0 asked.2 asked.0 c.taken.ensures.0 c.taken.ensures.1 p.ensures,
     )
 
 pub take-item-spec : {M : Type 1} → statement M

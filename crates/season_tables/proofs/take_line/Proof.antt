@@ -1,7 +1,7 @@
 -- `season_tables::take_line` meets its contract: each arm leads where its line says. Assumes nothing.
 use borrow.Author.Rules.{rules}
 use Rattle.season_tables.proofs.Held.{line_says, line_refused, line_takeable}
-use Rattle.season_tables.proofs.Keeps.{stopped_keeps, keeps_all, keeps_items, keeps-steps, keeps_acts}
+use Rattle.season_tables.proofs.Keeps.{stopped_keeps, keeps_all, keeps_items, keeps_steps, keeps_acts}
 use Rattle.season_tables.proofs.take_line.Statement.{statement}
 use Rattle.season_tables.proofs.take_line.Tie as tie
 use Rattle.season_tables.proofs.take_line.Reads as reads
@@ -78,7 +78,7 @@ returns-3 c =
     let a = c.before.before.before.before.before.before.before.before.before.before.before.before.before.args in
     let p = c.before.before.before.before.take_step in (
       line_says a.seen a.values _ a.line p.result a.catalog.now a.calls.now a.acts.now p.new.1.1.1.0 p.new.1.1.1.1.0 a.acts.now c.before.before.before.before.before.before.before.before.values3.given.1 (p.ensures.0 a.acts.now),
-      keeps-steps a.seen a.catalog.now a.calls.now a.acts.now p.result p.new.1.1.1.0 p.new.1.1.1.1.0 p.ensures.1.0 p.ensures.1.1,
+      keeps_steps a.seen a.catalog.now a.calls.now a.acts.now p.result p.new.1.1.1.0 p.new.1.1.1.1.0 p.ensures.1.0 p.ensures.1.1,
     )
 
 same-length-4 : tie.Need-same-length-4

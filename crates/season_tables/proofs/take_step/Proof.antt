@@ -5,7 +5,7 @@ use native.Mathlib.Omega.{arith}
 use Prim.Native.Nat.{◌+◌, ◌*◌, ◌≤◌}
 use lib.ListN.{length}
 use Rattle.types.specs.Types.{telling}
-use Rattle.season_tables.proofs.Held.{step_lookable, step_items, step_in_range, step-refuses, step-noted, step_past}
+use Rattle.season_tables.proofs.Held.{step_lookable, step_items, step_in_range, step_refuses, step_noted, step_past}
 use Rattle.season_tables.proofs.take_step.Statement.{statement}
 use Rattle.season_tables.proofs.take_step.Tie as tie
 use Rattle.season_tables.proofs.take_step.Reads as reads
@@ -43,7 +43,7 @@ returns c =
     let a = c.before.before.before.before.before.before.before.before.args in
     let number = c.before.before.before.before.step-refused in
     let told = c.before.refusal-of.ensures ∙ ap (telling number.result a.line) c.before.before.item.ensures in (
-      step-refuses a.seen a.catalog.now a.calls.now a.step a.line number.result number.ensures c.stopped.result _ c.before.before.before.if1.true told c.stopped.ensures.0,
+      step_refuses a.seen a.catalog.now a.calls.now a.step a.line number.result number.ensures c.stopped.result _ c.before.before.before.if1.true told c.stopped.ensures.0,
       ((refl, λ x t. (c.stopped.ensures.1, refl)), (refl, λ x t. (c.stopped.ensures.1, refl))),
     )
 
@@ -83,7 +83,7 @@ returns-2 c =
     let stored = c.before.before.before.before.before.before.before.before.put-arrival.ensures ∙ step_items a.step c.before.before.before.before.before.before.before.before.before.before.numbers.result a.catalog.now c.before.before.before.before.before.before.before.before.before.before.numbers.ensures in
     let past =
     step_past a.seen a.catalog.now a.calls.now a.step a.line number.result number.ensures c.before.before.before.before.before.before.before.before.before.before.before.if1.false t.sayable t.room.roomy.for_items c.before.before.before.before.before.before.before.before.before.before.numbers.result c.before.advanced.result c.before.before.before.before.before.before.before.before.before.before.numbers.ensures c.before.advanced.ensures c.taken.result c.before.before.before.before.before.before.before.before.before.before.before.before.before.before.before.before.requires.acts t.read c.before.before.before.before.before.before.before.before.put-arrival.new.0 c.before.before.before.before.put_step.new.0 t.holds room c.taken.ensures.0 c.taken.ensures.1 stored c.before.before.before.before.put_step.ensures in (
-      step-noted a.seen a.catalog.now a.calls.now a.step a.line number.result number.ensures c.before.before.before.before.before.before.before.before.before.before.before.if1.false t.sayable t.room.roomy.for_items c.before.before.before.before.before.before.before.before.before.before.numbers.result c.before.advanced.result c.before.before.before.before.before.before.before.before.before.before.numbers.ensures c.before.advanced.ensures c.taken.result c.before.before.before.before.before.before.before.before.put-arrival.new.0 c.before.before.before.before.put_step.new.0 room c.taken.ensures.0 c.taken.ensures.1 stored c.before.before.before.before.put_step.ensures,
+      step_noted a.seen a.catalog.now a.calls.now a.step a.line number.result number.ensures c.before.before.before.before.before.before.before.before.before.before.before.if1.false t.sayable t.room.roomy.for_items c.before.before.before.before.before.before.before.before.before.before.numbers.result c.before.advanced.result c.before.before.before.before.before.before.before.before.before.before.numbers.ensures c.before.advanced.ensures c.taken.result c.before.before.before.before.before.before.before.before.put-arrival.new.0 c.before.before.before.before.put_step.new.0 room c.taken.ensures.0 c.taken.ensures.1 stored c.before.before.before.before.put_step.ensures,
       past,
     )
 

@@ -12,7 +12,7 @@ use Rattle.decimal.specs.Decimal.{same_text}
 use Rattle.decimal.proofs.Laws.{read_value}
 use Rattle.sentence.specs.InnerSentences.{piece_of, part_from, part_of}
 use Rattle.sentence.proofs.Laws.{piece_fits}
-use Rattle.sentence.proofs.Readings.{part_short, part_none, part-found, lent_rest}
+use Rattle.sentence.proofs.Readings.{part_short, part_none, part_found, lent_rest}
 use Rattle.sentence.proofs.read_part.Statement.{statement}
 use Rattle.sentence.proofs.read_part.Tie as tie
 
@@ -93,7 +93,7 @@ enum-told-2 c = search rules
 read : (c : tie.After-read) → (let a = c.before.before.before.before.before.before.before.before.before.before.args in part_from (length a.label.now + c.before.before.piece.result) c.read.result ≡ part_of a.label.now 4294967295 a.s.now)
 read c =
     let a = c.before.before.before.before.before.before.before.before.before.before.args in
-    part-found a.label.now 4294967295 a.s.now (labelled c.before.before.before.before) (ap (λ (k : ℕ). length a.label.now + k) (ends c.before.before)) c.read.ensures
+    part_found a.label.now 4294967295 a.s.now (labelled c.before.before.before.before) (ap (λ (k : ℕ). length a.label.now + k) (ends c.before.before)) c.read.ensures
 
 returns-3 : tie.Need-returns-3
 returns-3 c = ap (part_from _) (sym c.before.v.given.1) ∙ read c.before.before.before
