@@ -464,8 +464,8 @@ module _ (k h : ℕ) (low : 1 ≤ h) (high : h ≤ k) (cat : Catalog) (good : Ca
         Reach (length (catalog_next cat st)) (position a b x q) (a + event_cost (step split k st x).events) b (step split k st x).state (plan_serves cat h s st q)
     unfolding plan_serves step event_sum
     step_reach s (Read i) a b x q kept e len served =
-        either (Reach (length cat) (position a b x q) _ b _) (has (copy_at q i)) _ _
-        (λ r. either (Reach (length cat) (position a b x q) _ b _) (leb (plan_used cat q) h) _ _
+        either (Reach (length cat) (position a b x q) _ b (step split k (Read i) x).state) (has (copy_at q i)) _ _
+        (λ r. either (Reach (length cat) (position a b x q) _ b (step split k (Read i) x).state) (leb (plan_used cat q) h) _ _
         (λ f. (
           len,
           run_to (a + event_cost m.events + cost_added cat (found m.state i)) _ b (b + 0) _ _ q
@@ -480,8 +480,8 @@ module _ (k h : ℕ) (low : 1 ≤ h) (high : h ≤ k) (cat : Catalog) (good : Ca
         m : Moved
         m = make_room split k i x
     step_reach s (Write i minutes) a b x q kept e len served =
-        either (Reach (length cat) (position a b x q) _ b _) (has (copy_at q i)) _ _
-        (λ r. either (Reach (length cat) (position a b x q) _ b _) (leb (plan_used cat q) h) _ _
+        either (Reach (length cat) (position a b x q) _ b (step split k (Write i minutes) x).state) (has (copy_at q i)) _ _
+        (λ r. either (Reach (length cat) (position a b x q) _ b (step split k (Write i minutes) x).state) (leb (plan_used cat q) h) _ _
         (λ f. (
           length-set q i dirty_copy ∙ len,
           run_to (a + event_cost m.events + cost_added cat (found m.state i)) _ b (b + 0) _ _ (set q i dirty_copy)
@@ -497,11 +497,11 @@ module _ (k h : ℕ) (low : 1 ≤ h) (high : h ≤ k) (cat : Catalog) (good : Ca
         m : Moved
         m = make_room split k i x
     step_reach s Flush a b x q kept e len served =
-        either (Reach (length cat) (position a b x q) _ b _) (leb (plan_used cat q) h) _ _
+        either (Reach (length cat) (position a b x q) _ b (step split k Flush x).state) (leb (plan_used cat q) h) _ _
         (λ f. (tab_length (length cat) _, Run.step (flush_move a b _ x q e (omega arith)) Run.stay, none_past (cleaned_all q) (tab_length (length cat) _)))
         (λ f. tt)
     step_reach s (Arrive i bl lo wr) a b x q kept e len served =
-        either (Reach (length (cat ++ (it ∷ []))) (position a b x q) _ b _) (leb (plan_used cat q) h) _ _
+        either (Reach (length (cat ++ (it ∷ []))) (position a b x q) _ b (step split k (Arrive i bl lo wr) x).state) (leb (plan_used cat q) h) _ _
         (λ f. (
           one_longer q no_copy ∙ ap suc len ∙ sym (one_longer cat it),
           subst (Run terms (position a b x q))
@@ -513,7 +513,7 @@ module _ (k h : ℕ) (low : 1 ≤ h) (high : h ≤ k) (cat : Catalog) (good : Ca
         it : Item
         it = listed bl lo wr
     step_reach s (Retire i) a b x q kept e len served =
-        either (Reach (length (catalog_next cat (Retire i))) (position a b x q) _ b _) (leb (plan_used cat q) h) _ _
+        either (Reach (length (catalog_next cat (Retire i))) (position a b x q) _ b (step split k (Retire i) x).state) (leb (plan_used cat q) h) _ _
         (λ f. (
           length-set q i no_copy ∙ len ∙ sym (retired_length cat i),
           Run.step (retire_move i a b _ x q served.0 (omega (arith, kept.slots, size_same x e, served.0)) len
