@@ -25,7 +25,7 @@ returns c =
     let named : TextGoing (labelled c.args.label.now c.args.v) c.args.page.now c.put_text-at.result (digits_of c.args.v ++ []) c.put_text-at.new.page =
     go_as (sym (append-nil _))
     (go_first c.args.label.now (digits_of c.args.v) c.args.page.now c.requires c.put_text-at.ensures.value c.put_text-at.ensures.page_after) in
-    let both = go_end (go_number c.requires c.args.v [] named c.write.ensures) in
+    let both = go_end (go_number c.requires c.args.v [] named (c.write.ensures.value, c.write.ensures.page_after)) in
     record { value = both.0; page_after = both.1 }
 
 pub overflow_add-result : goal.overflow_add-result
@@ -33,5 +33,5 @@ overflow_add-result c =
     let named : TextGoing (labelled c.args.label.now c.args.v) c.args.page.now c.put_text-at.result (digits_of c.args.v ++ []) c.put_text-at.new.page =
     go_as (sym (append-nil _))
     (go_first c.args.label.now (digits_of c.args.v) c.args.page.now c.requires c.put_text-at.ensures.value c.put_text-at.ensures.page_after) in
-    let both = go_end (go_number c.requires c.args.v [] named c.write.ensures) in
+    let both = go_end (go_number c.requires c.args.v [] named (c.write.ensures.value, c.write.ensures.page_after)) in
     omega (arith, c.requires, both.0)

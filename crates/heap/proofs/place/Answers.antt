@@ -1,0 +1,15 @@
+-- `heap::place` meets its contract: one byte of the row. Assumes nothing.
+use Prim.Native.Nat.{◌+◌}
+use Rattle.heap.proofs.Parts.{places_at}
+use mathlib.Core.Path.{sym}
+use native.Mathlib.Omega.{arith}
+use borrow.Author.Rules.{rules}
+use Rattle.heap.proofs.place.Goals as goal
+
+pub overflow_cast-result : goal.overflow_cast-result
+overflow_cast-result c =
+    omega (arith, c.shared_slice_known-1.given (2304 + c.args.i))
+
+pub returns : goal.returns
+returns c =
+    (sym (places_at c.args.s.now c.args.i c.requires.1), omega (arith, c.shared_slice_known-1.given (2304 + c.args.i)))

@@ -1,0 +1,22 @@
+-- `heap::swap` meets its contract: four stores, of which the last decides where both items are one. Assumes nothing.
+use Rattle.heap.proofs.Moving.{swap_stores}
+use lib.ListN.{length-set}
+use native.Mathlib.Omega.{arith}
+use borrow.Author.Rules.{rules}
+use Rattle.heap.proofs.swap.Goals as goal
+
+pub bounds-s-j : goal.bounds-s-j
+bounds-s-j c =
+    rw length-set (search rules)
+
+pub bounds-s-b : goal.bounds-s-b
+bounds-s-b c =
+    rw (length-set, length-set) (search rules)
+
+pub bounds-s-a : goal.bounds-s-a
+bounds-s-a c =
+    rw (length-set, length-set, length-set) (search rules)
+
+pub returns : goal.returns
+returns c =
+    swap_stores c.args.s.now c.args.i c.args.j c.item-a.result c.item-b.result c.requires.size c.requires.one c.requires.two c.item-a.ensures.1 c.item-b.ensures.1 c.item-a.ensures.0 c.item-b.ensures.0
