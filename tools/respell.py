@@ -73,7 +73,7 @@ def turn_antt(text, names, kit_camel, answers, crates=()):
     out = []
     kit = of_the_kit(text, crates)
     names = {w: n for w, n in names.items() if w not in kit}
-    for piece in re.split(r"(--[^\n]*|\"(?:[^\"\\]|\\.)*\")", text):
+    for piece in re.split(r"(--[^\n]*|\"(?:[^\"\\]|\\[\s\S])*\")", text):
         if piece.startswith('"'):
             out.append(piece)
             continue
@@ -109,7 +109,7 @@ def prose(text, names):
 
 def turn_rt(text, names):
     out = []
-    for piece in re.split(r"(//[^\n]*|\"(?:[^\"\\]|\\.)*\")", text):
+    for piece in re.split(r"(//[^\n]*|\"(?:[^\"\\]|\\[\s\S])*\")", text):
         if piece.startswith("//"):
             out.append(prose(piece, names))
         elif piece.startswith('"'):

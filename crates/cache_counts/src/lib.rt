@@ -6,7 +6,7 @@ ghost use Rattle.layout.specs.Inner.{Stands};
 ghost use Rattle.cache_counts.specs.Inner.{step_counted, writeback_counted, PayableAt, StepReadyAt};
 
 // The totals that add up to the steps: each step is counted in one of them.
-#[derive(Drop)]
+#[derive(Clone, Copy)]
 pub enum Total {
     Hits,
     Loads,

@@ -64,7 +64,7 @@ pub struct Cache {
 }
 
 // The answer to a call: taken, or why not.
-#[derive(Drop)]
+#[derive(Clone, Copy)]
 pub enum Answer {
     Taken,
     Refused(Refusal),

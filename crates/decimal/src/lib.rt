@@ -10,7 +10,7 @@ ghost use Rattle.decimal.specs.InnerReads.{read_of};
 ghost use Rattle.decimal.specs.InnerPages.{text_over, labelled, two_digits, three_digits};
 
 // What a text is, read as a number with a limit: no number, a number above the limit, or one that is at most the limit.
-#[derive(Drop)]
+#[derive(Clone, Copy)]
 pub enum Number {
     Malformed,
     OutOfRange,

@@ -19,14 +19,14 @@ use types::{Numbers, Refusal, Step};
 pub const ROOM: usize = 262128;
 
 // What reading a log answers: its heading, 0 or 1, and how many steps it has, or why it is refused.
-#[derive(Drop)]
+#[derive(Clone, Copy)]
 pub enum ReadAnswer {
     Steps { heading: u32, count: usize },
     Refused(Refusal),
 }
 
 // Digits in a text: their value, and the place behind them.
-#[derive(Drop)]
+#[derive(Clone, Copy)]
 struct Digits {
     value: u32,
     end: usize,
@@ -34,7 +34,7 @@ struct Digits {
 
 // A read, a write or a flush that a text begins with: its first three numbers, the others being 0, and how many bytes its line has; 0
 // bytes if the text begins with none.
-#[derive(Drop)]
+#[derive(Clone, Copy)]
 struct Found {
     kind: u32,
     item: u32,
@@ -43,14 +43,14 @@ struct Found {
 }
 
 // The first line of a text: its step and how many bytes it has, or why it is none.
-#[derive(Drop)]
+#[derive(Clone, Copy)]
 enum Next {
     Step { step: Step, bytes: usize },
     Refused(Refusal),
 }
 
 // How far a table is read: the place in the text behind the lines that are, and how many they are.
-#[derive(Drop)]
+#[derive(Clone, Copy)]
 struct Place {
     at: usize,
     count: usize,

@@ -17,7 +17,7 @@ use types::Refusal;
 const LONGEST: usize = 7931;
 
 // What writing on a page answers: the length of the text, or why nothing was written.
-#[derive(Drop)]
+#[derive(Clone, Copy)]
 pub enum Written {
     Text(usize),
     Refused(Refusal),

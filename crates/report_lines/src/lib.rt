@@ -12,7 +12,7 @@ ghost use Rattle.report_lines.specs.Lines.{line_of, item_numbers, item_lines, ri
 ghost use Rattle.report_lines.specs.Inner.{Comparable, TextFits, rival_count};
 
 // What the last two lines say of a rival plan: nothing; or, of a plan of so many blocks, its cost and the two sides of the bound.
-#[derive(Drop)]
+#[derive(Clone, Copy)]
 pub enum Rival {
     Absent,
     Against { blocks: u32, cost: u64 },

@@ -23,7 +23,7 @@ pub const CALL_ROOM: usize = CALL_NUMBERS * (MOST_NOTED + 1);
 pub const ACT_ROOM: usize = ACT_NUMBERS * (MOST_NOTED + 1);
 
 // What is known of the items after some steps: how many there are, and a mark for each that has left.
-#[derive(Drop)]
+#[derive(Clone, Copy)]
 pub struct Present {
     pub n: usize,
     pub left: [u64; 4],

@@ -14,14 +14,14 @@ use line_fields::Field;
 use types::{Act, Deduction, Numbers, Refusal, Step};
 
 // Which heading of its table a line is, the table's headings counted from 0.
-#[derive(Drop)]
+#[derive(Clone, Copy)]
 pub enum Names {
     Known(u32),
     Unknown,
 }
 
 // What a value line says: a line of one of the four tables, or why it is none.
-#[derive(Drop)]
+#[derive(Clone, Copy)]
 pub enum Line {
     Sizes {
         k: u32,

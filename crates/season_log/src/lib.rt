@@ -18,7 +18,7 @@ use types::{Numbers, Refusal};
 pub const LIMIT: usize = 65536;
 
 // What writing a log answers: how many bytes were written, or why none were.
-#[derive(Drop)]
+#[derive(Clone, Copy)]
 pub enum LogAnswer {
     Count(usize),
     Refused(Refusal),

@@ -12,7 +12,7 @@ use types::Refusal;
 
 // What the plan has of each item: 0 no copy, 1 a clean one, 2 a dirty one; the blocks that it holds; what it has paid; and how many items
 // there are so far.
-#[derive(Drop)]
+#[derive(Clone, Copy)]
 pub struct Copies {
     pub marks: [u8; 256],
     pub used: u32,
@@ -21,14 +21,14 @@ pub struct Copies {
 }
 
 // A part of the plan: 0 if it was done, else the number of its fault; and what the plan has then.
-#[derive(Drop)]
+#[derive(Clone, Copy)]
 pub struct Did {
     pub number: u32,
     pub copies: Copies,
 }
 
 // The acts before one step; `next` is the first act behind them, or the one at fault.
-#[derive(Drop)]
+#[derive(Clone, Copy)]
 pub struct Acted {
     pub number: u32,
     pub next: usize,
@@ -36,7 +36,7 @@ pub struct Acted {
 }
 
 // The answer to a plan: its cost, or the refusal of its first fault.
-#[derive(Drop)]
+#[derive(Clone, Copy)]
 pub enum Price {
     Cost(u64),
     Refused(Refusal),

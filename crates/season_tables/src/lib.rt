@@ -16,7 +16,7 @@ use types::{Act, Deduction, Refusal, Step};
 
 // The stage of the reading: in which table, the tables counted from 0; whether behind its line of names; and which of its headings that
 // was, 0 before it.
-#[derive(Drop)]
+#[derive(Clone, Copy)]
 pub struct Stage {
     pub table: u32,
     pub named: bool,
@@ -26,7 +26,7 @@ pub struct Stage {
 // What has been read: the sizes, k 0 before they are read, and the rule of deduction, write-first till then; how many items of the
 // catalogue, steps and acts, which stand in lent slices; the place of the last act; and the items as all steps have left them, and as the
 // steps before the place of the last act have.
-#[derive(Drop)]
+#[derive(Clone, Copy)]
 pub struct Seen {
     pub k: u32,
     pub h: u32,
@@ -39,21 +39,21 @@ pub struct Seen {
     pub earlier: Present,
 }
 
-#[derive(Drop)]
+#[derive(Clone, Copy)]
 pub enum Verdict {
     Taken,
     Refused(Refusal),
 }
 
 // The answer to a value line, or to all lines, with what has been read then.
-#[derive(Drop)]
+#[derive(Clone, Copy)]
 pub struct Scanned {
     pub verdict: Verdict,
     pub seen: Seen,
 }
 
 // The answer to any line, with the stage then.
-#[derive(Drop)]
+#[derive(Clone, Copy)]
 pub struct LineRead {
     pub stage: Stage,
     pub scanned: Scanned,

@@ -49,14 +49,14 @@ const STARTS: [usize; 28] = [
 const LIMIT: u64 = 4294967295;
 
 // What a text says: the refusal whose sentence it is, or nothing.
-#[derive(Drop)]
+#[derive(Clone, Copy)]
 pub enum Reading {
     NoSentence,
     Sentence { number: u32, line: u32, item: u32 },
 }
 
 // Where a word begins among the letters, and where it ends.
-#[derive(Drop)]
+#[derive(Clone, Copy)]
 struct Ends {
     from: usize,
     to: usize,
@@ -64,7 +64,7 @@ struct Ends {
 
 // A number behind its label at the front of a text, and how many bytes both have. A label with no number behind it is missing too: it
 // stays in the text, and what is read next does not begin with it.
-#[derive(Drop)]
+#[derive(Clone, Copy)]
 enum Part {
     Missing,
     Told { value: u32, bytes: usize },
@@ -72,7 +72,7 @@ enum Part {
 
 // Whether a number has a row in the table of refusals.
 pub fn in_table(number: u32) -> bool
-    ensures { result ≡ inTable number }
+    ensures { result ≡ in_table number }
 {
     if number == 0 {
         return false;
@@ -85,7 +85,7 @@ pub fn in_table(number: u32) -> bool
 
 // Whether a refusal of this number names an item.
 fn names_item(number: u32) -> bool
-    ensures { result ≡ namesItem number }
+    ensures { result ≡ names_item number }
 {
     (number == 6)
         | (number == 7)
@@ -123,7 +123,7 @@ fn word_bytes(number: u32) -> usize
 }
 
 fn line_bytes(line: u32) -> usize
-    ensures { result ≡ length (linePart line) }
+    ensures { result ≡ length (line_part line) }
 {
     if 0 < line {
         7 + decimal::width(line as u64)
@@ -133,7 +133,7 @@ fn line_bytes(line: u32) -> usize
 }
 
 fn item_bytes(number: u32, item: u32) -> usize
-    ensures { result ≡ length (itemPart number item) }
+    ensures { result ≡ length (item_part number item) }
 {
     if names_item(number) {
         7 + decimal::width(item as u64)
@@ -144,7 +144,7 @@ fn item_bytes(number: u32, item: u32) -> usize
 
 // How many bytes a sentence has.
 pub fn sentence_bytes(number: u32, line: u32, item: u32) -> usize
-    ensures { result ≡ length (sentenceOf number line item) }
+    ensures { result ≡ length (sentence_of number line item) }
 {
     word_bytes(number) + line_bytes(line) + item_bytes(number, item) + 2
 }
@@ -162,8 +162,8 @@ fn put_word(number: u32, page: &mut [u8]) -> usize
 
 // Writes the line, if there is one, at the start of the page, which has room for it.
 fn put_line(line: u32, page: &mut [u8]) -> usize
-    requires { length (linePart line) ≤ length page.old }
-    ensures { OnPage (linePart line) page.old result page.new }
+    requires { length (line_part line) ≤ length page.old }
+    ensures { OnPage (line_part line) page.old result page.new }
 {
     if line == 0 {
         return 0;
@@ -173,8 +173,8 @@ fn put_line(line: u32, page: &mut [u8]) -> usize
 
 // Writes the sail, if the number names one, at the start of the page, which has room for it.
 fn put_item(number: u32, item: u32, page: &mut [u8]) -> usize
-    requires { length (itemPart number item) ≤ length page.old }
-    ensures { OnPage (itemPart number item) page.old result page.new }
+    requires { length (item_part number item) ≤ length page.old }
+    ensures { OnPage (item_part number item) page.old result page.new }
 {
     if !names_item(number) {
         return 0;
@@ -184,8 +184,8 @@ fn put_item(number: u32, item: u32, page: &mut [u8]) -> usize
 
 // Writes word and line at the start of the page, which has room for both.
 fn put_front(number: u32, line: u32, page: &mut [u8]) -> usize
-    requires { length (word_of number ++ linePart line) ≤ length page.old }
-    ensures { OnPage (word_of number ++ linePart line) page.old result page.new }
+    requires { length (word_of number ++ line_part line) ≤ length page.old }
+    ensures { OnPage (word_of number ++ line_part line) page.old result page.new }
 {
     let at = put_word(number, page);
     at + put_line(line, &mut page[at..])
@@ -193,8 +193,8 @@ fn put_front(number: u32, line: u32, page: &mut [u8]) -> usize
 
 // Writes the sail and the end at the start of the page, which has room for both.
 fn put_back(number: u32, item: u32, page: &mut [u8]) -> usize
-    requires { length (itemPart number item ++ text_of ".\n") ≤ length page.old }
-    ensures { OnPage (itemPart number item ++ text_of ".\n") page.old result page.new }
+    requires { length (item_part number item ++ text_of ".\n") ≤ length page.old }
+    ensures { OnPage (item_part number item ++ text_of ".\n") page.old result page.new }
 {
     let at = put_item(number, item, page);
     at + decimal::put_text(b".\n", &mut page[at..])
@@ -203,8 +203,8 @@ fn put_back(number: u32, item: u32, page: &mut [u8]) -> usize
 // Writes a sentence at the start of the page, and answers how many bytes that took. A page too short for all of it is left as it was, and
 // the answer is 0.
 pub fn write_sentence(number: u32, line: u32, item: u32, page: &mut [u8]) -> usize
-    ensures value { result ≡ wroteOf (sentenceOf number line item) page.old }
-    ensures page_after { page.new ≡ page_of (sentenceOf number line item) page.old }
+    ensures value { result ≡ wrote_of (sentence_of number line item) page.old }
+    ensures page_after { page.new ≡ page_of (sentence_of number line item) page.old }
 {
     if page.len() < sentence_bytes(number, line, item) {
         return 0;
@@ -230,7 +230,7 @@ fn piece(s: &[u8]) -> usize
 
 // Whether a text is the word of a number.
 fn is_word(number: u32, w: &[u8]) -> bool
-    ensures { result ≡ sameText (word_of number) w.now }
+    ensures { result ≡ same_text (word_of number) w.now }
 {
     let word = word_at(number);
     let from = word.from;
@@ -300,7 +300,7 @@ fn read_rest(number: u32, line: u32, s: &[u8]) -> Reading
 
 // Reads what stands behind the word of a number. A text that tells line 0 is the sentence of no refusal: where there is no line, none is told.
 fn read_behind(number: u32, s: &[u8]) -> Reading
-    ensures { result ≡ behindWord 4294967295 number s.now }
+    ensures { result ≡ behind_word 4294967295 number s.now }
 {
     if !in_table(number) {
         return Reading::NoSentence;

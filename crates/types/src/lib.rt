@@ -22,7 +22,7 @@ pub const EVICT: u32 = b'D' as u32;
 pub const FETCH: u32 = b'F' as u32;
 
 // A step of the log. Its numbers are as given: nothing here says that they are in range.
-#[derive(Drop)]
+#[derive(Clone, Copy)]
 pub enum Step {
     Read {
         item: u32,
@@ -47,7 +47,7 @@ pub enum Step {
 }
 
 // A step as a call names it: the code of its letter, and then its values. What a step lacks is not looked at, and is 0 where it is told.
-#[derive(Drop)]
+#[derive(Clone, Copy)]
 pub struct Numbers {
     pub kind: u32,
     pub item: u32,
@@ -58,7 +58,7 @@ pub struct Numbers {
 }
 
 // An act of a plan, done before a step is served.
-#[derive(Drop)]
+#[derive(Clone, Copy)]
 pub enum Act {
     // paper 01: D, drops a held sail
     Evict { item: u32 },
@@ -67,7 +67,7 @@ pub enum Act {
 }
 
 // The rule of deduction: which of its two credits an item loses from first. It is chosen at the opening.
-#[derive(Drop)]
+#[derive(Clone, Copy)]
 pub enum Deduction {
     // paper 01's: from the write credit first
     WriteFirst,
@@ -77,7 +77,7 @@ pub enum Deduction {
 
 // A refusal, one case for each number of the table: 1 to 17 are paper 01's, 18 to 20 paper 02's. The payload is the line of the text, counted
 // from 1; it is 0 where a call is refused and no text was read. Some name the item that they are about.
-#[derive(Drop)]
+#[derive(Clone, Copy)]
 pub enum Refusal {
     // 1, torn
     Malformed { line: u32 },

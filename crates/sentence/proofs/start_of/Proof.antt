@@ -6,7 +6,8 @@ use borrow.Author.Rules.{rules}
 use Rattle.sentence.specs.InnerSentences.{in_one_text, start_of}
 use Rattle.basis.proofs.Tables.{entry_is}
 use Rattle.sentence.proofs.Laws.{start_past}
-use Rattle.sentence.proofs.start_of.Goals as goal
+use Rattle.sentence.proofs.start_of.Statement.{statement}
+use Rattle.sentence.proofs.start_of.Tie as tie
 
 -- the starts, as the code has them
 abbrev starts : List ℕ
@@ -14,11 +15,18 @@ starts =
     0 ∷ 0 ∷ 4 ∷ 11 ∷ 23 ∷ 33 ∷ 47 ∷ 55 ∷ 64 ∷ 72 ∷ 78 ∷ 89 ∷ 99 ∷ 105 ∷ 115 ∷ 122 ∷ 132 ∷ 141 ∷ 152 ∷ 160 ∷ 171 ∷ 175 ∷ 179 ∷ 187 ∷ 187
     ∷ 195 ∷ 205 ∷ 217 ∷ []
 
-pub returns-then-number-lt28 : goal.returns-then-number-lt28
-unfolding in_one_text start_of
-returns-then-number-lt28 c =
-    entry_is starts start_of 28 refl c.args.number (search rules)
+mul-result : tie.Need-overflow-mul-result
+mul-result c = search rules
 
-pub returns-else-number-lt28 : goal.returns-else-number-lt28
-returns-else-number-lt28 c =
-    start_past c.args.number (search rules)
+array-read-result : tie.Need-array-read-result
+array-read-result c = search rules
+
+returns : tie.Need-returns
+unfolding in_one_text start_of
+returns c = entry_is starts start_of 28 refl c.before.args.number (search rules)
+
+returns-2 : tie.Need-returns-2
+returns-2 c = start_past c.before.args.number (search rules)
+
+pub start-of-spec : {M : Type 1} → statement M
+start-of-spec = tie.close (tie.spec mul-result array-read-result returns returns-2)
