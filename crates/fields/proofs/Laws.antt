@@ -9,10 +9,16 @@ use native.Mathlib.Omega.{arith}
 use lib.Dec.{eqb}
 use lib.ListN.{length, take, drop, get_or, set, replicate, length-append, length-drop, length-set, take-append-drop, drop_of_length-le}
 use lib.Seq.{sets, set-append_left, sets-eq, length-take-le, take_at, drop_at, drop-append-add, drop-drop, take-add, get_or-drop}
+use mir.Syntax.{w8}
+use mir.Val.{Fits}
 use Rattle.fields.specs.LittleEndian.{from_bytes, number_at, run_from_bytes, flags_from_bytes, to_bytes}
 use Rattle.fields.specs.Inner.{Below, run_of, flags}
 
 -- ---- lengths
+
+-- a byte is a number below 256
+pub byte_fits : {n : ℕ} → Fits w8 n → n < 256
+byte_fits f = f.fits
 
 pub length_to : (w v : ℕ) → length (to_bytes w v) ≡ w
 unfolding to_bytes

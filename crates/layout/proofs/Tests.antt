@@ -58,10 +58,6 @@ joined_all b from to i all e p =
 
 -- ---- the whole test
 
--- a statement that fails is decided by no
-pub no : {A : Type 0} → (A → ⊥) → Decided A false
-no f = record { yes = λ e. absurd (false≢true e); only = λ a. absurd (f a) }
-
 -- with the number of the layout, the cache's own flag and the rule's number right, the items' flags decide
 pub allowed_so : (b : List ℕ) {r : Bool} → number_at b at_format 4 ≡ format → number_at b at_closed 2 < 2 → number_at b at_rule 4 < 2 → Decided (FlagsWithin b at_held (at_held + 256)) r → Decided (AllowedBytes b) r
 allowed_so b e h g d =
@@ -74,3 +70,7 @@ allowed_so b e h g d =
     flag a i l m =
         let p : at_held + (i - at_held) ≡ i = omega arith in
         rw p at (a.held (i - at_held) (omega arith))
+
+-- a statement that fails is decided by no
+pub refuted : {A : Type 0} → (A → ⊥) → Decided A false
+refuted f = record { yes = λ e. absurd (false≢true e); only = λ a. absurd (f a) }

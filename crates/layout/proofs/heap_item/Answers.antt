@@ -1,0 +1,15 @@
+-- `layout::heap_item` meets its contract: one number of a run is the number at its place. Assumes nothing.
+use mathlib.Core.Path.{◌≡◌, ap, ◌∙◌}
+use Prim.Native.Nat.{ℕ, ◌+◌, ◌*◌}
+use native.Mathlib.Omega.{arith}
+use borrow.Author.Rules.{rules}
+use Rattle.fields.specs.LittleEndian.{number_at}
+use Rattle.layout.specs.InnerRows.{at_heap}
+use Rattle.layout.proofs.Places.{number_at_lem}
+use Rattle.layout.proofs.heap_item.Goals as goal
+
+pub returns : goal.returns
+returns c =
+    let a = c.args in
+    let e : a.i ≡ a.i * 1 = omega arith in
+    number_at_lem 1 256 at_heap a.b.now a.i _ (omega arith) (c.get.ensures.0 ∙ ap (λ (i : ℕ). number_at a.b.now (at_heap + i) 1) e)

@@ -1,0 +1,10 @@
+-- `layout::put_write_credit` meets its contract: one store inside the field's row. Assumes nothing.
+use native.Mathlib.Omega.{arith}
+use borrow.Author.Rules.{rules}
+use Rattle.layout.proofs.Stores.{coded, write_credit_stored}
+use Rattle.fields.proofs.Laws.{byte_fits}
+use Rattle.layout.proofs.put_write_credit.Goals as goal
+
+pub returns : goal.returns
+returns c =
+    write_credit_stored (coded c.args.b.now (λ j. byte_fits (search rules)) c.requires.0) c.args.i c.args.v c.requires.1 (omega (arith, c.ranges.v)) c.put.ensures
