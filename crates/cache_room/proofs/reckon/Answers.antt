@@ -1,0 +1,19 @@
+-- `cache_room::reckon` meets its contract: both credits are stored, and the key is theirs. Assumes nothing.
+use Rattle.cache_room.proofs.Reckons.{reckon_holds, reckoned_at}
+use native.Mathlib.Omega.{arith}
+use native.Mathlib.Nat.{div-le_self}
+use Prim.Native.Nat.{◌+◌, ◌/◌}
+use borrow.Author.Rules.{rules}
+use Rattle.cache_room.proofs.reckon.Goals as goal
+
+pub overflow_add-key-2 : goal.overflow_add-key-2
+overflow_add-key-2 c =
+    omega (arith, c.level.ensures, c.requires.fits, div-le_self (c.args.load + c.args.write) c.blocks-blocks.result)
+
+pub rekey-requires : goal.rekey-requires
+rekey-requires c =
+    reckon_holds c.args.b.now c.args.i c.args.load c.args.write c.requires _ _ c.put_load_credit.ensures c.put_write_credit.ensures
+
+pub returns : goal.returns
+returns c =
+    reckoned_at c.args.b.now c.args.i c.args.load c.args.write c.requires _ _ c.put_load_credit.ensures c.put_write_credit.ensures _ _ (λ z. c.level.ensures z + (c.args.load + c.args.write) / c.blocks-blocks.ensures z) c.rekey.ensures
