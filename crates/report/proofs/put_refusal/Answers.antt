@@ -36,3 +36,17 @@ slice_bounds-write_sentence-start c =
     (go_first (refusal_names ++ line_of (a.number ∷ a.line ∷ [])) (sentence_of a.number a.line a.item) a.page.now c.requires
     (omega (arith, told_count a.number a.line, c.line_length-at.ensures.value)) c.put_table.ensures) in
     omega (arith, c.requires, told)
+
+pub returns : goal.returns
+returns c =
+    let told : (let a = c.args in
+    TextGoing (refused_text a.number a.line a.item) a.page.now (13 + c.line_length-at.result) (sentence_of a.number a.line a.item ++ [])
+    c.put_table.new.page) = let a = c.args in
+    go_as (sym (append-nil _))
+    (go_first (refusal_names ++ line_of (a.number ∷ a.line ∷ [])) (sentence_of a.number a.line a.item) a.page.now c.requires
+    (omega (arith, told_count a.number a.line, c.line_length-at.ensures.value)) c.put_table.ensures) in
+    let a = c.args in
+    let t = sentence_of a.number a.line a.item in
+    let g = told in
+    let fits = go_room c.requires _ t [] _ g in
+    (go_end (go_next c.requires t [] g refl (c.write_sentence.ensures.page_after ∙ page_all t _ fits))).1

@@ -16,8 +16,7 @@ pub returns-then-page-bytes : goal.returns-then-page-bytes
 returns-then-page-bytes c =
     let text-is : refused_text c.number-number.result c.line-line.result c.item-item.result ≡ refusal_text c.args.r = rw (c.number-number.ensures, c.line-line.ensures, c.item-item.ensures) (sym (refusal_is c.args.r)) in
     let counted : c.refusal_length-bytes.result ≡ length (refusal_text c.args.r) = c.refusal_length-bytes.ensures ∙ ap length text-is in
-    let short : length (refusal_text c.args.r) ≤ longest = let line = c.line-line in
-    refusal_no_longer c.args.r (omega (arith, line.ensures)) (omega (arith, c.item-item.ensures)) in
+    let short : length (refusal_text c.args.r) ≤ longest = refusal_no_longer c.args.r (omega (arith, c.line-line.ensures)) (omega (arith, c.item-item.ensures)) in
     let a = c.args in
     record {
       put = put_short (refusal_text a.r) a.page.now (omega (arith, counted));
@@ -28,8 +27,7 @@ pub returns : goal.returns
 returns c =
     let text-is : refused_text c.number-number.result c.line-line.result c.item-item.result ≡ refusal_text c.args.r = rw (c.number-number.ensures, c.line-line.ensures, c.item-item.ensures) (sym (refusal_is c.args.r)) in
     let counted : c.refusal_length-bytes.result ≡ length (refusal_text c.args.r) = c.refusal_length-bytes.ensures ∙ ap length text-is in
-    let short : length (refusal_text c.args.r) ≤ longest = let line = c.line-line in
-    refusal_no_longer c.args.r (omega (arith, line.ensures)) (omega (arith, c.item-item.ensures)) in
+    let short : length (refusal_text c.args.r) ≤ longest = refusal_no_longer c.args.r (omega (arith, c.line-line.ensures)) (omega (arith, c.item-item.ensures)) in
     let a = c.args in
     let k = counted in
     let t = text-is in
