@@ -43,8 +43,9 @@ $(SEASON) $(CHECK_LOG): $(wildcard crates/*/src/*.rt crates/*/specs/*.antt) crat
 	@cd $(@D:/out=) && rt run <stdin >/dev/null
 	@touch -c $@
 
+# For any x86-64, as the header says: by itself rt takes the instructions of x86-64-v2.
 lib: ## the archive for C, and where it and the header are
-	@cd crates/recorder && rt lib >&2
+	@cd crates/recorder && rt lib --cpu=x86-64 >&2
 	@echo "archive: $(LIBRARY)"
 	@echo "header:  include/recorder.h"
 
