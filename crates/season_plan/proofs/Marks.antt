@@ -1,7 +1,6 @@
 -- Laws of the catalog and of the copies as the program holds them: read at an item, changed at one, and with an item more. Assumes
 -- nothing.
 use mathlib.Core.Path.{◌≡◌, sym, ap, ◌∙◌}
-use mathlib.Core.Logic.{◌⊎◌, inl, inr}
 use mathlib.Core.Bool.{Bool, true, false, cond}
 use mathlib.Core.List.{List, [], ◌∷◌, ◌++◌}
 use Prim.Native.Nat.{ℕ, zero, suc, ◌+◌, ◌*◌, ◌≤◌, ◌<◌}
@@ -20,11 +19,6 @@ use Rattle.landlord.proofs.Catalogs.{padded, one_longer, arrived_other, retired_
 use Rattle.catalog_bytes.specs.Catalogs.{item_in}
 use Rattle.season_items.specs.Inner.{HasItems}
 use Rattle.season_plan.specs.Inner.{copy_from, copies_of}
-
--- control came one way or the other
-pub by_cases : {A B C : Type 0} → A ⊎ B → (A → C) → (B → C) → C
-by_cases (inl a) f g = f a
-by_cases (inr b) f g = g b
 
 -- a sum of so many terms, none of which is above m
 pub sum_most : (n m : ℕ) (f : ℕ → ℕ) → ((i : ℕ) → i < n → f i ≤ m) → sum_to n f ≤ m * n

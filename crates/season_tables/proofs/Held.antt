@@ -265,22 +265,22 @@ module _ (q : Seen) (catalog calls : List ℕ) (s : Step) (line number : ℕ) (e
         step_items_past = rw now_tells.count now_stored.past
 
       pub step_noted :
-          (r : Scanned) (catalog_after calls-after : List ℕ) →
+          (r : Scanned) (catalog_then calls-after : List ℕ) →
           7 * q.steps + 7 ≤ length calls →
           r.verdict ≡ Taken →
           r.seen ≡ stepped q p →
-          catalog_after ≡ with_arrival s catalog →
+          catalog_then ≡ with_arrival s catalog →
           calls-after ≡ put_at calls (7 * q.steps) (call_numbers (s ∷ [])) →
-          NotesStep q catalog calls (λ v. takes v (StepLine s) line) r catalog_after calls-after
+          NotesStep q catalog calls (λ v. takes v (StepLine s) line) r catalog_then calls-after
       unfolding takes
-      step_noted r catalog_after calls-after places t y items put acts v h =
+      step_noted r catalog_then calls-after places t y items put acts v h =
           let after = now_stored acts v h in
           let known = now_tells acts v h in
           let more : catalog_next (items_now v) s ≡ catalog_after v.catalog (v.steps ++ (s ∷ [])) = sym (after_more v.catalog v.steps s) in
           let same : take q.last v.steps ≡ take q.last (v.steps ++ (s ∷ [])) =
           sym (take-append-le q.last v.steps (s ∷ []) (omega (arith, h.passed, h.step_count))) in
           rw (sym (same_number acts v h), f)
-          (goes r (stepped q p) catalog_after calls-after acts _ t y
+          (goes r (stepped q p) catalog_then calls-after acts _ t y
           (record {
             k = h.k;
             h = h.h;
@@ -300,22 +300,22 @@ module _ (q : Seen) (catalog calls : List ℕ) (s : Step) (line number : ℕ) (e
             rule = h.rule;
             present = subst (λ (c : Catalog). Tells c p) more known;
             earlier = subst (λ (steps : List Step). Tells (catalog_after v.catalog steps) q.earlier) same h.earlier;
-            stored = subst (λ (c : Catalog). HasItems c catalog_after) more (subst (HasItems (catalog_next (items_now v) s)) (sym items) (after.items h.stored));
+            stored = subst (λ (c : Catalog). HasItems c catalog_then) more (subst (HasItems (catalog_next (items_now v) s)) (sym items) (after.items h.stored));
             passed = omega (arith, h.passed);
           }))
 
       pub step_past :
-          (r : Scanned) (acts : List ℕ) (v : Tables) (catalog_after calls-after : List ℕ) →
+          (r : Scanned) (acts : List ℕ) (v : Tables) (catalog_then calls-after : List ℕ) →
           Holds q catalog calls acts v →
           7 * q.steps + 7 ≤ length calls →
           r.verdict ≡ Taken →
           r.seen ≡ stepped q p →
-          catalog_after ≡ with_arrival s catalog →
+          catalog_then ≡ with_arrival s catalog →
           calls-after ≡ put_at calls (7 * q.steps) (call_numbers (s ∷ [])) →
-          KeepsPast (5 * r.seen.present.n) q catalog r catalog_after × KeepsPast (7 * r.seen.steps) q calls r calls-after
-      step_past r acts v catalog_after calls-after h places t y items put = (
-        taken_past (5 * r.seen.present.n) q catalog r catalog_after t
-            (ap (λ (z : Seen). drop (5 * z.present.n) catalog_after) y
+          KeepsPast (5 * r.seen.present.n) q catalog r catalog_then × KeepsPast (7 * r.seen.steps) q calls r calls-after
+      step_past r acts v catalog_then calls-after h places t y items put = (
+        taken_past (5 * r.seen.present.n) q catalog r catalog_then t
+            (ap (λ (z : Seen). drop (5 * z.present.n) catalog_then) y
             ∙ ap (drop (5 * p.n)) items
             ∙ step_items_past acts v h
             ∙ ap (λ (z : Seen). drop (5 * z.present.n) catalog) (sym y)),
@@ -424,7 +424,7 @@ module _ (q : Seen) (calls acts : List ℕ) (place : ℕ) (act : Act) (line : �
           rw (in_turn_lem catalog v h e f, sym same, ne_eqb number 0 some)
           (t ∙ ap Refused (refusal_one x _ (tells ∙ sym (act_told number some (catalog_before v place) (act_item act) same line (act_item act)))))
 
-      pub act_noted :
+      pub act_noted_lem :
           (after : List ℕ) →
           number ≡ 0 →
           3 * q.acts + 3 ≤ length acts →
@@ -433,7 +433,7 @@ module _ (q : Seen) (calls acts : List ℕ) (place : ℕ) (act : Act) (line : �
           after ≡ put_at acts (3 * q.acts) (act_noted place act) →
           NotesAct q calls acts (λ v. takes v (ActLine place act) line) r after
       unfolding takes
-      act_noted after none room t s put catalog v h =
+      act_noted_lem after none room t s put catalog v h =
           rw (in_turn_lem catalog v h e f, sym (number_is catalog v h), none)
           (goes r (acted q place p) catalog calls after _ t s
           (record {
@@ -485,11 +485,11 @@ end_leads upto p q line r t s catalog calls acts v h = go (p.named && eqb p.tabl
 
 -- A line that is known to say so: the case of a match on it.
 pub line_says :
-    (q : Seen) (values said : Line) (line : ℕ) (r : Scanned) (catalog calls acts catalog_after calls-after acts-after : List ℕ) →
+    (q : Seen) (values said : Line) (line : ℕ) (r : Scanned) (catalog calls acts catalog_then calls-after acts-after : List ℕ) →
     values ≡ said →
-    LeadsFrom q catalog calls acts (λ v. takes v said line) r catalog_after calls-after acts-after →
-    LeadsFrom q catalog calls acts (λ v. takes v values line) r catalog_after calls-after acts-after
-line_says q values said line r catalog calls acts catalog_after calls-after acts-after e h = rw e h
+    LeadsFrom q catalog calls acts (λ v. takes v said line) r catalog_then calls-after acts-after →
+    LeadsFrom q catalog calls acts (λ v. takes v values line) r catalog_then calls-after acts-after
+line_says q values said line r catalog calls acts catalog_then calls-after acts-after e h = rw e h
 
 pub line_refused :
     (q : Seen) (x : Refusal) (line : ℕ) (r : Scanned) (catalog calls acts : List ℕ) →

@@ -1,16 +1,8 @@
 -- `season_tables::ended` meets its contract: the verdict by the struct, and the law of proofs/Held.antt. Assumes nothing.
 use mathlib.Core.Path.{◌≡◌}
-use mathlib.Core.Bool.{false, ◌&&◌}
-use mathlib.Core.Logic.{⊎_elim}
-use lib.Dec.{eqb}
-use borrow.Author.Rules.{rules}
-use borrow.Author.Tests.{eq-eqb, ne_eqb}
+use borrow.Author.Tests.{eq-eqb}
 use Rattle.season_tables.specs.Inner.{end_verdict}
 use Rattle.season_tables.proofs.Held.{end_leads}
-use Rattle.season_tables.proofs.ended.Reads as reads
-use Rattle.season_tables.proofs.ended.Lts as lts
-use Rattle.season_tables.proofs.stopped.Reads as stopped-reads
-use Rattle.season_tables.proofs.taken.Reads as taken_reads
 use Rattle.season_tables.proofs.ended.Goals as goal
 
 pub returns-then-stage-upto : goal.returns-then-stage-upto

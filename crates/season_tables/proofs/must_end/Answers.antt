@@ -1,7 +1,5 @@
 -- `season_tables::must_end` meets its contract: each return is the case of its table. Assumes nothing.
 use borrow.Author.Tests.{ne_eqb}
-use Rattle.season_tables.proofs.must_end.Reads as reads
-use Rattle.season_tables.proofs.must_end.Lts as lts
 use Rattle.season_tables.proofs.must_end.Goals as goal
 
 pub returns-then-table-eq0 : goal.returns-then-table-eq0

@@ -1,8 +1,4 @@
 -- `season_tables::nothing_read` meets its contract: the struct, field by field. Assumes nothing.
-use borrow.Author.Rules.{rules}
-use Rattle.season_tables.proofs.nothing_read.Reads as reads
-use Rattle.season_tables.proofs.nothing_read.Lts as lts
-use Rattle.season_items.proofs.none_present.Reads as none-present-reads
 use Rattle.season_tables.proofs.nothing_read.Goals as goal
 
 pub returns : goal.returns

@@ -1,23 +1,12 @@
 -- `season_tables::take_act` meets its contract: each return is a law of proofs/Held.antt. Assumes nothing.
-use borrow.Author.Rules.{rules}
 use mathlib.Core.Path.{refl, ap, ◌∙◌}
-use mathlib.Core.Logic.{⊎_elim}
 use native.Mathlib.Omega.{arith}
 use Prim.Native.Nat.{◌+◌, ◌*◌, ◌≤◌}
 use lib.ListN.{length}
-use borrow.Author.Tests.{leb-true, leb-false}
 use Rattle.types.specs.Types.{telling}
 use Rattle.season_tables.proofs.Told.{known_of}
-use Rattle.season_tables.proofs.Held.{act_few, act_walkable, act_in_range, act_early, act_late, act_refuses, act_noted, act_past}
-use Rattle.season_tables.proofs.take_act.Reads as reads
-use Rattle.season_tables.proofs.take_act.Lts as lts
-use Rattle.types.proofs.Act.item.Reads as item-reads
-use Rattle.types.proofs.refusal_of.Reads as refusal-of-reads
-use Rattle.season_items.proofs.caught_up.Reads as caught-up-reads
-use Rattle.season_items.proofs.known.Reads as known-reads
-use Rattle.season_items.proofs.put_act.Reads as put-act-reads
-use Rattle.season_tables.proofs.stopped.Reads as stopped-reads
-use Rattle.season_tables.proofs.taken.Reads as taken_reads
+use Rattle.season_tables.proofs.Held.{act_few, act_walkable, act_in_range, act_early, act_late, act_refuses, act_noted_lem, act_past}
+use Rattle.season_tables.proofs.take_act.Goals.{then-place-seen-via-then-place-seen, then-place-seen-via-else-place-seen+then-seen-place}
 use Rattle.season_tables.proofs.take_act.Goals as goal
 
 pub caught_up-earlier-requires : goal.caught_up-earlier-requires
@@ -66,6 +55,18 @@ returns c =
     let k = known_of c.caught_up-earlier.result c.item-item.result c.known-number.result a.act c.item-item.ensures c.known-number.ensures in
     let room : 3 * a.seen.acts + 3 ≤ length a.acts.now = omega (arith, t.room.few.acts, t.room.roomy.for_acts) in
     record {
-      notes_act = act_noted a.seen a.calls.now a.acts.now a.place a.act a.line c.taken.result c.if-place-seen.false c.if-seen-place.false c.caught_up-earlier.result c.caught_up-earlier.ensures c.known-number.result k p.new.0 c.if-number-ne0.false room c.taken.ensures.0 c.taken.ensures.1 p.ensures;
-      keeps_past = act_past a.seen a.calls.now a.acts.now a.place a.act a.line c.taken.result c.if-place-seen.false c.if-seen-place.false c.caught_up-earlier.result c.caught_up-earlier.ensures c.known-number.result k p.new.0 room c.taken.ensures.0 c.taken.ensures.1 p.ensures;
+      notes_act = act_noted_lem a.seen a.calls.now a.acts.now a.place a.act a.line c.taken.result c.if-place-seen.false c.if-seen-place.false c.caught_up-earlier.result c.caught_up-earlier.ensures c.known-number.result k p.new.acts c.if-number-ne0.false room c.taken.ensures.0 c.taken.ensures.1 p.ensures;
+      keeps_past = act_past a.seen a.calls.now a.acts.now a.place a.act a.line c.taken.result c.if-place-seen.false c.if-seen-place.false c.caught_up-earlier.result c.caught_up-earlier.ensures c.known-number.result k p.new.acts room c.taken.ensures.0 c.taken.ensures.1 p.ensures;
+    }
+
+pub returns-then-place-seen : goal.returns-then-place-seen
+returns-then-place-seen c =
+    let a = c.args in
+    record {
+      notes_act =
+          elim c.then-place-seen.branch [
+            | then-place-seen-via-then-place-seen w ↦ act_early a.seen a.calls.now a.acts.now a.place a.act a.line c.stopped.result w.if-place-seen.true c.stopped.ensures.0
+            | then-place-seen-via-else-place-seen+then-seen-place w ↦ act_late a.seen a.calls.now a.acts.now a.place a.act a.line c.stopped.result w.if-place-seen.false w.if-seen-place.true c.stopped.ensures.0
+          ];
+      keeps_past = (refl, λ x t. (c.stopped.ensures.1, refl));
     }

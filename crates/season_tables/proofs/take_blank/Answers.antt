@@ -1,11 +1,6 @@
 -- `season_tables::take_blank` meets its contract: each return is a law of proofs/Leads.antt. Assumes nothing.
-use borrow.Author.Rules.{rules}
 use borrow.Author.Tests.{eq-eqb, ne_eqb}
 use Rattle.season_tables.proofs.Leads.{moves_next, moves_not}
-use Rattle.season_tables.proofs.take_blank.Reads as reads
-use Rattle.season_tables.proofs.take_blank.Lts as lts
-use Rattle.season_tables.proofs.stopped.Reads as stopped-reads
-use Rattle.season_tables.proofs.taken.Reads as taken_reads
 use Rattle.season_tables.proofs.take_blank.Goals as goal
 
 pub returns-then-bytes-ne0 : goal.returns-then-bytes-ne0

@@ -1,14 +1,9 @@
 -- `season_tables::take_names` meets its contract: each return is a law of proofs/Leads.antt. Assumes nothing.
-use borrow.Author.Rules.{rules}
 use mathlib.Core.Path.{sym, ap, ◌∙◌}
 use Rattle.season_lines.specs.declared.Names.{Names}
 use Rattle.season_tables.specs.Tables.{named_by}
 use Rattle.season_tables.specs.Inner.{moved}
 use Rattle.season_tables.proofs.Leads.{moves_on, moves_not}
-use Rattle.season_tables.proofs.take_names.Reads as reads
-use Rattle.season_tables.proofs.take_names.Lts as lts
-use Rattle.season_tables.proofs.stopped.Reads as stopped-reads
-use Rattle.season_tables.proofs.taken.Reads as taken_reads
 use Rattle.season_tables.proofs.take_names.Goals as goal
 
 pub returns-in-Known : goal.returns-in-Known

@@ -1,11 +1,6 @@
 -- `season_tables::take_sizes` meets its contract: each return is a law of proofs/Held.antt. Assumes nothing.
-use borrow.Author.Rules.{rules}
 use Rattle.season_tables.proofs.Held.{sizes_fit, sizes_too_large}
 use Rattle.season_tables.proofs.Keeps.{stopped_keeps, taken_keeps}
-use Rattle.season_tables.proofs.take_sizes.Reads as reads
-use Rattle.season_tables.proofs.take_sizes.Lts as lts
-use Rattle.season_tables.proofs.stopped.Reads as stopped-reads
-use Rattle.season_tables.proofs.taken.Reads as taken_reads
 use Rattle.season_tables.proofs.take_sizes.Goals as goal
 
 pub returns-then-k-h : goal.returns-then-k-h

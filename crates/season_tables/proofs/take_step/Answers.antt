@@ -1,22 +1,10 @@
 -- `season_tables::take_step` meets its contract: each return is a law of proofs/Held.antt. Assumes nothing.
-use borrow.Author.Rules.{rules}
 use mathlib.Core.Path.{refl, ap, ◌∙◌}
 use native.Mathlib.Omega.{arith}
 use Prim.Native.Nat.{◌+◌, ◌*◌, ◌≤◌}
 use lib.ListN.{length}
 use Rattle.types.specs.Types.{telling}
 use Rattle.season_tables.proofs.Held.{step_lookable, step_items, step_in_range, step_refuses, step_noted, step_past}
-use Rattle.season_tables.proofs.take_step.Reads as reads
-use Rattle.season_tables.proofs.take_step.Lts as lts
-use Rattle.types.proofs.Step.item.Reads as item-reads
-use Rattle.types.proofs.Step.numbers.Reads as numbers-reads
-use Rattle.types.proofs.refusal_of.Reads as refusal-of-reads
-use Rattle.season_items.proofs.advanced.Reads as advanced-reads
-use Rattle.season_items.proofs.put_arrival.Reads as put-arrival-reads
-use Rattle.season_items.proofs.put_step.Reads as put-step-reads
-use Rattle.season_items.proofs.step_refused.Reads as step-refused-reads
-use Rattle.season_tables.proofs.stopped.Reads as stopped-reads
-use Rattle.season_tables.proofs.taken.Reads as taken_reads
 use Rattle.season_tables.proofs.take_step.Goals as goal
 
 pub step_refused-number-requires : goal.step_refused-number-requires
@@ -48,3 +36,29 @@ advanced-present-requires c =
 pub overflow_add-q : goal.overflow_add-q
 overflow_add-q c =
     omega (arith, c.requires.line.room.few.steps)
+
+pub returns-then-number-ne0 : goal.returns-then-number-ne0
+returns-then-number-ne0 c =
+    let a = c.args in
+    let number = c.step_refused-number in
+    let told = c.refusal_of.ensures ∙ ap (telling number.result a.line) c.item.ensures in
+    record {
+      notes_step = step_refuses a.seen a.catalog.now a.calls.now a.step a.line number.result number.ensures c.stopped.result _ c.if-number-ne0.true told c.stopped.ensures.0;
+      keeps_past = (refl, λ x t. (c.stopped.ensures.1, refl));
+      keeps_past_2 = (refl, λ x t. (c.stopped.ensures.1, refl));
+    }
+
+pub returns : goal.returns
+returns c =
+    let a = c.args in
+    let t = c.requires.line in
+    let number = c.step_refused-number in
+    let room : 7 * a.seen.steps + 7 ≤ length a.calls.now = omega (arith, t.room.few.steps, t.room.roomy.for_steps) in
+    let stored = c.put_arrival.ensures ∙ step_items a.step c.numbers-numbers.result a.catalog.now c.numbers-numbers.ensures in
+    let past =
+    step_past a.seen a.catalog.now a.calls.now a.step a.line number.result number.ensures c.if-number-ne0.false t.sayable t.room.roomy.for_items c.numbers-numbers.result c.advanced-present.result c.numbers-numbers.ensures c.advanced-present.ensures c.taken.result c.requires.acts t.read c.put_arrival.new.catalog c.put_step.new.calls t.holds room c.taken.ensures.0 c.taken.ensures.1 stored c.put_step.ensures in
+    record {
+      notes_step = step_noted a.seen a.catalog.now a.calls.now a.step a.line number.result number.ensures c.if-number-ne0.false t.sayable t.room.roomy.for_items c.numbers-numbers.result c.advanced-present.result c.numbers-numbers.ensures c.advanced-present.ensures c.taken.result c.put_arrival.new.catalog c.put_step.new.calls room c.taken.ensures.0 c.taken.ensures.1 stored c.put_step.ensures;
+      keeps_past = past.0;
+      keeps_past_2 = past.1;
+    }
