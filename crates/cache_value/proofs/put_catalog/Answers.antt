@@ -1,0 +1,31 @@
+-- `cache_value::put_catalog` meets its contract: after i turns the first i items stand in the bytes. Assumes nothing.
+use mathlib.Core.Path.{◌≡◌, sym, ◌∙◌}
+use Prim.Native.Nat.{◌≤◌, ◌-◌}
+use native.Mathlib.Omega.{arith}
+use borrow.Author.Rules.{rules}
+use lib.ListN.{length}
+use Rattle.catalog_bytes.specs.Inner.{catalog_of_first}
+use Rattle.cache_value.specs.Contract.{catalog_from}
+use Rattle.cache_value.proofs.Openings.{catalog_none, catalog_more}
+use Rattle.cache_value.proofs.put_catalog.Goals as goal
+
+pub put-requires : goal.put-requires
+put-requires c =
+    record { place = omega arith; inside = omega arith }
+
+pub overflow_add-i : goal.overflow_add-i
+overflow_add-i c =
+    omega arith
+
+pub loop-i-smaller : goal.loop-i-smaller
+loop-i-smaller c =
+    omega arith
+
+pub shape_of-catalog : goal.shape_of-catalog
+shape_of-catalog c =
+    c.loop-i.invariant.1 ∙ sym c.requires.0
+
+pub returns : goal.returns
+returns c =
+    let e : c.loop-i.i ≡ c.args.n = omega arith in
+    rw e at c.loop-i.invariant.2
