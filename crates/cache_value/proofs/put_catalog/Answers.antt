@@ -29,3 +29,14 @@ pub returns : goal.returns
 returns c =
     let e : c.loop-i.i ≡ c.args.n = omega arith in
     rw e at c.loop-i.invariant.2
+
+pub loop-i-init : goal.loop-i-init
+loop-i-init c =
+    let a = c.args in
+    (omega arith, c.requires.0, catalog_none a.blocks a.load a.write a.catalog.now)
+
+pub loop-i-preserved : goal.loop-i-preserved
+loop-i-preserved c =
+    let a = c.args in
+    let w = c.loop-i in
+    (omega arith, c.put.auto.catalog ∙ w.invariant.1, catalog_more a.blocks a.load a.write w.catalog w.i (omega arith) w.invariant.2 c.put.ensures)

@@ -27,3 +27,29 @@ loop-i-smaller c =
 pub shape_of-b : goal.shape_of-b
 shape_of-b c =
     c.loop-i.invariant.1.size ∙ sym c.requires.0
+
+pub loop-i-preserved : goal.loop-i-preserved
+loop-i-preserved c =
+    let whole : WholeArrays (record_of c.args.c) = search rules in
+    let i = c.loop-i.i in (
+      omega arith,
+      stands_as
+          (stands_on (λ d v. with_place d i v) c.put_place.ensures
+          (stands_on (λ d v. with_heap_item d i v) c.put_heap_item.ensures
+          (stands_on (λ d v. with_key d i v) c.put_key.ensures
+          (stands_on (λ d v. with_held d i v) c.put_held.ensures
+          (stands_on (λ d v. with_blocks d i v) c.put_blocks.ensures
+          (stands_on (λ d v. with_item_write_cost d i v) c.put_item_write_cost.ensures
+          (stands_on (λ d v. with_item_load_cost d i v) c.put_item_load_cost.ensures
+          (stands_on (λ d v. with_item_writebacks d i v) c.put_item_writebacks.ensures
+          (stands_on (λ d v. with_item_loads d i v) c.put_item_loads.ensures
+          (stands_on (λ d v. with_minutes d i v) c.put_minutes.ensures
+          (stands_on (λ d v. with_write_credit d i v) c.put_write_credit.ensures
+          (stands_on (λ d v. with_load_credit d i v) c.put_load_credit.ensures c.loop-i.invariant.1))))))))))))
+          (place_more (record_of c.args.c) whole i c.loop-i-test.true),
+    )
+
+pub returns : goal.returns
+returns c =
+    let whole : WholeArrays (record_of c.args.c) = search rules in
+    stands_as c.loop-i.invariant.1 (place_all (record_of c.args.c) whole c.loop-i.i (omega arith))
