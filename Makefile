@@ -5,9 +5,10 @@
 # One after the other, from left to right, whatever -j says: a file is looked at before anything is proved, and rt has jobs of its own.
 .NOTPARALLEL:
 
-LIBRARY = target/staticlib/librecorder.a
-SEASON = target/bin/season
-CHECK_LOG = target/bin/check_log
+# What rt makes of a crate lies in that crate's out/.
+LIBRARY = crates/recorder/out/librecorder.a
+SEASON = crates/season/out/season
+CHECK_LOG = crates/check_log/out/check_log
 
 example: $(SEASON) ## proves and links the program, and prints the report of paper 01's whole example
 	@echo "The report of paper 01's whole example, the text crates/season/stdin:" >&2
@@ -33,18 +34,18 @@ given:
 programs: $(SEASON) $(CHECK_LOG) ## proves and links the office's programs, and says where they are
 	@printf 'program: %s\n' $^
 
-# Proves the program and all below it, and links it. What the prover says goes to standard error. A program that was proved and then
-# taken away is not linked again while its stamp is there.
-$(SEASON) $(CHECK_LOG): target/bin/%: $(wildcard crates/*/src/*.rt crates/*/specs/*.antt) crates.txt
+# Proves the program and all below it, links it, and runs it once, on its crate's own stdin. What the prover says goes to standard error.
+# A program that nothing has changed is not linked again, and so keeps its time.
+$(SEASON) $(CHECK_LOG): $(wildcard crates/*/src/*.rt crates/*/specs/*.antt) crates.txt
 	@echo "$@ is not there, or older than its sources: it and the crates below it are proved first, each shown as it is done." >&2
-	@echo "From nothing this takes some five minutes on two cores; what has not changed since it was proved is not proved again." >&2
+	@echo "From nothing this takes some ten minutes on four cores; what has not changed since it was proved is not proved again." >&2
 	@command -v rt >/dev/null || { echo "This needs the Rattle kit, and rt is not on the path. scripts/report runs a program that is there." >&2; exit 2; }
-	@[ -f $@ ] || rm -f target/stamp/$*
-	@rt check $* >&2
+	@cd $(@D:/out=) && rt run <stdin >/dev/null
 	@touch -c $@
 
+# For any x86-64, as the header says: by itself rt takes the instructions of x86-64-v2.
 lib: ## the archive for C, and where it and the header are
-	@rt staticlib recorder >&2
+	@cd crates/recorder && rt lib --cpu=x86-64 >&2
 	@echo "archive: $(LIBRARY)"
 	@echo "header:  include/recorder.h"
 
@@ -83,8 +84,8 @@ LOGS = 500000
 soak: $(SEASON) $(CHECK_LOG) lib ## a long differential run of the library and the programs against plain Rust (docs/PRACTICE.md)
 	bash bench/soak/run seed=$(SEED) seasons=$(SEASONS) texts=$(TEXTS) states=$(STATES) plans=$(PLANS) sentences=$(SENTENCES) logs=$(LOGS) only=$(ONLY)
 
-clean: ## removes target/: all that was proved, built and measured
-	rm -rf target
+clean: ## removes target/ and the crates' out/: all that was proved, built and measured
+	rm -rf target crates/*/out
 
 help: ## this list
 	@awk -F ' ## ' '/^[a-z-]+:.* ## / { sub(/:.*/, "", $$1); printf "make %-17s%s\n", $$1, $$2 }' Makefile

@@ -1,6 +1,6 @@
 //! A long differential run: the recorder's exported calls and the programs `season` and `check_log` against plain Rust, on random
 //! seasons, texts, hostile states, small seasons beside their cheapest plans, sentences and logs. It ends at the first difference,
-//! with status 1. bench/soak/run builds and runs it, with the programs of target/bin:
+//! with status 1. bench/soak/run builds and runs it, with the programs that rt has built:
 //!   soak program=season check_log=check_log seed=1 seasons=1000 texts=1000 states=10000 plans=1000 sentences=1000 logs=1000
 //!   soak program=season check_log=check_log seed=1 only=seasons:123
 //! With trace=1 each case is named before it is run.

@@ -4,6 +4,7 @@
 
 use cache_value::{Answer, Answered, Cache};
 use report::Written;
+use std::io;
 use types::Step;
 
 // The paper's number for an answer: 0 if the call was taken.
@@ -14,63 +15,43 @@ fn number(a: Answer) -> u32 {
     }
 }
 
-fn print(words: &[u8], value: u64) {
-    io::write_all(1, words);
-    io::print_decimal(1, value);
-}
-
-fn print_count(words: &[u8], value: u32) {
-    print(words, value as u64);
-}
-
 // Opens a cache of `k` blocks for one item of so many.
-fn one_item(k: u32, blocks: u8) -> Cache {
+fn one_item(rt: &impl Print, k: u32, blocks: u8) -> io::Result<Cache> {
     let opened = Cache::open(k, 0, 1, [blocks; 256], [4; 256], [6; 256]);
-    let answer = opened.answer;
-    print_count(b"open k ", k);
-    print_count(b": ", number(answer));
-    io::write_all(1, b"\n");
-    opened.cache
+    println!(rt; "open k {k}: {}", number(opened.answer))?;
+    Ok(opened.cache)
 }
 
 // An item of 16 blocks, read.
-fn read_row(k: u32) {
-    let read = one_item(k, 16).step(Step::Read { item: 0 });
-    let answer = read.answer;
-    print_count(b"R of 16 blocks: ", number(answer));
-    io::write_all(1, b"\n");
+fn read_row(rt: &impl Print, k: u32) -> io::Result<()> {
+    let read = one_item(rt, k, 16)?.step(Step::Read { item: 0 });
+    println!(rt; "R of 16 blocks: {}", number(read.answer))
 }
 
 // A write of so many minutes.
-fn write_row(minutes: u32) {
-    let wrote = one_item(1, 1).step(Step::Write {
+fn write_row(rt: &impl Print, minutes: u32) -> io::Result<()> {
+    let wrote = one_item(rt, 1, 1)?.step(Step::Write {
         item: 0,
         minutes: minutes,
     });
-    let answer = wrote.answer;
-    print_count(b"W of minutes ", minutes);
-    print_count(b": ", number(answer));
-    let next = wrote.cache;
-    print_count(b", minutes ", next.minutes[0]);
-    io::write_all(1, b"\n");
+    let kept = wrote.cache.minutes[0];
+    println!(rt;
+        "W of minutes {minutes}: {}, minutes {kept}",
+        number(wrote.answer)
+    )
 }
 
 // The report of a cache, on a page with room for every one; or the number that it is refused with.
-fn print_report(c: Cache) {
+fn print_report(rt: &impl Print, c: Cache) -> io::Result<()> {
     let mut page = report::longest_page();
     match c.report(&mut page) {
-        Written::Text(n) => {
-            io::write_all(1, &page[..n]);
-        }
-        Written::Refused(r) => {
-            print_count(b"report: ", r.number());
-            io::write_all(1, b"\n");
-        }
+        Written::Text(n) => rt.write_all(&page[..n]),
+        Written::Refused(r) => println!(rt; "report: {}", r.number()),
     }
 }
 
 // The whole example: five steps and the closing, the cache handed on from call to call.
-fn whole_example() {
+fn whole_example(rt: &impl Print) -> io::Result<()> {
     let mut blocks = [0; 256];
     let mut load = [0; 256];
     let mut write = [0; 256];
@@ -100,15 +81,11 @@ fn whole_example() {
     let e = d.step(Step::Read { item: 0 }).cache;
     let f = e.step(Step::Flush).cache;
     let closed = f.close();
-    let answer = closed.answer;
-    print_count(b"close: ", number(answer));
-    io::write_all(1, b"\n");
+    println!(rt; "close: {}", number(closed.answer))?;
     let end = closed.cache;
-    print_report(end);
+    print_report(rt, end)?;
     let again = end.close();
-    let refused = again.answer;
-    print_count(b"close: ", number(refused));
-    io::write_all(1, b"\n");
+    println!(rt; "close: {}", number(again.answer))
 }
 
 // Load cost and write cost together. They are far from the end of 64 bits.
@@ -133,7 +110,7 @@ fn four_items(rule: u32) -> Answered {
 }
 
 // The season where the two rules part: by write-first item 0 is evicted dirty, by load-first it stays till the closing.
-fn parting(rule: u32) {
+fn parting(rt: &impl Print, rule: u32) -> io::Result<()> {
     let opened = four_items(rule).cache;
     let a = opened
         .step(Step::Write {
@@ -144,70 +121,59 @@ fn parting(rule: u32) {
     let b = read(read(read(a, 1), 2), 0);
     let c = read(read(read(b, 3), 1), 2);
     let end = c.close().cache;
-    print_count(b"rule ", rule);
-    print_count(b": ", end.evictions);
-    print_count(b" ", end.dirtyevictions);
-    print(b" ", total(end));
-    io::write_all(1, b"\n");
+    let (evictions, dirty) = (end.evictions, end.dirtyevictions);
+    println!(rt; "rule {rule}: {evictions} {dirty} {}", total(end))
 }
 
 // A number that is no rule's.
-fn odd_rule(rule: u32) {
-    let answer = four_items(rule).answer;
-    print_count(b"open rule ", rule);
-    print_count(b": ", number(answer));
-    io::write_all(1, b"\n");
+fn odd_rule(rt: &impl Print, rule: u32) -> io::Result<()> {
+    println!(rt; "open rule {rule}: {}", number(four_items(rule).answer))
 }
 
 // Takes a step, and prints what it answers behind the words.
-fn take(c: Cache, s: Step, words: &[u8]) -> Cache {
+fn take(rt: &impl Print, c: Cache, s: Step, words: &str) -> io::Result<Cache> {
     let taken = c.step(s);
-    let answer = taken.answer;
-    print_count(words, number(answer));
-    io::write_all(1, b"\n");
-    taken.cache
+    println!(rt; "{words}: {}", number(taken.answer))?;
+    Ok(taken.cache)
 }
 
 // A season in which an item arrives, is written and leaves. It stays in the report, and its number is not used again.
-fn arrivals() {
+fn arrivals(rt: &impl Print) -> io::Result<()> {
     let new = Step::Arrive {
         item: 1,
         blocks: 1,
         load: 3,
         write: 9,
     };
-    let a = take(one_item(2, 1), Step::Read { item: 0 }, b"R 0: ");
-    let b = take(a, new, b"A 1: ");
-    let c = take(
-        b,
-        Step::Write {
-            item: 1,
-            minutes: 12,
-        },
-        b"W 1: ",
-    );
-    let d = take(c, Step::Retire { item: 1 }, b"Q 1: ");
-    let e = take(d, Step::Read { item: 1 }, b"R 1: ");
-    let f = take(e, new, b"A 1: ");
-    let end = take(f, Step::Read { item: 0 }, b"R 0: ").close().cache;
-    print_report(end);
-    print_count(b"arrivals ", end.arrivals);
-    print_count(b", retirements ", end.retirements);
-    io::write_all(1, b"\n");
+    let wrote = Step::Write {
+        item: 1,
+        minutes: 12,
+    };
+    let a = take(rt, one_item(rt, 2, 1)?, Step::Read { item: 0 }, "R 0")?;
+    let b = take(rt, a, new, "A 1")?;
+    let c = take(rt, b, wrote, "W 1")?;
+    let d = take(rt, c, Step::Retire { item: 1 }, "Q 1")?;
+    let e = take(rt, d, Step::Read { item: 1 }, "R 1")?;
+    let f = take(rt, e, new, "A 1")?;
+    let g = take(rt, f, Step::Read { item: 0 }, "R 0")?;
+    let end = g.close().cache;
+    print_report(rt, end)?;
+    let (arrivals, retirements) = (end.arrivals, end.retirements);
+    println!(rt; "arrivals {arrivals}, retirements {retirements}")
 }
 
-fn main() {
-    read_row(16);
-    read_row(15);
-    write_row(5);
-    write_row(6);
-    write_row(1440);
-    write_row(1441);
-    one_item(4096, 1);
-    one_item(4097, 1);
-    whole_example();
-    parting(0);
-    parting(1);
-    odd_rule(2);
-    arrivals();
+fn main(rt: HostRuntime) -> io::Result<()> {
+    read_row(&rt, 16)?;
+    read_row(&rt, 15)?;
+    write_row(&rt, 5)?;
+    write_row(&rt, 6)?;
+    write_row(&rt, 1440)?;
+    write_row(&rt, 1441)?;
+    one_item(&rt, 4096, 1)?;
+    one_item(&rt, 4097, 1)?;
+    whole_example(&rt)?;
+    parting(&rt, 0)?;
+    parting(&rt, 1)?;
+    odd_rule(&rt, 2)?;
+    arrivals(&rt)
 }

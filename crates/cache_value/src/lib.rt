@@ -20,7 +20,7 @@ use types::{Deduction, Numbers, Refusal, Step};
 mod bytes;
 
 // The recorder's cache, with what it has counted. Every array has a place for each of the 256 item numbers.
-#[derive(Drop)]
+#[derive(Clone, Copy)]
 pub struct Cache {
     // capacity in blocks
     pub k: u32,
@@ -71,14 +71,14 @@ pub enum Answer {
 }
 
 // What a method hands back: its answer, and the next cache.
-#[derive(Drop)]
+#[derive(Clone, Copy)]
 pub struct Answered {
     pub answer: Answer,
     pub cache: Cache,
 }
 
 // The same by the refusal's number, 0 if the call was taken.
-#[derive(Drop)]
+#[derive(Clone, Copy)]
 struct Reply {
     number: u32,
     cache: Cache,

@@ -23,7 +23,7 @@ use Rattle.season_log.specs.Log.{no_values, step_text}
 use Rattle.season_log.proofs.Lines.{under_same}
 use Rattle.season_log.proofs.Writing.{old_kind, end_new, end_old}
 use Rattle.log_reader.specs.declared.Found.{Found}
-use Rattle.log_reader.specs.Inner.{part, DigitsAt, NumberAt, TextAt, EndAt, Begins, FoundStep, FoundIn}
+use Rattle.log_reader.specs.Inner.{part, DigitsAt, NumberAt, TextAt, EndAt, Begins, FoundIn}
 
 -- ## Digits found
 

@@ -149,9 +149,9 @@ not_plain s = go (same_text s (rule_word WriteFirst)) (same_text s (rule_word Lo
     go false false = refl
 
 -- what reads as such a field is its text
-field_text : (s : List ℕ) → plain (field_of s) ≡ true → field_text (field_of s) ≡ s
+field_text_lem : (s : List ℕ) → plain (field_of s) ≡ true → field_text (field_of s) ≡ s
 unfolding field_of
-field_text s h = go (shaped s) (eqb (length s) 1) (eqb (length s) 0) refl refl h
+field_text_lem s h = go (shaped s) (eqb (length s) 1) (eqb (length s) 0) refl refl h
   where
     mark :
         (d l : Bool) →
@@ -180,7 +180,7 @@ unfolding all_plain all_fields
 pieces_text [] h = refl
 pieces_text (p ∷ ps) h =
     let both = and_parts (plain (field_of p)) (all_plain (all_fields ps)) h in
-    (λ i. field_text p both.0 i ∷ pieces_text ps both.1 i)
+    (λ i. field_text_lem p both.0 i ∷ pieces_text ps both.1 i)
 
 -- the text of a number reads as that number, and `-` as itself
 number_field : (v : ℕ) → field_of (digits_of v) ≡ Number v
@@ -508,10 +508,10 @@ module _ (heading : ℕ) (k f g b l w : Field) (n : ℕ) (s : Step) where
       go true false r ep eq er e = absurd (no_step _ s e)
       go false q r ep eq er e = absurd (no_step _ s e)
 
-step_fields :
+step_fields_lem :
     (heading : ℕ) (fs : List Field) (n : ℕ) (s : Step) → line_in 2 heading fs n ≡ StepLine s → (fs ≡ step_fields heading s) × (ranged heading s ≡ true)
 unfolding line_in values_in
-step_fields heading fs n s e = go (eqb (length fs) (names_in 2 heading) && none_empty fs) refl e
+step_fields_lem heading fs n s e = go (eqb (length fs) (names_in 2 heading) && none_empty fs) refl e
   where
     three : (fs : List Field) → length fs ≡ 3 → fs ≡ field_at fs 0 ∷ field_at fs 1 ∷ field_at fs 2 ∷ []
     three [] h = absurd (omega arith)
@@ -559,7 +559,7 @@ pub step_written :
     line_in 2 heading (fields_of l) n ≡ StepLine s →
     (step_text heading s ≡ l ++ (10 ∷ [])) × (ranged heading s ≡ true)
 step_written heading l n s e =
-    let line_is = step_fields heading (fields_of l) n s e in
+    let line_is = step_fields_lem heading (fields_of l) n s e in
     let fields : fields_of l ≡ step_fields heading s = line_is.0 in
     let pieces : map field_text (fields_of l) ≡ split 32 l = pieces_text (split 32 l) (rw fields (fields_plain (eqb heading 1) (numbers_of s))) in
     let line : line_of heading s ≡ l =

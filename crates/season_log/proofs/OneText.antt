@@ -341,8 +341,8 @@ module _ (n : Numbers) (rest : List ℕ) where
       ∙ past_four 4 n.load from_write
       ∙ past_four 0 n.write rest
 
-  list_numbers : Small n → list_numbers 0 (numbers_onto n rest) ≡ n
-  list_numbers s =
+  list_numbers_lem : Small n → list_numbers 0 (numbers_onto n rest) ≡ n
+  list_numbers_lem s =
       let write : list_number 0 from_write ≡ n.write = number_first n.write rest s.write in
       let load : list_number 0 from_load ≡ n.load = number_first n.load from_write s.load in
       let blocks : list_number 0 from_blocks ≡ n.blocks = number_first n.blocks from_load (omega (arith, s.blocks)) in
@@ -370,7 +370,7 @@ list_read heading n (s ∷ ss) h =
     let r = both.0 in
     let rest = list_of ss in
     let x = numbers_of s in
-    let here : list_numbers 0 (numbers_onto x rest) ≡ x = list_numbers x rest (step_small heading s r) in
+    let here : list_numbers 0 (numbers_onto x rest) ≡ x = list_numbers_lem x rest (step_small heading s r) in
     let means : step_of (numbers_under heading x) ≡ s = ap step_of (under_kept heading s r) ∙ same_step s in
     (λ i. next (here i) (past_numbers x rest i)) ∙ (rw (r, means, list_read heading (suc n) ss both.1))
   where

@@ -11,6 +11,9 @@ use Rattle.layout.specs.Layout.{cache_of}
 use Rattle.cache_check.proofs.Sums.{Adding, adding_none, adding_more, adding_all}
 use Rattle.cache_check.proofs.held_count.Given as goal
 
+abbrev pub term : List ℕ → ℕ → ℕ
+term b i = cond (get_or (cache_of b).held i false) 1 0
+
 abbrev pub invariant-loop-i : goal.invariant-loop-i
 invariant-loop-i l = Adding 255 (term l.b) l.n l.i l.sum
 

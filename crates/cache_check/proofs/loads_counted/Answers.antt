@@ -6,10 +6,8 @@ use borrow.Author.Rules.{rules}
 use lib.ListN.{get_or}
 use Rattle.layout.specs.Layout.{cache_of}
 use Rattle.cache_check.proofs.Sums.{Adding, adding_none, adding_more, adding_all}
+use Rattle.cache_check.proofs.loads_counted.Invariants.{term}
 use Rattle.cache_check.proofs.loads_counted.Goals as goal
-
-abbrev term : List ℕ → ℕ → ℕ
-term b i = get_or (cache_of b).itemloads i 0
 
 pub loop-i-init : goal.loop-i-init
 loop-i-init c =

@@ -8,6 +8,9 @@ use Rattle.layout.specs.Layout.{cache_of}
 use Rattle.cache_check.proofs.Sums.{Adding, adding_none, adding_more, adding_all}
 use Rattle.cache_check.proofs.loads_counted.Given as goal
 
+abbrev pub term : List ℕ → ℕ → ℕ
+term b i = get_or (cache_of b).itemloads i 0
+
 abbrev pub invariant-loop-i : goal.invariant-loop-i
 invariant-loop-i l = Adding 4294967295 (term l.b) l.n l.i l.sum
 

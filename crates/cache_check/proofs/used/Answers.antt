@@ -9,10 +9,8 @@ use lib.ListN.{get_or}
 use Rattle.cache_state.proofs.Views.{used_is}
 use Rattle.layout.specs.Layout.{cache_of}
 use Rattle.cache_check.proofs.Sums.{Adding, adding_none, adding_more, adding_all}
+use Rattle.cache_check.proofs.used.Invariants.{term}
 use Rattle.cache_check.proofs.used.Goals as goal
-
-abbrev term : List ℕ → ℕ → ℕ
-term b i = cond (get_or (cache_of b).held i false) (get_or (cache_of b).blocks i 0) 0
 
 pub loop-i-init : goal.loop-i-init
 loop-i-init c =

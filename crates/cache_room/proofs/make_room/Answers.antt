@@ -48,3 +48,83 @@ used-used-requires c =
 pub loop-used-init : goal.loop-used-init
 loop-used-init c =
     (valid_reads c.requires.valid, going_starts (cache_of c.args.b.now) c.requires.valid.cache c.used-used.ensures)
+
+pub overflow_add-used : goal.overflow_add-used
+overflow_add-used c =
+    let so = c.loop-used.invariant.1 in
+    let q = cache_of c.loop-used.b in
+    omega (
+      arith,
+      c.blocks-blocks.type_inv,
+      so.taken,
+      so.valid.standing.kept.room,
+      used_is (split_of q.rule) (deduction_ok q.rule) (deduction_adds q.rule) (queue_of q) (sound (lazy q) so.valid.lazy),
+      (capacity_facts (cache_of c.loop-used.b).k so.valid.standing.capacity).high,
+    )
+
+pub evict-requires : goal.evict-requires
+evict-requires c =
+    let fits : c.blocks-blocks.result ≤ c.capacity-k.result = omega (arith, c.blocks-blocks.ensures, c.capacity-k.ensures, c.requires.fits) in
+    let wanting : c.capacity-k.result < c.loop-used.used + c.blocks-blocks.result = omega arith in
+    let inv = c.loop-used.invariant in
+    record {
+      valid = record { size = inv.0.size; allowed = inv.0.allowed; cache = inv.1.valid };
+      some = omega (arith, fits, wanting, inv.1.taken);
+    }
+
+pub overflow_sub-used : goal.overflow_sub-used
+overflow_sub-used c =
+    let fits : c.blocks-blocks.result ≤ c.capacity-k.result = omega (arith, c.blocks-blocks.ensures, c.capacity-k.ensures, c.requires.fits) in
+    let wanting : c.capacity-k.result < c.loop-used.used + c.blocks-blocks.result = omega arith in
+    let gone : Gone c.capacity-k.result
+    c.blocks-blocks.result
+    (cache_of c.args.b.now) (cache_of c.loop-used.b)
+    (cache_of c.evict.new.b)
+    c.loop-used.used c.evict.result = going_on (cache_of c.args.b.now)
+    (cache_of c.loop-used.b) _ c.loop-used.invariant.1
+    fits wanting c.evict.ensures.value
+    c.evict.ensures.becomes_at.cache in
+    gone.within
+
+pub loop-used-smaller : goal.loop-used-smaller
+loop-used-smaller c =
+    let fits : c.blocks-blocks.result ≤ c.capacity-k.result = omega (arith, c.blocks-blocks.ensures, c.capacity-k.ensures, c.requires.fits) in
+    let wanting : c.capacity-k.result < c.loop-used.used + c.blocks-blocks.result = omega arith in
+    let gone : Gone c.capacity-k.result
+    c.blocks-blocks.result
+    (cache_of c.args.b.now) (cache_of c.loop-used.b)
+    (cache_of c.evict.new.b)
+    c.loop-used.used c.evict.result = going_on (cache_of c.args.b.now)
+    (cache_of c.loop-used.b) _ c.loop-used.invariant.1
+    fits wanting c.evict.ensures.value
+    c.evict.ensures.becomes_at.cache in
+    gone.less
+
+pub loop-used-preserved : goal.loop-used-preserved
+loop-used-preserved c =
+    let fits : c.blocks-blocks.result ≤ c.capacity-k.result = omega (arith, c.blocks-blocks.ensures, c.capacity-k.ensures, c.requires.fits) in
+    let wanting : c.capacity-k.result < c.loop-used.used + c.blocks-blocks.result = omega arith in
+    let gone : Gone c.capacity-k.result
+    c.blocks-blocks.result
+    (cache_of c.args.b.now) (cache_of c.loop-used.b)
+    (cache_of c.evict.new.b)
+    c.loop-used.used c.evict.result = going_on (cache_of c.args.b.now)
+    (cache_of c.loop-used.b) _ c.loop-used.invariant.1
+    fits wanting c.evict.ensures.value
+    c.evict.ensures.becomes_at.cache in
+    (c.evict.ensures.becomes_at.reads, gone.going)
+
+pub shape_of-b : goal.shape_of-b
+shape_of-b c =
+    omega (arith, c.loop-used.invariant.0.size, c.requires.valid.size)
+
+pub returns : goal.returns
+returns c =
+    record {
+      reads = c.loop-used.invariant.0;
+      cache =
+          room_miss (cache_of c.args.b.now) (cache_of c.loop-used.b) c.args.i
+          c.capacity-k.ensures c.blocks-blocks.ensures c.requires.known
+          (sym c.held.ensures ∙ c.if-held.false)
+          c.loop-used.invariant.1 c.loop-used-test.false;
+    }

@@ -28,7 +28,7 @@ returns-in-Absent c =
     total_lines (view (cache_of a.b.now)) a.rival ≡ total_names Absent ++ line_of (take 8 c.figures-numbers.result)) = let a = c.args in
     totals_alone (view (cache_of a.b.now)) a.rival _ c.in-Absent.is c.figures-numbers.ensures in
     let ns = c.figures-numbers.result in
-    let both = omega (arith, names_alone_count, ap length alone, length-append (total_names Absent) (line_of (take 8 ns))) in record { value = both.0; upper_bound = both.1 }
+    record { value = omega (arith, names_alone_count, ap length alone, length-append (total_names Absent) (line_of (take 8 ns))); upper_bound = omega (arith, names_alone_count, ap length alone, length-append (total_names Absent) (line_of (take 8 ns))) }
 
 pub returns-in-Against : goal.returns-in-Against
 returns-in-Against c =
@@ -37,4 +37,4 @@ returns-in-Against c =
     let l : length c.figures-numbers.result ≡ 11 = search rules in
     totals_priced (view (cache_of a.b.now)) a.rival _ _ _ l c.in-Against.is c.figures-numbers.ensures in
     let ns = c.figures-numbers.result in
-    let both = omega (arith, names_priced_count 0 0, ap length priced, length-append (total_names (Against 0 0)) (line_of ns)) in record { value = both.0; upper_bound = both.1 }
+    record { value = omega (arith, names_priced_count 0 0, ap length priced, length-append (total_names (Against 0 0)) (line_of ns)); upper_bound = omega (arith, names_priced_count 0 0, ap length priced, length-append (total_names (Against 0 0)) (line_of ns)) }

@@ -2,7 +2,6 @@
 use mathlib.Core.Path.{◌≡◌, ◌∙◌}
 use Prim.Native.Nat.{◌+◌, ◌≤◌}
 use native.Mathlib.Omega.{arith}
-use borrow.Author.Rules.{rules}
 use lib.ListN.{length}
 use Rattle.season_log.specs.Inner.{arrival_text}
 use Rattle.season_log.proofs.Writing.{arrival_small, arrival_few, arrival_count}

@@ -2,7 +2,6 @@
 use mathlib.Core.Path.{◌≡◌, ap, ◌∙◌}
 use Prim.Native.Nat.{ℕ, ◌+◌, ◌≤◌}
 use native.Mathlib.Omega.{arith}
-use borrow.Author.Rules.{rules}
 use lib.ListN.{length}
 use Rattle.decimal.specs.Decimal.{digits_of}
 use Rattle.season_log.proofs.Writing.{item_range, minutes_range, arrives, item_digits, minutes_digits, arrive_line, flush_line, write_line, named_line}
@@ -66,4 +65,19 @@ returns c =
     record {
       value = (λ j. 4 + c.short_width-digits.ensures j + c.end_bytes-end.ensures.value j) ∙ named_line c.args.heading c.args.n c.if-n-eq-FLUSH.false c.if-n-eq-WRITE.false c.if-n-eq-ARRIVE.false c.requires;
       upper_bound = omega (arith, counted);
+    }
+
+pub returns-then-n-eq-ARRIVE : goal.returns-then-n-eq-ARRIVE
+returns-then-n-eq-ARRIVE c =
+    record {
+      value = c.arrival_bytes.ensures.value ∙ arrive_line c.args.heading c.args.n c.if-n-eq-ARRIVE.true;
+      upper_bound = c.arrival_bytes.ensures.upper_bound;
+    }
+
+pub returns-then-n-eq-FLUSH : goal.returns-then-n-eq-FLUSH
+returns-then-n-eq-FLUSH c =
+    let end = c.end_bytes-end in
+    record {
+      value = ap (λ (x : ℕ). 5 + x) end.ensures.value ∙ flush_line c.args.heading c.args.n c.if-n-eq-FLUSH.true;
+      upper_bound = omega (arith, end.ensures.upper_bound);
     }

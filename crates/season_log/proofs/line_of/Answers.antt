@@ -1,5 +1,4 @@
 -- `season_log::line_of` meets its contract. Assumes nothing.
-use borrow.Author.Rules.{rules}
 use borrow.Author.Tests.{le-leb, lt-leb}
 use Rattle.season_log.proofs.line_of.Goals as goal
 

@@ -1,5 +1,4 @@
 -- `season_log::list_numbers` meets its contract: each number is read from its place. Assumes nothing.
-use borrow.Author.Rules.{rules}
 use Rattle.types.specs.Types.{numbers_from}
 use Rattle.season_log.proofs.list_numbers.Goals as goal
 

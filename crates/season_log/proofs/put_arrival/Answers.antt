@@ -2,7 +2,6 @@
 use mathlib.Core.List.{List, [], ◌++◌}
 use Prim.Native.Nat.{ℕ, ◌+◌, ◌-◌}
 use native.Mathlib.Omega.{arith}
-use borrow.Author.Rules.{rules}
 use borrow.Rule.Slice.PartMut.{put_mid}
 use lib.ListN.{length, length-append}
 use Rattle.decimal.specs.Decimal.{text_of, digits_of}
@@ -310,3 +309,34 @@ put_text-requires c =
     TextGoing (arrival_text n) a.page.now far-4 (text_of "\n") page-4) = let n = c.args.n in
     go_next c.requires (labelled (text_of " ") n.write) (text_of "\n") loaded c.put_value-at-4.ensures.value c.put_value-at-4.ensures.page_after in
     go_room c.requires _ (text_of "\n") [] _ costed
+
+pub returns : goal.returns
+returns c =
+    let named : (let a = c.args in TextGoing (arrival_text a.n) a.page.now c.put_value-at.result (behind-item a.n) c.put_value-at.new.page) = let n = c.args.n in
+    go_first (labelled (text_of "A ") n.item) (behind-item n) c.args.page.now c.requires c.put_value-at.ensures.value c.put_value-at.ensures.page_after in
+    let far-2 : ℕ = c.put_value-at.result + c.put_value-at-2.result in
+    let page-2 : List ℕ = let p = c.put_value-at.new.page in
+    let a = c.put_value-at.result in
+    put_mid a (length p - a) p c.put_value-at-2.new.page in
+    let sized : (let a = c.args in
+    let n = a.n in
+    TextGoing (arrival_text n) a.page.now far-2 (behind-blocks n) page-2) = let n = c.args.n in
+    go_next c.requires (labelled (text_of " - ") n.blocks) (behind-blocks n) named c.put_value-at-2.ensures.value c.put_value-at-2.ensures.page_after in
+    let far-3 : ℕ = far-2 + c.put_value-at-3.result in
+    let page-3 : List ℕ = let p = page-2 in
+    let a = far-2 in
+    put_mid a (length p - a) p c.put_value-at-3.new.page in
+    let loaded : (let a = c.args in
+    let n = a.n in
+    TextGoing (arrival_text n) a.page.now far-3 (behind-load n) page-3) = let n = c.args.n in
+    go_next c.requires (labelled (text_of " ") n.load) (behind-load n) sized c.put_value-at-3.ensures.value c.put_value-at-3.ensures.page_after in
+    let far-4 : ℕ = far-3 + c.put_value-at-4.result in
+    let page-4 : List ℕ = let p = page-3 in
+    let a = far-3 in
+    put_mid a (length p - a) p c.put_value-at-4.new.page in
+    let costed : (let a = c.args in
+    let n = a.n in
+    TextGoing (arrival_text n) a.page.now far-4 (text_of "\n") page-4) = let n = c.args.n in
+    go_next c.requires (labelled (text_of " ") n.write) (text_of "\n") loaded c.put_value-at-4.ensures.value c.put_value-at-4.ensures.page_after in
+    let p = c.put_text in
+    let both = go_end (go_next c.requires (text_of "\n") [] costed p.ensures.value p.ensures.page_after) in record { value = both.0; page_after = both.1 }

@@ -1,10 +1,9 @@
 -- `season_log::put_end` meets its contract: one text under each heading. Assumes nothing.
-use mathlib.Core.Path.{sym, subst}
+use mathlib.Core.Path.{subst}
 use mathlib.Core.List.{List}
 use Prim.Native.Nat.{ℕ, ◌≤◌}
-use borrow.Author.Rules.{rules}
 use lib.ListN.{length}
-use Rattle.season_log.proofs.Writing.{TextOn, end_new, end_old}
+use Rattle.season_log.proofs.Writing.{end_new, end_old}
 use Rattle.season_log.proofs.put_end.Goals as goal
 
 pub put_text-requires : goal.put_text-requires

@@ -1,7 +1,6 @@
 -- `season_log::put_lines` meets its contract. The loop's invariant: the lines of the steps that are left are left to write. Assumes nothing.
 use Prim.Native.Nat.{◌+◌, ◌-◌, ◌≤◌}
 use native.Mathlib.Omega.{arith}
-use borrow.Author.Rules.{rules}
 use borrow.Rule.Slice.PartMut.{put_mid}
 use lib.ListN.{length}
 use Rattle.season_log.specs.Log.{step_lines, lent_under}

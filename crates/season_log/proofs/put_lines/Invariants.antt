@@ -1,11 +1,7 @@
 -- `season_log::put_lines` meets its contract. The loop's invariant: the lines of the steps that are left are left to write. Assumes nothing.
-use Prim.Native.Nat.{◌+◌, ◌-◌, ◌≤◌}
-use native.Mathlib.Omega.{arith}
-use borrow.Author.Rules.{rules}
-use borrow.Rule.Slice.PartMut.{put_mid}
+use Prim.Native.Nat.{◌-◌}
 use lib.ListN.{length}
-use Rattle.season_log.specs.Log.{step_lines, lent_under}
-use Rattle.season_log.proofs.Writing.{steps_of, whole_more, Putting, putting, lines_room, line_fits, putting_next, lines_end}
+use Rattle.season_log.proofs.Writing.{Putting}
 use Rattle.season_log.proofs.put_lines.Given as goal
 
 abbrev pub invariant-loop-at : goal.invariant-loop-at

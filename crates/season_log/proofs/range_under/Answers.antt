@@ -1,6 +1,5 @@
 -- `season_log::range_under` meets its contract. Assumes nothing.
 use mathlib.Core.Path.{ap, ◌∙◌}
-use borrow.Author.Rules.{rules}
 use Rattle.landlord.specs.Steps.{range_refusal}
 use Rattle.season_log.proofs.Writing.{range_stays}
 use Rattle.season_log.proofs.range_under.Goals as goal

@@ -1,11 +1,9 @@
 -- `season_log::text_size` meets its contract. The loop's invariant: the size of what is left leads to that of the whole. Assumes nothing.
 use mathlib.Core.Path.{refl, sym, ap, ◌∙◌}
-use Prim.Native.Nat.{◌-◌}
 use native.Mathlib.Omega.{arith}
-use borrow.Author.Rules.{rules}
 use Rattle.landlord.proofs.Steps.{range_free, range_few}
 use Rattle.season_lines.specs.Lines.{numbers_under}
-use Rattle.season_log.proofs.Writing.{kept, Counting, counting, counting_more, counting_next, counted_fault, counted_torn, counted_whole}
+use Rattle.season_log.proofs.Writing.{kept, counting, counting_more, counting_next, counted_fault, counted_torn, counted_whole}
 use Rattle.season_log.proofs.text_size.Goals as goal
 
 pub list_numbers-step-requires : goal.list_numbers-step-requires
@@ -43,3 +41,14 @@ returns-then-whole-list c =
 pub returns : goal.returns
 returns c =
     counted_whole c.args.heading c.loop-at.invariant (omega (arith, c.loop-at-test.false, c.if-whole-list.false))
+
+pub loop-at-init : goal.loop-at-init
+loop-at-init c =
+    let names = c.names_bytes-bytes in
+    counting c.args.heading c.args.list.now names.result names.ensures.value names.ensures.upper_bound
+
+pub loop-at-preserved : goal.loop-at-preserved
+loop-at-preserved c =
+    let line = c.line_bytes-bytes.ensures in
+    let same = kept c.args.heading c.list_numbers-step.result (sym c.range_under-number.ensures ∙ c.if-number-ne0.false) in
+    counting_next c.args.heading c.loop-at.invariant (counting_more c.args.heading c.loop-at.invariant c.loop-at-test.true) (sym same.0 ∙ ap (numbers_under c.args.heading) c.list_numbers-step.ensures) (range_free c.list_numbers-step.result same.1) line.value line.upper_bound

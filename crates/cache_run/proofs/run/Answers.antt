@@ -1,0 +1,11 @@
+-- `cache_run::run` meets its contract: the season theorem of its arguments. Assumes nothing.
+use borrow.Author.Rules.{rules}
+use Rattle.landlord.specs.Calls.{opening}
+use Rattle.landlord.specs.CallNumbers.{calls_of}
+use Rattle.cache_run.proofs.Runs.{run_refused, run_taken}
+use Rattle.cache_run.proofs.run.Goals as goal
+
+pub returns : goal.returns
+returns c =
+    let a = c.args in
+    run_taken a.b.now _ (opening a.k a.rule a.catalog.now) (calls_of a.calls.now) a.answers.now _ _ _ c.open-number.ensures c.if-number-ne0.false c.run_calls.ensures.ran_calls
