@@ -6,7 +6,7 @@
 .NOTPARALLEL:
 
 # What rt makes of a crate lies in that crate's out/.
-LIBRARY = crates/recorder/out/librecorder.a
+LIBRARY = target/staticlib/librecorder.a
 SEASON = crates/season/out/season
 CHECK_LOG = crates/check_log/out/check_log
 
@@ -45,7 +45,8 @@ $(SEASON) $(CHECK_LOG): $(wildcard crates/*/src/*.rt crates/*/specs/*.antt) crat
 
 # For any x86-64, as the header says: by itself rt takes the instructions of x86-64-v2.
 lib: ## the archive for C, and where it and the header are
-	@cd crates/recorder && rt lib --cpu=x86-64 >&2
+	@cd crates/recorder_c && rt lib --cpu=x86-64 >&2
+	@mkdir -p target/staticlib && cp crates/recorder_c/out/librecorder_c.a $(LIBRARY)
 	@echo "archive: $(LIBRARY)"
 	@echo "header:  include/recorder.h"
 

@@ -18,19 +18,19 @@
  *                                 recorder_load_credit ..; to write: RECORDER_ITEM, recorder_put_item, recorder_put_step
  *
  * MACHINE. x86-64 only, with the calling convention of Linux: the kit's back end writes code for no other machine. Of the C
- * library at most memcpy and memset are called; a box without one supplies these two. The header is C99 or C++11, or later.
+ * library at most memset is called; a box without one supplies it. The header is C99 or C++11, or later.
  *
  * INTERRUPTS. The code in the archive is what a compiler makes for a program, not for a kernel (tests/c/machine looks at it):
  *   - Every call uses vector registers, xmm0 and up, for integers and copies: SSE2, with no floating-point arithmetic and
- *     nothing wider (memcpy and memset use what yours do). SSE has to be switched on (CR4.OSFXSR). What comes in the middle of
+ *     nothing wider (memset uses what yours does). SSE has to be switched on (CR4.OSFXSR). What comes in the middle of
  *     a call must leave these registers as they were: a task switch saves and restores them, and so does an interrupt handler,
  *     unless it is compiled without them (-mgeneral-regs-only) and calls nothing that uses them, as the recorder does.
  *   - recorder_report, recorder_sentence and recorder_log use the red zone: up to 128 bytes below the stack pointer. A handler on
  *     the same stack must begin below them. Where the processor takes an interrupt without a change of stack (in ring 0, with no
  *     IST entry), it writes its own frame into them before the handler runs. There, give the interrupts stacks of their own, or
  *     make these three calls in ring 3, or where no interrupt can come.
- *   - The stack pointer has to be a multiple of 16 at the call, as the convention says: recorder_step, recorder_close,
- *     recorder_report and recorder_sentence fault otherwise. A C compiler sees to it; a handler in assembly that calls the
+ *   - The stack pointer has to be a multiple of 16 at the call, as the convention says: recorder_step, recorder_close and
+ *     recorder_report fault otherwise. A C compiler sees to it; a handler in assembly that calls the
  *     recorder, or C, has to do so itself.
  * Then a handler may call the recorder too, on another state than that of a call it may have interrupted.
  *
@@ -50,32 +50,32 @@
  * always returns. A pointer must be good for the count of bytes that is handed in with it; with a count of 0 it is not used,
  * and may be NULL.
  *
- * STACK. Measured on x86-64 (make bench prints it): at most 191 bytes for recorder_open, 519 for recorder_step, 311 for
- * recorder_close, 503 for recorder_report, 623 for recorder_sentence and 203 for recorder_log, with no recursion, what the C
- * library's memcpy and memset use included. The library works on the lent bytes in place and makes no copy of them.
+ * STACK. Measured on x86-64 (make bench prints it): at most 191 bytes for recorder_open, 391 for recorder_step, 215 for
+ * recorder_close, 471 for recorder_report, 191 for recorder_sentence and 199 for recorder_log, with no recursion, what the C
+ * library's memset uses included. The library works on the lent bytes in place and makes no copy of them.
  *
  * TIME. In instructions, counted under callgrind and rounded (tests/c/cost prints them to the unit and holds this table to
  * them), by the count of items in the catalog:
  *
  *                                                      3        30       256
- *     recorder_open                                  130       540     4,300
- *     recorder_step, refused                       2,900     5,200    24,100
- *     recorder_step, refused, all have left        2,900     4,500    18,300
- *     recorder_step, hit                           3,100     5,400    24,300
+ *     recorder_open                                  150       550     4,400
+ *     recorder_step, refused                       2,900     5,200    24,200
+ *     recorder_step, refused, all have left        2,900     4,500    18,400
+ *     recorder_step, hit                           3,100     5,300    24,300
  *     recorder_step, arrival                       2,900     5,100    24,300
- *     recorder_step, retirement                    3,100     5,300    24,400
+ *     recorder_step, retirement                    3,100     5,300    24,500
  *     recorder_step, miss, one eviction            3,100     5,000    19,700
- *     recorder_step, miss, 16 evictions                               32,000
- *     recorder_step, flush, all dirty              3,600    11,200    76,300
- *     recorder_step, flush, at most                                   98,700
- *     recorder_close, all dirty                    3,500    11,200    76,300
- *     recorder_report, long figures                6,900    25,600   176,600
- *     recorder_is_valid, long figures              3,900    10,100    60,700
- *     recorder_sentence, at most                     780
+ *     recorder_step, miss, 16 evictions                               31,500
+ *     recorder_step, flush, all dirty              3,500    10,900    73,700
+ *     recorder_step, flush, at most                                   96,400
+ *     recorder_close, all dirty                    3,500    10,900    73,600
+ *     recorder_report, long figures                7,200    27,300   188,200
+ *     recorder_is_valid, long figures              4,000    10,700    64,900
+ *     recorder_sentence, at most                     700
  *     recorder_log, a step of any kind               150
- *     recorder_log, a step, at most                  490
+ *     recorder_log, a step, at most                  510
  *
- * What memset takes for the RECORDER_STATE_BYTES bytes of an opening, and memcpy for a sentence, comes on top.
+ * What memset takes for the RECORDER_STATE_BYTES bytes of an opening comes on top.
  *
  * Each step, close and report looks over the whole state first, for refusal 17: over each item, over the places past the catalog,
  * and over the heap of the held items. That look is all of the line 'refused', and nearly all of a hit. It takes the longer, the
@@ -88,7 +88,7 @@
  *
  * The worst step is a flush, for which the heap is mended once for each dirty item; the close does the same. The line 'at most'
  * has the most of 32 such steps, with 256 items, each of which goes to the head of the heap when it is written back. Of 5,000
- * others that were tried, those with the most exchanges in their heaps took no more than 98,700.
+ * others that were tried with an older kit, those with the most exchanges in their heaps took no more than 98,700 with it.
  *
  * recorder_is_valid measures the report besides. 'Long figures' are those of a season of 1,000,000 steps.
  *

@@ -4,7 +4,7 @@ use Rattle.std.specs.Prelude.{ℕ, suc, ◌-◌, ◌<◌}
 use Rattle.heap.specs.Heap.{Heap, heap_of}
 use Rattle.heap.specs.InnerMoves.{Filled, Removed, Roomy, Inserted, Unsettled, Sifted, SpotsOn}
 use Rattle.cache_state.specs.{Cache.{Cache, held_at}, InnerWith.with_arrangement}
-use Rattle.layout.specs.{Layout.cache_of, Inner.{Stands, Readable}}
+use Rattle.layout.specs.{Layout.cache_of, Inner.{Readable}}
 
 -- the heap of a cache, of which n places are in use
 abbrev pub heap_with : ℕ → Cache → Heap

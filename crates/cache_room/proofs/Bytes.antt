@@ -1,6 +1,5 @@
 -- What the functions of this crate store, as the cache that the bytes are then. Assumes nothing.
 use mathlib.Core.Path.{◌≡◌, refl, sym, ap, subst, ◌∙◌}
-use mathlib.Core.Logic.{◌≢◌}
 use mathlib.Core.Bool.{Bool, true, false, cond, false≢true}
 use mathlib.Core.List.{List, [], ◌∷◌}
 use Prim.Native.Nat.{ℕ, ◌+◌, ◌-◌, ◌≤◌, ◌<◌}
@@ -16,7 +15,7 @@ use Rattle.landlord.proofs.Sums.{sum_longer}
 use Rattle.landlord.proofs.Valid.{line_writebacks}
 use Rattle.marks.specs.Inner.{marks}
 use Rattle.queue.specs.Queue.{Queue, stored_at, removed, dropped, First}
-use Rattle.queue.specs.Machine.{LazyStanding, standing, moved_in, victim_in, evict_in}
+use Rattle.queue.specs.Machine.{LazyStanding, moved_in, victim_in, evict_in}
 use Rattle.queue.proofs.Logs.{first_is, first_only}
 use Rattle.heap.specs.Heap.{heap_of, place_of}
 use Rattle.heap.specs.InnerMoves.{Removed}

@@ -5,8 +5,8 @@ use Prim.Native.Nat.{ℕ, ◌+◌, ◌-◌, ◌≤◌, ◌<◌}
 use native.Mathlib.Omega.{arith}
 use lib.ListN.{get_or}
 use Rattle.landlord.specs.Fold.{fold}
-use Rattle.landlord.specs.Slot.{held, split_of}
-use Rattle.landlord.specs.Rule.{used, evict}
+use Rattle.landlord.specs.Slot.{split_of}
+use Rattle.landlord.specs.Rule.{evict}
 use Rattle.landlord.specs.Valid.{StandingOk}
 use Rattle.landlord.proofs.Sums.{sum_longer}
 use Rattle.landlord.proofs.Slots.{deduction_ok}

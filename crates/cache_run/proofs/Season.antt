@@ -11,7 +11,6 @@ use Rattle.landlord.specs.Fold.{fold}
 use Rattle.landlord.specs.Catalog.{Catalog, CatalogOk}
 use Rattle.landlord.specs.Figures.{Standing, total_cost, ran}
 use Rattle.landlord.specs.Calls.{Opening, Call, close, Log, no_log, refusal_now, refusal_in, refusal, joins, log_of, rule_over, rule_from, season_from, start_of, after}
-use Rattle.landlord.specs.Inner.{OpeningOk}
 use Rattle.landlord.specs.Claims.{AllowedLog, WithinBound, SplitOk}
 use Rattle.landlord.proofs.Slots.{deduction_ok}
 use Rattle.landlord.proofs.Calls.{log_allowed, joins_either, logged_allowed, same_refusal, one_call, closing_ends}

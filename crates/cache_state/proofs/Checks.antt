@@ -9,7 +9,7 @@ use native.Mathlib.Omega.{arith}
 use lib.ListN.{length, get_or}
 use Rattle.landlord.specs.Fold.{sum_to}
 use Rattle.landlord.specs.Catalog.{item_at}
-use Rattle.landlord.specs.Slot.{is_dirty, load_credit, write_credit, held, split_of}
+use Rattle.landlord.specs.Slot.{is_dirty, held, split_of}
 use Rattle.landlord.specs.Rule.{size, slot_at}
 use Rattle.landlord.specs.Figures.{Use, use_at}
 use Rattle.landlord.specs.Claims.{SlotKept}

@@ -8,7 +8,7 @@ use Rattle.std.specs.Prelude.{ℕ, ◌+◌, ◌*◌, ◌-◌, ◌≤◌, get_or}
 use Rattle.std.proofs.Common.{arith}
 use Rattle.types.specs.declared.{Step.{Step, TheVariants.Write}, Act.{Act, TheVariants.{Evict, Fetch}}, Deduction.{Deduction, TheVariants.{WriteFirst, LoadFirst}}}
 use Rattle.types.specs.Types.{numbers_from, read_kind, write_kind, flush_kind, arrive_kind, retire_kind, step_of}
-use Rattle.landlord.specs.{Fold.{sum_to, tab, tab_from, best_to, fold}, Catalog.{Catalog, Item, listed, departed, all_in_range, catalog_in_range, none_left, unit}, Slot.{Slot, absent, clean, dirty, Split, write_first, split_of}, Rule.{State, Event, hit, loaded, evicted, wrote_back, wrote, flush_step, arrived, retired, emptied, used, held_count, precedence, victim, evict_item, evict_for, make_room, write_backs, flush, drop_item, step, trace}, Figures.{Totals, Use, Standing, start, totals_of, use_of, tenths_of, took, closes, season, total_cost, left_side, right_side}, Plan.{Plan, Priced, costs, fault, unknown_item, retired_item, not_held, already_held, request_not_held, over_capacity, plan_used, owed, plan_acts, all_acts, plan_serves, price_from, price}, Claims.load_credits, Steps.{range_refusal, step_refusal}, Calls.{Call, step_call, close, Log, no_log, refusal_at, refusal_in, joins, log_of, rule_over, Opening, opening, opening_refusal}}
+use Rattle.landlord.specs.{Fold.{sum_to, tab, tab_from, best_to, fold}, Catalog.{Catalog, Item, listed, departed, all_in_range, catalog_in_range, none_left, unit}, Slot.{Slot, absent, clean, dirty, write_first, split_of}, Rule.{Event, hit, loaded, evicted, wrote_back, wrote, flush_step, arrived, retired, emptied, used, held_count, precedence, victim, evict_item, evict_for, make_room, write_backs, flush, drop_item, step, trace}, Figures.{Totals, Use, Standing, start, totals_of, use_of, tenths_of, took, closes, season, total_cost, left_side, right_side}, Plan.{Plan, Priced, costs, fault, unknown_item, retired_item, not_held, already_held, request_not_held, over_capacity, plan_used, owed, plan_acts, all_acts, plan_serves, price_from, price}, Claims.load_credits, Steps.{range_refusal, step_refusal}, Calls.{Call, step_call, close, Log, no_log, refusal_at, refusal_in, joins, log_of, rule_over, Opening, opening, opening_refusal}}
 
 -- a rival of a row: its blocks, and its acts before step 0, 1, 2 and on; no acts after the last list
 pub record RowRival : Type 0 where

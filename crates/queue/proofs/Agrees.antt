@@ -1,9 +1,8 @@
 -- The queue's form and the plain rule agree: the item that goes, the state after it goes, and the state after a slot is reckoned
 -- anew, for every split whose losses may be taken in one sum. Assumes nothing.
 use mathlib.Core.Path.{◌≡◌, refl, sym, ap, ◌∙◌}
-use mathlib.Core.Logic.{◌≢◌}
 use mathlib.Core.Bool.{true, false, cond, false≢true}
-use mathlib.Core.List.{List, [], ◌∷◌, ◌++◌}
+use mathlib.Core.List.{[], ◌∷◌, ◌++◌}
 use Prim.Native.Nat.{ℕ, suc, ◌+◌, ◌*◌, ◌-◌, ◌/◌, ◌≤◌, ◌<◌}
 use native.Mathlib.Decide.{ℕ_discrete, dec_lt}
 use native.Mathlib.Omega.{arith}
@@ -21,7 +20,7 @@ use Rattle.landlord.specs.Rule.{State, size, slot_at, rank, precedence, victim, 
 use Rattle.landlord.specs.Claims.{SplitOk, SlotKept, Least}
 use Rattle.landlord.proofs.Folds.{tab_at, tab_eq, tab_set, tab_more, Best, nobody, somebody, best_is}
 use Rattle.landlord.proofs.Slots.{absent_kept}
-use Rattle.queue.specs.Queue.{worth, key_now, slot_now, KeyOk, SplitAdds, Queue, stored_at, key_at, blocks_of, precedence_in, now_at, plain, dropped, reckoned, removed, longer, marked_left, QueueOk, First}
+use Rattle.queue.specs.Queue.{key_now, slot_now, KeyOk, SplitAdds, Queue, stored_at, key_at, blocks_of, precedence_in, now_at, plain, dropped, reckoned, removed, longer, marked_left, QueueOk, First}
 use Rattle.queue.proofs.Losses.{now_held, now_worth, now_later, fresh, fresh_ok}
 
 -- what the rule keeps of a slot goes by the item's three values

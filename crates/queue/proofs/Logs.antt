@@ -1,10 +1,9 @@
 -- Over every log the queue and the plain rule give equal evictions, costs, marks and credits, for every split whose losses may be
 -- taken in one sum; and the level stays within its bound. Assumes nothing.
 use mathlib.Core.Path.{◌≡◌, refl, sym, ap, ◌∙◌, subst}
-use mathlib.Core.Logic.{◌≢◌}
 use mathlib.Core.Bool.{Bool, true, false, cond, false≢true}
 use mathlib.Core.List.{List, [], ◌∷◌, ◌++◌, map}
-use Prim.Native.Nat.{ℕ, zero, suc, ◌+◌, ◌*◌, ◌-◌, ◌≤◌, ◌<◌}
+use Prim.Native.Nat.{ℕ, zero, suc, ◌+◌, ◌*◌, ◌≤◌, ◌<◌}
 use native.Mathlib.Decide.{dec_lt}
 use native.Mathlib.Omega.{arith}
 use lib.Dec.{leb}
@@ -17,7 +16,7 @@ use Rattle.types.specs.declared.Deduction.{Deduction}
 use Rattle.landlord.specs.Fold.{sum_to, fold}
 use Rattle.landlord.specs.Catalog.{Catalog, Item, CatalogOk, CapacityOk, item_at, listed, full, catalog_next, none_left}
 use Rattle.landlord.specs.Slot.{Split, Slot, absent, clean, dirty, held, is_dirty, brought, refilled, written, flushed, split_of}
-use Rattle.landlord.specs.Rule.{State, size, slot_at, used, held_count, victim, evict_item, evict, evict_for, make_room, Moved, stay, joined, put_slot, found, read_slot, serve_read, serve_write, write_backs, flush, arrive, drop_item, leave, step, Event, evicted, hit, loaded, wrote_back, wrote, flush_step, arrived, trace}
+use Rattle.landlord.specs.Rule.{State, slot_at, used, held_count, victim, evict_item, evict, evict_for, make_room, Moved, stay, joined, put_slot, found, read_slot, serve_read, serve_write, write_backs, flush, arrive, drop_item, leave, step, Event, evicted, hit, loaded, wrote_back, wrote, flush_step, arrived, trace}
 use Rattle.landlord.specs.Figures.{Figures, start, Standing, Totals, adds, tally, moved, took, closes, nothing, opened, ran}
 use Rattle.landlord.specs.Valid.{StandingOk}
 use Rattle.landlord.specs.Inner.{ItemFacts}

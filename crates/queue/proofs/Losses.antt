@@ -12,8 +12,8 @@ use Rattle.landlord.specs.Slot.{Slot, absent, clean, dirty, held, load_credit, w
 use Rattle.landlord.specs.Claims.{Bears, SplitOk, SlotKept}
 use Rattle.landlord.proofs.Slots.{Lost, lose_lost, lose_kept, lose_held}
 use Rattle.queue.specs.Queue.{worth, key_now, loss_since, slot_now, KeyOk, SplitAdds, most_rise}
+
 -- of a wrong definition the row that it breaks is told before the laws
-use Rattle.queue.proofs.Bench.{bench_right}
 
 -- both rules may be taken in one sum
 pub write_first_adds : SplitAdds write_first

@@ -1,10 +1,10 @@
 -- The bench rows of the queue: seasons with the level, every key and every credit after each step, as last reckoned and as it stands, in
 -- one table, and one theorem over the table, by computation. The lazy form gives all of it, and the plain rule gives the same credits,
 -- evictions and totals. The values are worked out from the papers, in shares: 720,720 to the unit. Assumes nothing.
-use mathlib.Core.{Path.{◌≡◌, refl}, Bool.{Bool, true, false, cond}, List.{List, [], ◌∷◌, map}}
+use mathlib.Core.{Path.{◌≡◌, refl}, Bool.{Bool, true, cond}, List.{List, [], ◌∷◌, map}}
 use Rattle.std.specs.Prelude.{ℕ}
 use Rattle.types.specs.declared.{Step.{Step, TheVariants.{Read, Write, Flush, Arrive, Retire}}, Deduction.{Deduction, TheVariants.{WriteFirst, LoadFirst}}}
-use Rattle.landlord.specs.{Fold.{sum_to, tab_from, best_to, fold}, Catalog.{Catalog, Item, listed}, Slot.{Slot, absent, clean, dirty, split_of}, Rule.{Event, emptied, used, held_count, precedence, victim, evict_item, evict_for, make_room, write_backs, flush, drop_item, step, trace}, Figures.{Totals, Figures, Standing, totals_of, start, opened, took, closes, ran, total_cost}, Rows.evicted_items}
+use Rattle.landlord.specs.{Fold.{sum_to, tab_from, best_to, fold}, Catalog.{Catalog, Item, listed}, Slot.{Slot, absent, clean, dirty, split_of}, Rule.{emptied, used, held_count, precedence, victim, evict_item, evict_for, make_room, write_backs, flush, drop_item, step, trace}, Figures.{Totals, Figures, Standing, totals_of, start, opened, took, closes, ran, total_cost}, Rows.evicted_items}
 use Rattle.queue.specs.{Queue.plain, Machine.{LazyStanding, empty_queue, lazy_at_opening, used_in, held_count_in, victim_in, evict_for_in, make_room_in, flush_in, drop_in, step_in, took_in, closes_in, trace_in, ran_in}}
 
 -- what is seen after a step: the level; for each item its key, its place with the credits as last reckoned, and with those that stand

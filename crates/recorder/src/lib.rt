@@ -1,4 +1,4 @@
-// The functions that the firmware calls from C, on lent bytes. Each answers 0 or the refusal's number, the log's with its line; refused,
+// What the firmware calls, on lent bytes; `recorder_c` exports each to C under its name. Each answers 0 or the refusal's number, the log's with its line; refused,
 // every lent byte is as before. Nothing is asked of the caller: any bytes, any lengths and any numbers are answered.
 #![tactic(auto)]
 
@@ -15,16 +15,14 @@ use types::Numbers;
 
 // Opens the state for a cache of `k` blocks, a rule of deduction, 0 for write-first and 1 for load-first, and the items of the catalog,
 // five bytes each.
-#[unsafe(no_mangle)]
-pub extern "C" fn recorder_open(state: &mut [u8], k: u32, rule: u32, catalog: &[u8]) -> u32
+pub fn recorder_open(state: &mut [u8], k: u32, rule: u32, catalog: &[u8]) -> u32
     ensures { OpenedLent state.old (opening k rule catalog.now) result state.new }
 {
     cache_open::open(state, k, rule, catalog)
 }
 
 // Takes one step by its numbers: `kind` is the code of its letter, 82 for R, 87 for W, 76 for L, 65 for A, 81 for Q.
-#[unsafe(no_mangle)]
-pub extern "C" fn recorder_step(
+pub fn recorder_step(
     state: &mut [u8],
     kind: u32,
     item: u32,
@@ -47,16 +45,14 @@ pub extern "C" fn recorder_step(
 }
 
 // Closes the log.
-#[unsafe(no_mangle)]
-pub extern "C" fn recorder_close(state: &mut [u8]) -> u32
+pub fn recorder_close(state: &mut [u8]) -> u32
     ensures { Called lent state.old close result state.new }
 {
     cache::close(state)
 }
 
 // Writes the report of the state on the page, and how long it is in the length's place.
-#[unsafe(no_mangle)]
-pub extern "C" fn recorder_report(state: &[u8], page: &mut [u8], written: &mut usize) -> u32
+pub fn recorder_report(state: &[u8], page: &mut [u8], written: &mut usize) -> u32
     ensures { ReportedLent state.now page.old written.old result page.new written.new }
 {
     match report::report(state, Rival::Absent, page) {
@@ -70,8 +66,7 @@ pub extern "C" fn recorder_report(state: &[u8], page: &mut [u8], written: &mut u
 
 // Writes the sentence of a refusal on the page, and how long it is in the length's place. A caller has the line and the item: 0 for what
 // a refusal has not.
-#[unsafe(no_mangle)]
-pub extern "C" fn recorder_sentence(
+pub fn recorder_sentence(
     number: u32,
     line: u32,
     item: u32,
@@ -95,13 +90,7 @@ pub extern "C" fn recorder_sentence(
 // Writes the log of a list of steps on the page, under a heading, 0 for three names and 1 for six, 24 bytes a step, and how long it is in
 // the length's place. Refused, nothing is written, so the line comes back in the answer: the number in its low half, the line in its high
 // half.
-#[unsafe(no_mangle)]
-pub extern "C" fn recorder_log(
-    heading: u32,
-    list: &[u8],
-    page: &mut [u8],
-    written: &mut usize,
-) -> u64
+pub fn recorder_log(heading: u32, list: &[u8], page: &mut [u8], written: &mut usize) -> u64
     ensures { LoggedLent heading list.now page.old written.old result page.new written.new }
 {
     match season_log::write_log(heading, list, page) {

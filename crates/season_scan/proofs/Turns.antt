@@ -32,7 +32,7 @@ use Rattle.season_lines.proofs.Pieces.{many_malformed, empty_malformed}
 use Rattle.season_lines.proofs.Held.{held_line}
 use Rattle.season_tables.proofs.Keeps.{not_refused, untouched_later}
 use Rattle.season_tables.proofs.Held.{begins as nothing-held}
-use Rattle.season_scan.proofs.Laws.{line_first, until_first, nothing_left, until_end, no_feed, until_no_feed, wants_here, malformed_line, Adds, grown, fields_from, field_first, length_part}
+use Rattle.season_scan.proofs.Laws.{line_end, line_first, until_first, nothing_left, until_end, no_feed, until_no_feed, wants_here, malformed_line, Adds, grown, fields_from, field_first, length_part}
 
 -- as long as they were
 abbrev pub AsLong : List ℕ → List ℕ → List ℕ → List ℕ → List ℕ → List ℕ → Type 0
@@ -468,3 +468,39 @@ module _ (upto : ℕ) (s catalog₀ calls₀ acts₀ catalog calls acts : List �
                     until = ap (λ (z : Sofar). (read_until upto (n + 1) rest z).read) (sym there) ∙ ap (λ (z : Sofar). z.read) (sym until-then) ∙ h.until;
                   }
               go (stops y) u k = absurd (not_refused r.scanned.verdict y e k)
+
+-- ## Where a line and its fields end
+
+pub line_within_text :
+    (s : List ℕ) (at m : ℕ) →
+    at ≤ length s →
+    m ≡ length (before 10 (take (length s - at) (drop at s))) →
+    at + m ≤ length s
+line_within_text s at m a e =
+    let l = drop at s in
+    omega (arith, line_end s at m e, before_le 10 l, length-drop at s)
+
+pub field_within :
+    (s : List ℕ) (i end m : ℕ) →
+    end ≤ length s →
+    i ≤ end →
+    m ≡ length (before 32 (take (end - i) (drop i s))) →
+    i + m ≤ end
+field_within s i end m h l e = omega (arith, e, before_le 32 (take (end - i) (drop i s)), length_part s i end h)
+
+-- the field from byte i to the one m behind it
+pub field_there :
+    (s : List ℕ) (i m : ℕ) (field : Field) →
+    field ≡ held_field (field_of (take (i + m - i) (drop i s))) →
+    field ≡ held_field (field_of (take m (drop i s)))
+field_there s i m field is =
+    let e : i + m - i ≡ m = omega arith in
+    is ∙ ap (λ (k : ℕ). held_field (field_of (take k (drop i s)))) e
+
+-- the fields so far, by the outcome of the test for more
+pub fielded_as :
+    (upto : ℕ) (s : List ℕ) (p : Stage) (q : Seen) (at end names : ℕ) (fields : List Field) (count i : ℕ) (more t : Bool) →
+    more ≡ t →
+    Fielded upto s p q at end names fields count i more →
+    Fielded upto s p q at end names fields count i t
+fielded_as upto s p q at end names fields count i more t e f = rw e at f

@@ -13,7 +13,7 @@ use Rattle.types.specs.declared.Step.{Step}
 use Rattle.types.specs.declared.Step.TheVariants.{Flush}
 use Rattle.landlord.specs.Fold.{fold}
 use Rattle.landlord.specs.Catalog.{Catalog, catalog_after}
-use Rattle.types.specs.Types.{numbers_of, deduction_number}
+use Rattle.types.specs.Types.{numbers_of}
 use Rattle.landlord.specs.Slot.{split_of}
 use Rattle.landlord.specs.Figures.{start, ran, total_cost, left_side, right_side}
 use Rattle.landlord.specs.Plan.{costs}

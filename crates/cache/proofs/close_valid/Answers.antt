@@ -1,6 +1,5 @@
 -- `cache::close_valid` meets its contract: closed, the bytes stay; else it flushes and closes. Assumes nothing.
 use mathlib.Core.Path.{sym, ◌∙◌}
-use borrow.Author.Rules.{rules}
 use Rattle.cache.proofs.Calls.{closed_answers, closing_answers}
 use Rattle.cache.proofs.close_valid.Goals as goal
 

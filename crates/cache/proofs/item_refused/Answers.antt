@@ -1,6 +1,5 @@
 -- `cache::item_refused` meets its contract: each answer is a law of proofs/Table.antt. Assumes nothing.
 use mathlib.Core.Path.{sym, ◌∙◌}
-use borrow.Author.Rules.{rules}
 use Rattle.layout.specs.Layout.{cache_of}
 use Rattle.cache.proofs.Table.{item_flush, item_next, item_misnumbered, item_unknown, item_retired, item_retires, item_large, item_none, has_place}
 use Rattle.cache.proofs.item_refused.Goals as goal

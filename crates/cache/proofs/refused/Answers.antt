@@ -1,6 +1,5 @@
 -- `cache::refused` meets its contract: each answer is a law of proofs/Table.antt. Assumes nothing.
 use mathlib.Core.Path.{sym, ◌∙◌}
-use borrow.Author.Rules.{rules}
 use Rattle.landlord.proofs.Steps.{free_range}
 use Rattle.layout.specs.Layout.{cache_of}
 use Rattle.cache.proofs.Table.{table_closed, table_full, table_range, table_item}

@@ -1,6 +1,5 @@
 -- `cache::serve` meets its contract: each need is a law of proofs/Steps.antt. Assumes nothing.
 use native.Mathlib.Omega.{arith}
-use borrow.Author.Rules.{rules}
 use Rattle.cache.proofs.Steps.{passed_steps, passed_flush, passed_values, passed_arrives, passed_arrived, passed_place, passed_leaves, passed_left, passed_wanted, passed_minutes, room_servable, read_took, write_took}
 use Rattle.cache.proofs.serve.Goals as goal
 

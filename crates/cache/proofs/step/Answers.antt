@@ -1,5 +1,4 @@
 -- `cache::step` meets its contract: bytes that are not valid stay; else as on valid ones. Assumes nothing.
-use borrow.Author.Rules.{rules}
 use mathlib.Core.Path.{ap}
 use mathlib.Core.Bool.{not}
 use Rattle.landlord.specs.Calls.{step_call}

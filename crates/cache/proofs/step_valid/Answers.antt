@@ -1,6 +1,5 @@
 -- `cache::step_valid` meets its contract: refused, the bytes stay; else the step is served. Assumes nothing.
 use mathlib.Core.Path.{sym, ◌∙◌}
-use borrow.Author.Rules.{rules}
 use Rattle.landlord.specs.Calls.{step_call}
 use Rattle.cache.specs.Contract.{lent}
 use Rattle.cache.proofs.Calls.{refused_answers, step_answers}

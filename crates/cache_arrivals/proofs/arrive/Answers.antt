@@ -1,5 +1,4 @@
 -- `cache_arrivals::arrive` meets its contract: an item listed in the bytes in which its arrival is counted. Assumes nothing.
-use borrow.Author.Rules.{rules}
 use Rattle.cache_counts.proofs.Counts.{valid_ready}
 use Rattle.cache_arrivals.proofs.InPlace.{listable_at, arrive_at}
 use Rattle.cache_arrivals.proofs.arrive.Goals as goal

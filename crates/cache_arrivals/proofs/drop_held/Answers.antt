@@ -1,5 +1,4 @@
 -- `cache_arrivals::drop_held` meets its contract: a law for each of its two ways. Assumes nothing.
-use borrow.Author.Rules.{rules}
 use Rattle.cache_arrivals.proofs.InPlace.{retire_holds, countable_at, held_at, unheld_at}
 use Rattle.cache_arrivals.proofs.drop_held.Goals as goal
 

@@ -1,5 +1,4 @@
 -- `cache_arrivals::list_item` meets its contract: four stores. Assumes nothing.
-use borrow.Author.Rules.{rules}
 use Rattle.cache_arrivals.proofs.Counts.{item_listed}
 use Rattle.cache_arrivals.proofs.list_item.Goals as goal
 

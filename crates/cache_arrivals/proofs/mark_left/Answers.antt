@@ -1,5 +1,4 @@
 -- `cache_arrivals::mark_left` meets its contract: a step counted, and one store. Assumes nothing.
-use borrow.Author.Rules.{rules}
 use Rattle.cache_arrivals.proofs.Counts.{left_marked}
 use Rattle.cache_arrivals.proofs.mark_left.Goals as goal
 

@@ -1,5 +1,4 @@
 -- `cache_arrivals::retire` meets its contract: the mark's law after the drop's. Assumes nothing.
-use borrow.Author.Rules.{rules}
 use Rattle.cache_arrivals.proofs.InPlace.{retirement_at, retire_at}
 use Rattle.cache_arrivals.proofs.retire.Goals as goal
 

@@ -1,5 +1,4 @@
 -- `cache_check::counts_ok` meets its contract: the totals handed on are those of the cache. Assumes nothing.
-use borrow.Author.Rules.{rules}
 use Rattle.cache_check.proofs.counts_ok.Goals as goal
 
 pub returns : goal.returns

@@ -1,14 +1,10 @@
 -- `cache_check::held_count` meets its contract: the loop adds 1 for each item held. Assumes nothing.
 use mathlib.Core.Path.{sym, ◌∙◌}
-use mathlib.Core.Bool.{false, cond}
-use mathlib.Core.List.{List}
-use Prim.Native.Nat.{ℕ, ◌-◌}
+use mathlib.Core.Bool.{cond}
 use native.Mathlib.Omega.{arith}
-use borrow.Author.Rules.{rules}
-use lib.ListN.{get_or}
 use Rattle.cache_state.proofs.Views.{count_is}
 use Rattle.layout.specs.Layout.{cache_of}
-use Rattle.cache_check.proofs.Sums.{Adding, adding_none, adding_more, adding_all}
+use Rattle.cache_check.proofs.Sums.{adding_none, adding_more, adding_all}
 use Rattle.cache_check.proofs.held_count.Invariants.{term}
 use Rattle.cache_check.proofs.held_count.Goals as goal
 

@@ -1,7 +1,6 @@
 -- `cache_check::item_ok` meets its contract: the numbers handed to the tests are the item's. Assumes nothing.
 use mathlib.Core.Path.{sym, ◌∙◌}
 use native.Mathlib.Omega.{arith}
-use borrow.Author.Rules.{rules}
 use borrow.Author.Tests.{eqb-true, eq-eqb}
 use mathlib.Core.Path.{ap}
 use mathlib.Core.Bool.{not}

@@ -1,13 +1,9 @@
 -- `cache_check::items_ok` meets its contract. The loop's invariant: the items passed are as they should be. Assumes nothing.
-use Prim.Native.Nat.{ℕ, ◌-◌, ◌≤◌, ◌<◌}
 use native.Mathlib.Omega.{arith}
-use borrow.Author.Rules.{rules}
 use borrow.Author.Count.{below_none, below_more}
 use mathlib.Core.Path.{ap}
 use mathlib.Core.Bool.{not}
 use Rattle.basis.proofs.Decides.{no, sure, denied, granted}
-use Rattle.layout.specs.Layout.{cache_of}
-use Rattle.cache_check.specs.Inner.{ItemAt}
 use Rattle.cache_check.proofs.items_ok.Goals as goal
 
 pub loop-i-init : goal.loop-i-init

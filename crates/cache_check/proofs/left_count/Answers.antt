@@ -1,6 +1,5 @@
 -- `cache_check::left_count` meets its contract: where no mark is set none is counted. Assumes nothing.
 use native.Mathlib.Omega.{arith}
-use borrow.Author.Rules.{rules}
 use Rattle.cache_check.proofs.Gone.{none_left_lem}
 use Rattle.cache_check.proofs.left_count.Goals as goal
 

@@ -1,8 +1,7 @@
 -- `cache_check::left_ok` meets its contract. The loop's invariant: of the items before the mark none that has left is held. Assumes nothing.
 use mathlib.Core.Path.{sym, ◌∙◌}
-use Prim.Native.Nat.{◌-◌, ◌≤◌, ◌<◌}
+use Prim.Native.Nat.{◌≤◌, ◌<◌}
 use native.Mathlib.Omega.{arith}
-use borrow.Author.Rules.{rules}
 use Rattle.layout.specs.Layout.{cache_of}
 use Rattle.cache_check.proofs.Gone.{Passed, passed_first, passed_more, passed_held, passed_all}
 use Rattle.cache_check.proofs.left_ok.Goals as goal

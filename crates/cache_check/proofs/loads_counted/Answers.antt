@@ -1,11 +1,6 @@
 -- `cache_check::loads_counted` meets its contract: the loop adds up the loads of the items. Assumes nothing.
-use mathlib.Core.List.{List}
-use Prim.Native.Nat.{ℕ, ◌-◌}
 use native.Mathlib.Omega.{arith}
-use borrow.Author.Rules.{rules}
-use lib.ListN.{get_or}
-use Rattle.layout.specs.Layout.{cache_of}
-use Rattle.cache_check.proofs.Sums.{Adding, adding_none, adding_more, adding_all}
+use Rattle.cache_check.proofs.Sums.{adding_none, adding_more, adding_all}
 use Rattle.cache_check.proofs.loads_counted.Invariants.{term}
 use Rattle.cache_check.proofs.loads_counted.Goals as goal
 

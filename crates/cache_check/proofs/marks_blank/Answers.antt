@@ -1,5 +1,4 @@
 -- `cache_check::marks_blank` meets its contract: no mark is set from n on exactly if the next one is none. Assumes nothing.
-use borrow.Author.Rules.{rules}
 use Rattle.cache_check.proofs.Past.{marks_so}
 use Rattle.cache_check.proofs.marks_blank.Goals as goal
 

@@ -1,6 +1,5 @@
 -- `cache_check::past_ok` meets its contract: the tests of bytes and of marks find that every place is blank. Assumes nothing.
 use native.Mathlib.Omega.{arith}
-use borrow.Author.Rules.{rules}
 use mathlib.Core.Path.{ap}
 use mathlib.Core.Bool.{not}
 use Rattle.basis.proofs.Decides.{no, denied, granted}

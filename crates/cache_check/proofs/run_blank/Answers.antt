@@ -1,7 +1,6 @@
 -- `cache_check::run_blank` meets its contract: numbers are 0 exactly if their bytes are. Assumes nothing.
 use native.Mathlib.Nat.{mul-le-mul, mul-le-mul_right}
 use native.Mathlib.Omega.{arith}
-use borrow.Author.Rules.{rules}
 use Rattle.cache_check.proofs.Blanks.{decided_run}
 use Rattle.cache_check.proofs.run_blank.Goals as goal
 

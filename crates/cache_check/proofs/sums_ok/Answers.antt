@@ -1,6 +1,5 @@
 -- `cache_check::sums_ok` meets its contract: the sums handed to `balanced` are those that are asked for. Assumes nothing.
 use mathlib.Core.Path.{◌∙◌}
-use borrow.Author.Rules.{rules}
 use Rattle.cache_check.proofs.sums_ok.Goals as goal
 
 pub returns : goal.returns

@@ -1,14 +1,10 @@
 -- `cache_check::used` meets its contract: the loop adds up the blocks of the items held. Assumes nothing.
-use mathlib.Core.Path.{sym, ◌∙◌}
 use mathlib.Core.Bool.{false, cond}
 use mathlib.Core.List.{List}
 use Prim.Native.Nat.{ℕ, ◌-◌}
-use native.Mathlib.Omega.{arith}
-use borrow.Author.Rules.{rules}
 use lib.ListN.{get_or}
-use Rattle.cache_state.proofs.Views.{used_is}
 use Rattle.layout.specs.Layout.{cache_of}
-use Rattle.cache_check.proofs.Sums.{Adding, adding_none, adding_more, adding_all}
+use Rattle.cache_check.proofs.Sums.{Adding}
 use Rattle.cache_check.proofs.used.Given as goal
 
 abbrev pub term : List ℕ → ℕ → ℕ

@@ -1,7 +1,6 @@
 -- `cache_check::zeros` meets its contract. The loop's invariant: `all` is 0 exactly if every byte passed is. Assumes nothing.
-use Prim.Native.Nat.{◌-◌, ◌≤◌}
 use native.Mathlib.Omega.{arith}
-use Rattle.cache_check.proofs.Blanks.{PassedOver, passed_none, passed_more, passed_all}
+use Rattle.cache_check.proofs.Blanks.{passed_none, passed_more, passed_all}
 use Rattle.cache_check.proofs.zeros.Goals as goal
 
 pub loop-i-init : goal.loop-i-init

@@ -1,7 +1,6 @@
 -- `cache_check::zeros_three` meets its contract. The loop's invariant: `all` is 0 exactly if every byte passed is. Assumes nothing.
-use Prim.Native.Nat.{◌-◌, ◌≤◌}
 use native.Mathlib.Omega.{arith}
-use Rattle.cache_check.proofs.Blanks.{PassedThree, three_none, three_more, three_all}
+use Rattle.cache_check.proofs.Blanks.{three_none, three_more, three_all}
 use Rattle.cache_check.proofs.zeros_three.Goals as goal
 
 pub loop-i-init : goal.loop-i-init

@@ -1,7 +1,6 @@
 -- `cache_check::zeros_three` meets its contract. The loop's invariant: `all` is 0 exactly if every byte passed is. Assumes nothing.
 use Prim.Native.Nat.{◌-◌, ◌≤◌}
-use native.Mathlib.Omega.{arith}
-use Rattle.cache_check.proofs.Blanks.{PassedThree, three_none, three_more, three_all}
+use Rattle.cache_check.proofs.Blanks.{PassedThree}
 use Rattle.cache_check.proofs.zeros_three.Given as goal
 
 abbrev pub invariant-loop-i : goal.invariant-loop-i

@@ -1,12 +1,9 @@
 -- `cache_counts::count_step` meets its contract: a law for the five ways, and then the steps. Assumes nothing.
-use borrow.Author.Rules.{rules}
 use mathlib.Core.Path.{refl}
-use mathlib.Core.Logic.{⊎_elim}
 use Rattle.cache_state.specs.Cache.{Cache}
 use Rattle.cache_state.specs.InnerWith.{with_hits, with_loads, with_flushes, with_arrivals, with_retirements}
 use Rattle.layout.specs.Layout.{cache_of}
 use Rattle.layout.specs.Inner.{Stands}
-use Rattle.layout.proofs.Places.{readable}
 use Rattle.cache_counts.specs.Inner.{total_counted}
 use Rattle.cache_counts.proofs.Counts.{total_counted_lem, step_counted_lem}
 use Rattle.cache_counts.proofs.count_step.Goals as goal

@@ -1,8 +1,6 @@
 -- `cache_heap::fix` meets its contract: the part is lent, and what comes back is the cache with another arrangement. Assumes nothing.
 use Rattle.cache_heap.proofs.Bridges.{unsettled_in, sifted_back}
-use native.Mathlib.Omega.{arith}
 use mathlib.Core.Path.{refl}
-use borrow.Author.Rules.{rules}
 use Rattle.fields.proofs.Laws.{byte_fits}
 use Rattle.cache_heap.proofs.fix.Goals as goal
 

@@ -1,8 +1,6 @@
 -- `cache_heap::insert` meets its contract: the part is lent, and what comes back is the cache with another arrangement. Assumes nothing.
 use Rattle.cache_heap.proofs.Bridges.{roomy_in, inserted_back}
-use native.Mathlib.Omega.{arith}
 use mathlib.Core.Path.{refl}
-use borrow.Author.Rules.{rules}
 use Rattle.fields.proofs.Laws.{byte_fits}
 use Rattle.cache_heap.proofs.insert.Goals as goal
 

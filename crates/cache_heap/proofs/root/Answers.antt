@@ -4,7 +4,6 @@ use lib.ListN.{get_or}
 use Prim.Native.Nat.{ℕ}
 use mathlib.Core.List.{List}
 use mathlib.Core.Path.{ap, ◌∙◌}
-use borrow.Author.Rules.{rules}
 use Rattle.cache_heap.proofs.root.Goals as goal
 
 pub returns : goal.returns

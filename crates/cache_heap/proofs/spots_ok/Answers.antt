@@ -1,7 +1,6 @@
 -- `cache_heap::spots_ok` meets its contract: two parts are lent, that of the heap and the held flags. Assumes nothing.
 use Rattle.cache_heap.proofs.Validity.{spots_decided}
 use Rattle.cache_heap.proofs.Bridges.{part_keys, part_items, part_places}
-use borrow.Author.Rules.{rules}
 use Rattle.cache_heap.proofs.spots_ok.Goals as goal
 
 pub returns : goal.returns

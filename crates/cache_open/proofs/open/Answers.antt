@@ -2,7 +2,6 @@
 -- Assumes nothing.
 use mathlib.Core.Path.{refl}
 use native.Mathlib.Omega.{arith}
-use borrow.Author.Rules.{rules}
 use Rattle.landlord.specs.Calls.{opening}
 use Rattle.layout.proofs.Places.{readable}
 use Rattle.cache_open.proofs.Openings.{right, opening_refused, opening_done}

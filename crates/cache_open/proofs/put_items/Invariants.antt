@@ -1,12 +1,8 @@
 -- `cache_open::put_items` meets its contract: after i turns the first i items stand in their places. Assumes nothing.
-use mathlib.Core.Path.{◌≡◌, ◌∙◌, sym}
 use Prim.Native.Nat.{◌≤◌, ◌-◌}
-use native.Mathlib.Omega.{arith}
 use Rattle.layout.specs.Layout.{cache_of}
 use Rattle.layout.specs.Inner.{Stands}
-use Rattle.layout.proofs.Places.{readable}
 use Rattle.cache_open.specs.Inner.{entered_of}
-use Rattle.cache_open.proofs.Openings.{has_item, entered_none, entered_more}
 use Rattle.cache_open.proofs.put_items.Given as goal
 
 abbrev pub invariant-loop-i : goal.invariant-loop-i

@@ -1,6 +1,5 @@
 -- `cache_room::count_eviction` meets its contract. Assumes nothing.
-use borrow.Author.Rules.{rules}
-use Rattle.cache_room.proofs.Bytes.{payable_at, counted_dirty, counted_clean}
+use Rattle.cache_room.proofs.Bytes.{payable_at}
 use Rattle.cache_room.proofs.count_eviction.Goals as goal
 
 pub count_writeback-requires : goal.count_writeback-requires

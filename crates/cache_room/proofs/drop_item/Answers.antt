@@ -1,5 +1,4 @@
 -- `cache_room::drop_item` meets its contract. Assumes nothing.
-use borrow.Author.Rules.{rules}
 use Rattle.cache_room.proofs.Bytes.{dropped_at}
 use Rattle.cache_room.proofs.drop_item.Goals as goal
 

@@ -4,7 +4,6 @@ use Rattle.layout.specs.Layout.{cache_of}
 use lib.ListN.{get_or}
 use Prim.Native.Nat.{ℕ}
 use mathlib.Core.Path.{ap, sym, ◌∙◌}
-use borrow.Author.Rules.{rules}
 use Rattle.cache_room.proofs.evict.Goals as goal
 
 pub let_go-blocks-requires : goal.let_go-blocks-requires

@@ -1,7 +1,6 @@
 -- `cache_room::let_go` meets its contract: out of the heap, then its key, its blocks and its slot. Assumes nothing.
 use Rattle.cache_room.proofs.Bytes.{holds_place, holds_filled, holds_used, let_go_at}
 use native.Mathlib.Omega.{arith}
-use borrow.Author.Rules.{rules}
 use Rattle.cache_room.proofs.let_go.Goals as goal
 
 pub place-at-requires : goal.place-at-requires

@@ -3,8 +3,6 @@
 use mathlib.Core.Path.{sym, ◌∙◌}
 use Prim.Native.Nat.{◌+◌, ◌≤◌, ◌<◌}
 use native.Mathlib.Omega.{arith}
-use borrow.Author.Rules.{rules}
-use Rattle.queue.specs.Machine.{held_count_in}
 use Rattle.queue.proofs.Losses.{deduction_adds}
 use Rattle.queue.proofs.Logs.{sound, used_is}
 use Rattle.landlord.proofs.Slots.{deduction_ok}
@@ -12,9 +10,8 @@ use Rattle.landlord.specs.Slot.{split_of}
 use Rattle.cache_state.specs.Cache.{lazy}
 use Rattle.cache_state.specs.InnerView.{queue_of}
 use Rattle.layout.specs.Layout.{cache_of}
-use Rattle.layout.specs.Inner.{Readable}
 use Rattle.layout.proofs.Places.{valid_reads}
-use Rattle.cache_room.proofs.Rooms.{RoomGoing, Gone, going_starts, going_on, room_hit, room_miss}
+use Rattle.cache_room.proofs.Rooms.{Gone, going_starts, going_on, room_hit, room_miss}
 use Rattle.landlord.proofs.Ranges.{capacity_facts}
 use Rattle.cache_room.proofs.make_room.Goals as goal
 

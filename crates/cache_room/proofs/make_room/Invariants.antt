@@ -1,21 +1,10 @@
 -- `cache_room::make_room` meets its contract. The loop keeps that what is left to do leads where the rule's loop leads from the start,
 -- and the blocks held; with each eviction one item fewer is held. Assumes nothing.
-use mathlib.Core.Path.{sym, ◌∙◌}
-use Prim.Native.Nat.{◌+◌, ◌≤◌, ◌<◌}
-use native.Mathlib.Omega.{arith}
-use borrow.Author.Rules.{rules}
 use Rattle.queue.specs.Machine.{held_count_in}
-use Rattle.queue.proofs.Losses.{deduction_adds}
-use Rattle.queue.proofs.Logs.{sound, used_is}
-use Rattle.landlord.proofs.Slots.{deduction_ok}
-use Rattle.landlord.specs.Slot.{split_of}
-use Rattle.cache_state.specs.Cache.{lazy}
 use Rattle.cache_state.specs.InnerView.{queue_of}
 use Rattle.layout.specs.Layout.{cache_of}
 use Rattle.layout.specs.Inner.{Readable}
-use Rattle.layout.proofs.Places.{valid_reads}
-use Rattle.cache_room.proofs.Rooms.{RoomGoing, Gone, going_starts, going_on, room_hit, room_miss}
-use Rattle.landlord.proofs.Ranges.{capacity_facts}
+use Rattle.cache_room.proofs.Rooms.{RoomGoing}
 use Rattle.cache_room.proofs.make_room.Given as goal
 
 abbrev pub invariant-loop-used : goal.invariant-loop-used

@@ -3,7 +3,6 @@ use Rattle.cache_room.proofs.Reckons.{reckon_holds, reckoned_at}
 use native.Mathlib.Omega.{arith}
 use native.Mathlib.Nat.{div-le_self}
 use Prim.Native.Nat.{◌+◌, ◌/◌}
-use borrow.Author.Rules.{rules}
 use Rattle.cache_room.proofs.reckon.Goals as goal
 
 pub overflow_add-key-2 : goal.overflow_add-key-2

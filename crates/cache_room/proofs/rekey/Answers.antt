@@ -1,6 +1,5 @@
 -- `cache_room::rekey` meets its contract: only this item can be out of order in the heap. Assumes nothing.
 use Rattle.cache_room.proofs.Rekeys.{rekey_unsettled, rekeyed_at}
-use borrow.Author.Rules.{rules}
 use Rattle.cache_room.proofs.rekey.Goals as goal
 
 pub fix-requires : goal.fix-requires

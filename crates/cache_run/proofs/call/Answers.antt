@@ -1,6 +1,5 @@
 -- `cache_run::call` meets its contract: the closing, or a step by the six numbers behind the first. Assumes nothing.
 use native.Mathlib.Omega.{arith}
-use borrow.Author.Rules.{rules}
 use Rattle.landlord.specs.CallNumbers.{numbers_behind}
 use Rattle.cache_run.proofs.Runs.{call_takes, call_closes}
 use Rattle.cache_run.proofs.call.Goals as goal

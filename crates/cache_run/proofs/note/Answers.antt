@@ -2,7 +2,6 @@
 use mathlib.Core.Path.{sym}
 use native.Mathlib.Omega.{arith}
 use lib.Seq.{set_out}
-use borrow.Author.Rules.{rules}
 use Rattle.cache_run.proofs.note.Goals as goal
 
 pub returns-else-i-answers : goal.returns-else-i-answers

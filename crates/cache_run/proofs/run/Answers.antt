@@ -1,8 +1,7 @@
 -- `cache_run::run` meets its contract: the season theorem of its arguments. Assumes nothing.
-use borrow.Author.Rules.{rules}
 use Rattle.landlord.specs.Calls.{opening}
 use Rattle.landlord.specs.CallNumbers.{calls_of}
-use Rattle.cache_run.proofs.Runs.{run_refused, run_taken}
+use Rattle.cache_run.proofs.Runs.{run_taken}
 use Rattle.cache_run.proofs.run.Goals as goal
 
 pub returns : goal.returns

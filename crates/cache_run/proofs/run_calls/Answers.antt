@@ -1,14 +1,12 @@
 -- `cache_run::run_calls` meets its contract: what is left to do leads to the answers from the start. Assumes nothing.
-use mathlib.Core.Path.{◌≡◌, refl, sym, ap, ◌∙◌}
-use Prim.Native.Nat.{◌≤◌, ◌*◌, ◌/◌, ◌-◌}
+use mathlib.Core.Path.{refl, sym, ap, ◌∙◌}
 use native.Mathlib.Omega.{arith}
 use lib.ListN.{length}
 use lib.Seq.{length-sets}
-use borrow.Author.Rules.{rules}
 use Rattle.cache.specs.Contract.{lent}
 use Rattle.landlord.specs.CallNumbers.{calls_of}
 use Rattle.landlord.proofs.CallNumbers.{count_is, call_is}
-use Rattle.cache_run.proofs.Runs.{CallsGoing, going_starts, going_on, going_ends}
+use Rattle.cache_run.proofs.Runs.{going_starts, going_on, going_ends}
 use Rattle.cache_run.proofs.run_calls.Goals as goal
 
 pub loop-i-init : goal.loop-i-init

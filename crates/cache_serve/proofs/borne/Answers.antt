@@ -3,7 +3,6 @@ use Rattle.layout.specs.Layout.{cache_of}
 use Rattle.landlord.specs.Slot.{split_of}
 use lib.ListN.{get_or}
 use mathlib.Core.Path.{◌∙◌}
-use borrow.Author.Rules.{rules}
 use Rattle.cache_serve.proofs.borne.Goals as goal
 
 pub returns : goal.returns

@@ -2,7 +2,6 @@
 use mathlib.Core.Path.{◌∙◌}
 use native.Mathlib.Omega.{arith}
 use Rattle.cache_serve.proofs.Counts.{load_counted}
-use borrow.Author.Rules.{rules}
 use Rattle.cache_serve.proofs.count_load.Goals as goal
 
 pub overflow_add-own : goal.overflow_add-own

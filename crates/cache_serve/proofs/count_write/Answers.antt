@@ -1,7 +1,6 @@
 -- `cache_serve::count_write` meets its contract: a mark and the minutes. Assumes nothing.
 use native.Mathlib.Omega.{arith}
 use Rattle.cache_serve.proofs.Counts.{write_counted}
-use borrow.Author.Rules.{rules}
 use Rattle.cache_serve.proofs.count_write.Goals as goal
 
 pub overflow_add-sofar : goal.overflow_add-sofar

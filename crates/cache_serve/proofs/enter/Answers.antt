@@ -3,7 +3,6 @@ use Prim.Native.Nat.{◌+◌, ◌/◌}
 use native.Mathlib.Nat.{div-le_self}
 use native.Mathlib.Omega.{arith}
 use Rattle.cache_serve.proofs.Enters.{enter_roomy, entered_at, enter_place}
-use borrow.Author.Rules.{rules}
 use Rattle.cache_serve.proofs.enter.Goals as goal
 
 pub blocks-blocks-requires : goal.blocks-blocks-requires

@@ -1,5 +1,4 @@
 -- `cache_serve::fetch` meets its contract: a law for each of its two ways. Assumes nothing.
-use borrow.Author.Rules.{rules}
 use Rattle.cache_serve.proofs.Serves.{serve_place, fetch_ready, fetch_hit, load_enterable, load_ready, fetch_load}
 use Rattle.cache_serve.proofs.fetch.Goals as goal
 

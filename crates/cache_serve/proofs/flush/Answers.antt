@@ -1,9 +1,8 @@
 -- `cache_serve::flush` meets its contract. What is left to do leads where the whole leads; the measure is what is left of the
 -- marks. Assumes nothing.
 use mathlib.Core.Path.{sym, ◌∙◌}
-use Prim.Native.Nat.{◌-◌}
 use native.Mathlib.Omega.{arith}
-use Rattle.cache_serve.proofs.Writebacks.{FlushingAt, flush_starts, flush_ends, flush_keyed, flush_reckonable, flushable, flush_turn}
+use Rattle.cache_serve.proofs.Writebacks.{flush_starts, flush_ends, flush_keyed, flush_reckonable, flushable, flush_turn}
 use Rattle.cache_serve.proofs.flush.Goals as goal
 
 pub loop-at-init : goal.loop-at-init

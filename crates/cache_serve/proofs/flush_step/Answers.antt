@@ -1,5 +1,4 @@
 -- `cache_serve::flush_step` meets its contract: the flush's law after the count's. Assumes nothing.
-use borrow.Author.Rules.{rules}
 use Rattle.cache_counts.proofs.Counts.{valid_ready}
 use Rattle.cache_serve.proofs.Writebacks.{flushed_valid_at, flush_step_at}
 use Rattle.cache_serve.proofs.flush_step.Goals as goal

@@ -1,5 +1,4 @@
 -- `cache_serve::full_credit` meets its contract: the shares a block, for each of the blocks. Assumes nothing.
-use borrow.Author.Rules.{rules}
 use mathlib.Core.Path.{◌≡◌}
 use Prim.Native.Nat.{◌*◌}
 use native.Mathlib.Omega.{arith}

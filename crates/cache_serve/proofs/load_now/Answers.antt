@@ -3,7 +3,6 @@ use Prim.Native.Nat.{◌-◌}
 use mathlib.Core.Path.{sym, ◌∙◌}
 use native.Mathlib.Omega.{arith}
 use Rattle.cache_serve.proofs.Losses.{keyed_losing, keyed_borne}
-use borrow.Author.Rules.{rules}
 use Rattle.cache_serve.proofs.load_now.Goals as goal
 
 pub overflow_sub-result : goal.overflow_sub-result

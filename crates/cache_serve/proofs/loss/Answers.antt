@@ -1,7 +1,6 @@
 -- `cache_serve::loss` meets its contract: one quotient and one product, which is at most the two credits. Assumes nothing.
 use Rattle.cache_serve.proofs.Losses.{keyed_losing, keyed_worth, keyed_loss}
 use native.Mathlib.Omega.{arith}
-use borrow.Author.Rules.{rules}
 use Rattle.cache_serve.proofs.loss.Goals as goal
 
 pub overflow_add-worth : goal.overflow_add-worth

@@ -3,7 +3,6 @@ use Rattle.cache_serve.proofs.Serves.{serve_facts, write_ready, write_reckonable
 use Rattle.cache_serve.proofs.Shares.{blocks_read}
 use Rattle.landlord.specs.Catalog.{full}
 use mathlib.Core.Path.{◌∙◌, ap}
-use borrow.Author.Rules.{rules}
 use Rattle.cache_serve.proofs.serve_write.Goals as goal
 
 pub full_credit-load-requires : goal.full_credit-load-requires

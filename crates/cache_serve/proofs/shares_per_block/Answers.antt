@@ -1,6 +1,5 @@
 -- `cache_serve::shares_per_block` meets its contract: each entry of its table is the quotient, by one test of all of them, which is
 -- computed. Assumes nothing.
-use borrow.Author.Rules.{rules}
 use mathlib.Core.Path.{◌≡◌, refl}
 use mathlib.Core.List.{List, [], ◌∷◌}
 use Prim.Native.Nat.{ℕ, ◌-◌, ◌*◌, ◌/◌}

@@ -1,5 +1,4 @@
 -- `cache_serve::write_back` meets its contract: the writeback counted, and the mark cleared. Assumes nothing.
-use borrow.Author.Rules.{rules}
 use Rattle.cache_serve.proofs.Counts.{written_back}
 use Rattle.cache_serve.proofs.write_back.Goals as goal
 

@@ -1,7 +1,6 @@
 -- `cache_value::answer_to` meets its contract: 0 is taken, and the rows of the table are `types::refusal_of`. Assumes nothing.
 use mathlib.Core.Path.{sym, ap}
 use Prim.Native.Nat.{ℕ}
-use borrow.Author.Rules.{rules}
 use Rattle.types.specs.Types.{telling}
 use Rattle.cache_value.proofs.answer_to.Goals as goal
 

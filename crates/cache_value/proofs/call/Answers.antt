@@ -1,6 +1,5 @@
 -- `cache_value::call` meets its contract: the call in place on the struct's bytes, as the call by value. Assumes nothing.
 use native.Mathlib.Omega.{arith}
-use borrow.Author.Rules.{rules}
 use Rattle.landlord.specs.CallNumbers.{call_from}
 use Rattle.cache_value.proofs.Calls.{many_called, refused_called, taken_called}
 use Rattle.cache_value.proofs.call.Goals as goal

@@ -1,5 +1,4 @@
 -- `cache_value::call_bytes` meets its contract: a step or the closing. Assumes nothing.
-use borrow.Author.Rules.{rules}
 use Rattle.cache_value.proofs.Calls.{call_takes, call_closes}
 use Rattle.cache_value.proofs.call_bytes.Goals as goal
 

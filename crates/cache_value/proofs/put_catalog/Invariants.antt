@@ -1,12 +1,9 @@
 -- `cache_value::put_catalog` meets its contract: after i turns the first i items stand in the bytes. Assumes nothing.
-use mathlib.Core.Path.{◌≡◌, sym, ◌∙◌}
+use mathlib.Core.Path.{◌≡◌}
 use Prim.Native.Nat.{◌≤◌, ◌-◌}
-use native.Mathlib.Omega.{arith}
-use borrow.Author.Rules.{rules}
 use lib.ListN.{length}
 use Rattle.catalog_bytes.specs.Inner.{catalog_of_first}
 use Rattle.cache_value.specs.Contract.{catalog_from}
-use Rattle.cache_value.proofs.Openings.{catalog_none, catalog_more}
 use Rattle.cache_value.proofs.put_catalog.Given as goal
 
 abbrev pub invariant-loop-i : goal.invariant-loop-i

@@ -1,5 +1,4 @@
 -- `cache_value::run` meets its contract: the season theorem of its arguments. Assumes nothing.
-use borrow.Author.Rules.{rules}
 use Rattle.landlord.specs.CallNumbers.{calls_of}
 use Rattle.cache_value.proofs.Answers.{opening_number_lem}
 use Rattle.cache_value.proofs.Runs.{run_refused, run_taken}

@@ -1,6 +1,5 @@
 -- `catalog_bytes::put` meets its contract: five stores, one after another. Assumes nothing.
 use native.Mathlib.Omega.{arith}
-use borrow.Author.Rules.{rules}
 use lib.ListN.{length-set}
 use Rattle.catalog_bytes.proofs.Places.{put_stores}
 use Rattle.catalog_bytes.proofs.put.Goals as goal

@@ -1,7 +1,6 @@
 -- `decimal::put_three` meets its contract: one store, and two behind it. Assumes nothing.
 use mathlib.Core.Path.{◌∙◌, ap}
 use native.Mathlib.Omega.{arith}
-use borrow.Author.Rules.{rules}
 use lib.ListN.{length, length-set}
 use lib.Seq.{length-sets}
 use Rattle.decimal.proofs.Shorts.{three_stored}

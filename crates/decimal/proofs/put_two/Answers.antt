@@ -1,6 +1,5 @@
 -- `decimal::put_two` meets its contract: two stores, one behind the other. Assumes nothing.
 use native.Mathlib.Omega.{arith}
-use borrow.Author.Rules.{rules}
 use lib.ListN.{length-set}
 use Rattle.decimal.proofs.Shorts.{two_stored}
 use Rattle.decimal.proofs.put_two.Goals as goal

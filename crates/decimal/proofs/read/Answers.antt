@@ -1,14 +1,11 @@
 -- `decimal::read` meets its contract. The loop's invariant: the text is shaped, what was read is at most the limit, and
 -- with the digits still to come it makes the text's value. Assumes nothing.
-use Prim.Native.Nat.{ℕ, ◌+◌, ◌-◌, ◌*◌, ◌≤◌}
+use Prim.Native.Nat.{ℕ, ◌+◌, ◌-◌, ◌*◌}
 use mathlib.Core.Path.{◌≡◌, sym, ap, ◌∙◌}
-use mathlib.Core.Bool.{true}
 use native.Mathlib.Omega.{arith}
-use borrow.Author.Tests.{not-true, not-false}
-use borrow.Author.Rules.{rules}
-use lib.ListN.{length, drop}
+use lib.ListN.{drop}
 use Rattle.decimal.specs.declared.Number.TheVariants.{Value}
-use Rattle.decimal.specs.Decimal.{shaped, value_of}
+use Rattle.decimal.specs.Decimal.{value_of}
 use Rattle.decimal.proofs.Laws.{value_from, from_start, from_next, from_end, from_above, all_at, shape_parts, read_malformed, read_above, read_within}
 use Rattle.decimal.proofs.read.Goals as goal
 

@@ -1,10 +1,6 @@
 -- `decimal::same` meets its contract: the bytes passed are the same, so the rest decides. Assumes nothing.
-use mathlib.Core.Path.{◌≡◌, ◌∙◌}
-use Prim.Native.Nat.{◌≤◌, ◌-◌}
+use mathlib.Core.Path.{◌∙◌}
 use native.Mathlib.Omega.{arith}
-use borrow.Author.Rules.{rules}
-use lib.ListN.{length, drop}
-use Rattle.decimal.specs.Decimal.{same_text}
 use Rattle.decimal.proofs.Texts.{same_lengths, same_step, same_differs, same_end}
 use Rattle.decimal.proofs.same.Goals as goal
 

@@ -1,14 +1,9 @@
 -- `decimal::well_shaped` meets its contract. The loop's invariant: the bytes that are left are all digits just if all of
 -- them are. Assumes nothing.
 use Prim.Native.Nat.{◌≤◌, ◌-◌}
-use mathlib.Core.Path.{◌≡◌, sym, ◌∙◌}
-use mathlib.Core.Bool.{true}
-use mathlib.Core.Logic.{⊎_elim}
-use native.Mathlib.Omega.{arith}
-use borrow.Author.Rules.{rules}
+use mathlib.Core.Path.{◌≡◌}
 use lib.ListN.{drop}
 use Rattle.decimal.specs.Decimal.{all_digits}
-use Rattle.decimal.proofs.Laws.{all_next, all_low, all_high, all_end, no_text, no_digits, no_zero, shape_one, shape_more}
 use Rattle.decimal.proofs.well_shaped.Given as goal
 
 abbrev pub invariant-loop-i : goal.invariant-loop-i

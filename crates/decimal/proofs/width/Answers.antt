@@ -1,11 +1,6 @@
 -- `decimal::width` meets its contract. The loop's invariant: the digits counted and those of what is left are those of v,
 -- one of them counted twice. Assumes nothing.
-use Prim.Native.Nat.{◌≤◌, ◌+◌}
-use mathlib.Core.Path.{◌≡◌}
 use native.Mathlib.Omega.{arith}
-use borrow.Author.Rules.{rules}
-use lib.ListN.{length}
-use Rattle.decimal.specs.Decimal.{digits_of}
 use Rattle.decimal.proofs.Laws.{length_small, length_big}
 use Rattle.decimal.proofs.width.Goals as goal
 

@@ -2,11 +2,8 @@
 -- one of them counted twice. Assumes nothing.
 use Prim.Native.Nat.{◌≤◌, ◌+◌}
 use mathlib.Core.Path.{◌≡◌}
-use native.Mathlib.Omega.{arith}
-use borrow.Author.Rules.{rules}
 use lib.ListN.{length}
 use Rattle.decimal.specs.Decimal.{digits_of}
-use Rattle.decimal.proofs.Laws.{length_small, length_big}
 use Rattle.decimal.proofs.width.Given as goal
 
 abbrev pub invariant-loop-rest : goal.invariant-loop-rest

@@ -1,12 +1,10 @@
 -- `decimal::write` meets its contract. The loop's invariant: with the digits still to go written at its front, the page is
 -- the page that the contract asks for. Assumes nothing.
-use Prim.Native.Nat.{ℕ, ◌-◌, ◌/◌, ◌≤◌}
+use Prim.Native.Nat.{ℕ, ◌-◌, ◌/◌}
 use mathlib.Core.Path.{◌≡◌, refl, sym, ap, ◌∙◌}
-use mathlib.Core.Logic.{⊎_elim}
 use native.Mathlib.Omega.{arith}
-use borrow.Author.Rules.{rules}
-use lib.ListN.{length, set, length-set}
-use Rattle.decimal.specs.Decimal.{digits_of, wrote_of, page_of}
+use lib.ListN.{set, length-set}
+use Rattle.decimal.specs.Decimal.{digits_of, wrote_of}
 use Rattle.decimal.proofs.Laws.{to_go, go_start, go_next, go_end, wrote_all, wrote_none, wrote_fits}
 use Rattle.decimal.proofs.write.Goals as goal
 use Rattle.decimal.proofs.write.Goals.{then-room-n, else-room-n}

@@ -1,13 +1,10 @@
 -- `decimal::write` meets its contract. The loop's invariant: with the digits still to go written at its front, the page is
 -- the page that the contract asks for. Assumes nothing.
-use Prim.Native.Nat.{ℕ, ◌-◌, ◌/◌, ◌≤◌}
-use mathlib.Core.Path.{◌≡◌, refl, sym, ap, ◌∙◌}
-use mathlib.Core.Logic.{⊎_elim}
-use native.Mathlib.Omega.{arith}
-use borrow.Author.Rules.{rules}
-use lib.ListN.{length, set, length-set}
+use Prim.Native.Nat.{◌≤◌}
+use mathlib.Core.Path.{◌≡◌}
+use lib.ListN.{length}
 use Rattle.decimal.specs.Decimal.{digits_of, wrote_of, page_of}
-use Rattle.decimal.proofs.Laws.{to_go, go_start, go_next, go_end, wrote_all, wrote_none, wrote_fits}
+use Rattle.decimal.proofs.Laws.{to_go}
 use Rattle.decimal.proofs.write.Given as goal
 
 abbrev pub invariant-loop-i : goal.invariant-loop-i

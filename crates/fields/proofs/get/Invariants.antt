@@ -1,10 +1,7 @@
 -- `fields::get` meets its contract: it has the number that the bytes from the present one up stand for. Assumes nothing.
 use mathlib.Core.Path.{◌≡◌}
 use Prim.Native.Nat.{◌+◌, ◌-◌, ◌^◌, ◌≤◌, ◌<◌}
-use native.Mathlib.Omega.{arith}
-use lib.ListN.{get_or}
 use Rattle.fields.specs.LittleEndian.{number_at}
-use Rattle.fields.proofs.Turns.{get_start, get_step, get_lt, get_fits, get_done}
 use Rattle.fields.proofs.get.Given as goal
 
 abbrev pub invariant-loop-i : goal.invariant-loop-i

@@ -1,11 +1,9 @@
 -- `fields::put` meets its contract: the bytes that are left, stored from here on, lead to the list asked for. Assumes nothing.
-use mathlib.Core.Path.{◌≡◌, refl, sym, ◌∙◌}
+use mathlib.Core.Path.{refl, sym, ◌∙◌}
 use Prim.Native.Nat.{◌+◌}
 use native.Mathlib.Nat.{add-zero}
 use native.Mathlib.Omega.{arith}
-use lib.ListN.{length, length-set}
-use lib.Seq.{sets}
-use Rattle.fields.specs.LittleEndian.{to_bytes}
+use lib.ListN.{length-set}
 use Rattle.fields.proofs.Turns.{put_step, put_done}
 use Rattle.fields.proofs.put.Goals as goal
 

@@ -1,6 +1,5 @@
 -- `heap::fix` meets its contract: what may rise rises, else it may only sink. Assumes nothing.
 use Rattle.heap.proofs.Moving.{fix_up, fix_down}
-use borrow.Author.Rules.{rules}
 use Rattle.heap.proofs.fix.Goals as goal
 
 pub sift_up-requires : goal.sift_up-requires

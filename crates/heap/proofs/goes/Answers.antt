@@ -1,5 +1,4 @@
 -- `heap::goes` meets its contract: the weights of two places. Assumes nothing.
-use borrow.Author.Rules.{rules}
 use Rattle.heap.proofs.goes.Goals as goal
 
 pub returns : goal.returns

@@ -1,6 +1,5 @@
 -- `heap::insert` meets its contract: appended, it is the one item that may have to rise. Assumes nothing.
 use Rattle.heap.proofs.Moving.{insert_up, inserts}
-use borrow.Author.Rules.{rules}
 use Rattle.heap.proofs.insert.Goals as goal
 
 pub sift_up-requires : goal.sift_up-requires

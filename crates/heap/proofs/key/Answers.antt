@@ -1,6 +1,5 @@
 -- `heap::key` meets its contract: one number of the row. Assumes nothing.
 use Rattle.heap.proofs.Parts.{key_at_lem}
-use borrow.Author.Rules.{rules}
 use Rattle.fields.specs.LittleEndian.{number_at}
 use Rattle.heap.proofs.key.Goals as goal
 

@@ -4,7 +4,6 @@ use Rattle.heap.specs.InnerPart.{keys_in, items_in}
 use Rattle.heap.specs.Heap.{weight_of}
 use native.Mathlib.Omega.{arith}
 use mathlib.Core.Path.{sym, ◌∙◌}
-use borrow.Author.Rules.{rules}
 use Rattle.heap.proofs.lower.Goals as goal
 
 pub returns-then-goes : goal.returns-then-goes

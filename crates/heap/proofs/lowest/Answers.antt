@@ -2,7 +2,6 @@
 use Rattle.heap.proofs.Tests.{lowest_of}
 use Rattle.heap.specs.InnerPart.{keys_in, items_in}
 use Rattle.heap.specs.Heap.{weight_of}
-use borrow.Author.Rules.{rules}
 use Rattle.heap.proofs.lowest.Goals as goal
 
 pub returns : goal.returns

@@ -3,7 +3,6 @@ use Prim.Native.Nat.{◌+◌}
 use Rattle.heap.proofs.Parts.{places_at}
 use mathlib.Core.Path.{sym}
 use native.Mathlib.Omega.{arith}
-use borrow.Author.Rules.{rules}
 use Rattle.heap.proofs.place.Goals as goal
 
 pub overflow_cast-result : goal.overflow_cast-result

@@ -1,7 +1,6 @@
 -- `heap::remove` meets its contract: the last item takes the place, from which it may have to move either way. Assumes nothing.
 use Rattle.heap.proofs.Moving.{removes_last, remove_unsettled, removes}
 use native.Mathlib.Omega.{arith}
-use borrow.Author.Rules.{rules}
 use Rattle.heap.proofs.remove.Goals as goal
 
 pub fix-requires : goal.fix-requires

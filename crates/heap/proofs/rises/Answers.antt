@@ -3,7 +3,6 @@ use Rattle.heap.proofs.Tests.{rises_root, rises_by}
 use Rattle.heap.specs.InnerPart.{keys_in, items_in}
 use Rattle.heap.specs.Heap.{weight_of}
 use native.Mathlib.Omega.{arith}
-use borrow.Author.Rules.{rules}
 use Rattle.heap.proofs.rises.Goals as goal
 
 pub returns-then-at-eq0 : goal.returns-then-at-eq0

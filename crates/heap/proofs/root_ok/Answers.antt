@@ -3,7 +3,6 @@ use mathlib.Core.Path.{ap, ◌∙◌}
 use Prim.Native.Nat.{ℕ}
 use lib.Dec.{eqb}
 use lib.ListN.{get_or}
-use borrow.Author.Rules.{rules}
 use Rattle.heap.specs.InnerMoves.{flagged}
 use Rattle.heap.specs.InnerPart.{places_in}
 use Rattle.heap.proofs.Spots.{root_out, root_placed, flag_off, flag_on}

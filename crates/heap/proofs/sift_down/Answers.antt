@@ -1,9 +1,6 @@
 -- `heap::sift_down` meets its contract: the loop keeps that only the item at `i` may be out of order, downwards. Assumes nothing.
-use Rattle.heap.proofs.Moving.{Falling, falling_starts, falling_on, falling_ends}
-use Rattle.heap.specs.Heap.{above}
-use Prim.Native.Nat.{◌≤◌, ◌-◌}
-use mathlib.Core.Logic.{◌≢◌}
-use mathlib.Core.Path.{◌≡◌, ◌∙◌, sym}
+use Rattle.heap.proofs.Moving.{falling_starts, falling_on, falling_ends}
+use mathlib.Core.Path.{◌∙◌, sym}
 use native.Mathlib.Omega.{arith}
 use Rattle.heap.proofs.sift_down.Goals as goal
 

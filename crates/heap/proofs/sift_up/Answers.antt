@@ -1,5 +1,5 @@
 -- `heap::sift_up` meets its contract: the loop keeps that only the item at `i` may be out of order, upwards. Assumes nothing.
-use Rattle.heap.proofs.Moving.{Rising, rising_starts, rising_on, rising_ends}
+use Rattle.heap.proofs.Moving.{rising_starts, rising_on, rising_ends}
 use mathlib.Core.Path.{◌∙◌, sym}
 use native.Mathlib.Omega.{arith}
 use Rattle.heap.proofs.sift_up.Goals as goal

@@ -1,7 +1,5 @@
 -- `heap::sift_up` meets its contract: the loop keeps that only the item at `i` may be out of order, upwards. Assumes nothing.
-use Rattle.heap.proofs.Moving.{Rising, rising_starts, rising_on, rising_ends}
-use mathlib.Core.Path.{◌∙◌, sym}
-use native.Mathlib.Omega.{arith}
+use Rattle.heap.proofs.Moving.{Rising}
 use Rattle.heap.proofs.sift_up.Given as goal
 
 abbrev pub invariant-loop-up : goal.invariant-loop-up

@@ -1,9 +1,7 @@
 -- `heap::spot_ok` meets its contract: the two things that are asked of a place below the root. Assumes nothing.
 use mathlib.Core.Path.{ap, sym, ◌∙◌}
 use Prim.Native.Nat.{ℕ}
-use native.Mathlib.Omega.{arith}
 use lib.ListN.{get_or}
-use borrow.Author.Rules.{rules}
 use Rattle.heap.specs.InnerPart.{places_in}
 use Rattle.heap.proofs.Spots.{spot_elsewhere, spot_goes}
 use Rattle.heap.proofs.spot_ok.Goals as goal

@@ -1,10 +1,7 @@
 -- `heap::spots_ok` meets its contract: the loop keeps that the root and the places so far are as they should be. Assumes nothing.
 use Prim.Native.Nat.{◌-◌, ◌≤◌}
-use native.Mathlib.Omega.{arith}
-use borrow.Author.Rules.{rules}
-use borrow.Author.Tests.{not-true, not-false}
 use Rattle.heap.specs.InnerMoves.{flagged}
-use Rattle.heap.proofs.Spots.{Spotted, no_spots, not_rooted, spotted_root, spotted_more, spotted_all, not_spotted}
+use Rattle.heap.proofs.Spots.{Spotted}
 use Rattle.heap.proofs.spots_ok.Given as goal
 
 abbrev pub invariant-loop-j : goal.invariant-loop-j

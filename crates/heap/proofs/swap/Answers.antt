@@ -1,7 +1,6 @@
 -- `heap::swap` meets its contract: four stores, of which the last decides where both items are one. Assumes nothing.
 use Rattle.heap.proofs.Moving.{swap_stores}
 use lib.ListN.{length-set}
-use native.Mathlib.Omega.{arith}
 use borrow.Author.Rules.{rules}
 use Rattle.heap.proofs.swap.Goals as goal
 

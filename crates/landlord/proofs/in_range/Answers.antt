@@ -1,6 +1,5 @@
 -- `landlord::in_range` meets its contract: each way through the tests is a law of proofs/Ranges.antt. Assumes nothing.
 use mathlib.Core.Path.{◌∙◌}
-use borrow.Author.Rules.{rules}
 use Rattle.landlord.proofs.Ranges.{range_flush, range_wide, range_read, range_write, range_arrive, range_retire}
 use Rattle.landlord.proofs.in_range.Goals as goal
 

@@ -1,6 +1,5 @@
 -- `landlord::range_refusal` meets its contract. Assumes nothing.
 use mathlib.Core.Path.{sym, ◌∙◌}
-use borrow.Author.Rules.{rules}
 use Rattle.landlord.proofs.Steps.{range_free, range_out}
 use Rattle.landlord.proofs.range_refusal.Goals as goal
 

@@ -1,7 +1,6 @@
 -- `layout::allowed` meets its contract: a wrong number of the layout, a flag of its own above 1, or a rule's number above 1 is not
 -- allowed, and else the items' flags decide. Assumes nothing.
 use native.Mathlib.Omega.{arith}
-use borrow.Author.Rules.{rules}
 use borrow.Author.Tests.{ltb-true}
 use Rattle.layout.specs.Layout.{AllowedBytes}
 use Rattle.layout.proofs.Tests.{refuted, allowed_so}

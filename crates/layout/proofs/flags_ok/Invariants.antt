@@ -1,8 +1,7 @@
 -- `layout::flags_ok` meets its contract: the loop's invariant says that the bytes so far, joined, are below 2 exactly if each of them
 -- is, and its measure is how many are left. Assumes nothing.
 use Prim.Native.Nat.{◌-◌, ◌≤◌}
-use native.Mathlib.Omega.{arith}
-use Rattle.layout.proofs.Tests.{Joined, joined_none, joined_more, joined_all}
+use Rattle.layout.proofs.Tests.{Joined}
 use Rattle.layout.proofs.flags_ok.Given as goal
 
 abbrev pub invariant-loop-i : goal.invariant-loop-i

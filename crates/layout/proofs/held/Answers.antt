@@ -1,7 +1,6 @@
 -- `layout::held` meets its contract: one flag is the byte at its place. Assumes nothing.
 use mathlib.Core.Path.{sym}
 use native.Mathlib.Omega.{arith}
-use borrow.Author.Rules.{rules}
 use Rattle.layout.specs.InnerRows.{at_held}
 use Rattle.layout.proofs.Places.{flag_at}
 use Rattle.layout.proofs.held.Goals as goal

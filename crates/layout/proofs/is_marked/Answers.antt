@@ -1,7 +1,6 @@
 -- `layout::is_marked` meets its contract: the word that it reads is the word of the mark. Assumes nothing.
 use Prim.Native.Nat.{◌/◌}
 use native.Mathlib.Omega.{arith}
-use borrow.Author.Rules.{rules}
 use Rattle.marks.specs.Marks.{bit, marked}
 use Rattle.layout.proofs.Places.{number_at_lem}
 use Rattle.layout.proofs.is_marked.Goals as goal

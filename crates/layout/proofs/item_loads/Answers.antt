@@ -1,6 +1,5 @@
 -- `layout::item_loads` meets its contract: one number of a run is the number at its place. Assumes nothing.
 use native.Mathlib.Omega.{arith}
-use borrow.Author.Rules.{rules}
 use Rattle.layout.specs.InnerRows.{at_item_loads}
 use Rattle.layout.proofs.Places.{number_at_lem}
 use Rattle.layout.proofs.item_loads.Goals as goal

@@ -1,6 +1,5 @@
 -- `layout::item_write_cost` meets its contract: one number of a run is the number at its place. Assumes nothing.
 use native.Mathlib.Omega.{arith}
-use borrow.Author.Rules.{rules}
 use Rattle.layout.specs.InnerRows.{at_item_write_costs}
 use Rattle.layout.proofs.Places.{number_at_lem}
 use Rattle.layout.proofs.item_write_cost.Goals as goal

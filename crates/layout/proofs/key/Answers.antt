@@ -1,6 +1,5 @@
 -- `layout::key` meets its contract: one number of a run is the number at its place. Assumes nothing.
 use native.Mathlib.Omega.{arith}
-use borrow.Author.Rules.{rules}
 use Rattle.layout.specs.InnerRows.{at_keys}
 use Rattle.layout.specs.Layout.{numbers_at}
 use Rattle.layout.proofs.Places.{number_at_lem}

@@ -2,7 +2,6 @@
 use mathlib.Core.Path.{◌≡◌, ap, ◌∙◌}
 use Prim.Native.Nat.{ℕ, ◌+◌, ◌*◌}
 use native.Mathlib.Omega.{arith}
-use borrow.Author.Rules.{rules}
 use Rattle.fields.specs.LittleEndian.{number_at}
 use Rattle.layout.specs.InnerRows.{at_places}
 use Rattle.layout.proofs.Places.{number_at_lem}

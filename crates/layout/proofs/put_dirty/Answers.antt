@@ -1,6 +1,5 @@
 -- `layout::put_dirty` meets its contract: the words are the field's row. Assumes nothing.
 use Prim.Native.Nat.{◌^◌}
-use native.Mathlib.Omega.{arith}
 use mir.Syntax.{w64}
 use mir.Val.{Fits}
 use lib.ListN.{get_or}

@@ -1,5 +1,4 @@
 -- `layout::put_held` meets its contract: one store inside the field's row. Assumes nothing.
-use native.Mathlib.Omega.{arith}
 use borrow.Author.Rules.{rules}
 use Rattle.layout.proofs.Stores.{coded, held_stored}
 use Rattle.fields.proofs.Laws.{byte_fits}

@@ -1,6 +1,5 @@
 -- `layout::rule` meets its contract: it is the rule of the number at its place. Assumes nothing.
 use mathlib.Core.Path.{ap, ◌∙◌}
-use borrow.Author.Rules.{rules}
 use Rattle.types.specs.Types.{deduction_of}
 use Rattle.layout.proofs.rule.Goals as goal
 

@@ -1,6 +1,5 @@
 -- `layout::write_credit` meets its contract: one number of a run is the number at its place. Assumes nothing.
 use native.Mathlib.Omega.{arith}
-use borrow.Author.Rules.{rules}
 use Rattle.layout.specs.InnerRows.{at_write_credits}
 use Rattle.layout.proofs.Places.{number_at_lem}
 use Rattle.layout.proofs.write_credit.Goals as goal

@@ -2,7 +2,6 @@
 -- Assumes nothing.
 use mathlib.Core.Path.{sym, ◌∙◌}
 use native.Mathlib.Omega.{arith}
-use borrow.Author.Rules.{rules}
 use Rattle.decimal.proofs.Laws.{read_value}
 use Rattle.line_fields.specs.Inner.{beyond}
 use Rattle.line_fields.proofs.Laws.{field_number, field_beyond, field_mark, field_empty, field_word}

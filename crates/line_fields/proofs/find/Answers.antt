@@ -1,11 +1,6 @@
 -- `line_fields::find` meets its contract. The loop's invariant: the bytes passed and those before the first b of the rest are
 -- those before the first b of all. Assumes nothing.
-use Prim.Native.Nat.{◌+◌, ◌-◌, ◌≤◌}
-use mathlib.Core.Path.{◌≡◌}
 use native.Mathlib.Omega.{arith}
-use borrow.Author.Rules.{rules}
-use lib.ListN.{length, drop}
-use Rattle.line_fields.specs.Inner.{before}
 use Rattle.line_fields.proofs.Laws.{before_end, before_hit, before_miss}
 use Rattle.line_fields.proofs.find.Goals as goal
 

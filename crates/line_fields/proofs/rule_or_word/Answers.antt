@@ -1,6 +1,5 @@
 -- `line_fields::rule_or_word` meets its contract: each test compares with the word of a rule. Assumes nothing.
 use mathlib.Core.Path.{sym, ◌∙◌}
-use borrow.Author.Rules.{rules}
 use Rattle.line_fields.proofs.Laws.{word_write, word_load, word_other}
 use Rattle.line_fields.proofs.rule_or_word.Goals as goal
 

@@ -7,8 +7,6 @@ use mir.Syntax.{w64}
 use lib.Count.{ones, ones-le}
 use lib.ListN.{get_or}
 use Rattle.marks.proofs.Laws.{count_marks}
-use Rattle.marks.proofs.count.Reads as reads
-use Rattle.marks.proofs.count.Lts as lts
 use Rattle.marks.proofs.count.Goals as goal
 
 pub overflow_add-result : goal.overflow_add-result

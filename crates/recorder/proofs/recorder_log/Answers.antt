@@ -1,5 +1,4 @@
 -- `recorder::recorder_log` meets its contract: each arm is a law of proofs/Logged.antt. Assumes nothing.
-use borrow.Author.Rules.{rules}
 use Rattle.season_log.proofs.Answers.{log_one}
 use Rattle.recorder.proofs.Logged.{lent_text, lent_refusal}
 use Rattle.recorder.proofs.recorder_log.Goals as goal

@@ -1,5 +1,4 @@
 -- `recorder::recorder_report` meets its contract: each arm is the law of proofs/Reported.antt. Assumes nothing.
-use borrow.Author.Rules.{rules}
 use Rattle.report.specs.declared.Written.TheVariants.{Text, Refused}
 use Rattle.recorder.proofs.Reported.{lent_report}
 use Rattle.recorder.proofs.recorder_report.Goals as goal

@@ -1,8 +1,6 @@
 -- `recorder::recorder_sentence` meets its contract: each way out is a law of proofs/Said.antt. Assumes nothing.
 use mathlib.Core.Path.{◌≡◌, sym, ◌∙◌}
 use mathlib.Core.Bool.{true}
-use borrow.Author.Rules.{rules}
-use borrow.Author.Tests.{not-true, not-false}
 use Rattle.sentence.specs.Sentences.{in_table}
 use Rattle.recorder.proofs.Said.{said_none, said_short, said_whole}
 use Rattle.recorder.proofs.recorder_sentence.Goals as goal

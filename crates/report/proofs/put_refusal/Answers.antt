@@ -3,7 +3,6 @@ use mathlib.Core.Path.{refl, sym, ◌∙◌}
 use mathlib.Core.List.{[], ◌∷◌, ◌++◌, append-nil}
 use Prim.Native.Nat.{◌+◌}
 use native.Mathlib.Omega.{arith}
-use borrow.Author.Rules.{rules}
 use Rattle.decimal.proofs.Laws.{page_all}
 use Rattle.decimal.proofs.Pages.{TextGoing, go_first, go_as, go_room, go_next, go_end}
 use Rattle.sentence.specs.Sentences.{sentence_of}

@@ -1,6 +1,5 @@
 -- `report::refusal_length` meets its contract. Assumes nothing.
 use native.Mathlib.Omega.{arith}
-use borrow.Author.Rules.{rules}
 use Rattle.sentence.proofs.Sentences.{sentence_fits}
 use Rattle.report.proofs.Laws.{refused_count}
 use Rattle.report.proofs.refusal_length.Goals as goal

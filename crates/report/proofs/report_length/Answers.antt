@@ -1,6 +1,5 @@
 -- `report::report_length` meets its contract. Assumes nothing.
 use native.Mathlib.Omega.{arith}
-use borrow.Author.Rules.{rules}
 use Rattle.cache_state.specs.Cache.{view}
 use Rattle.layout.specs.Layout.{cache_of}
 use Rattle.report.proofs.Laws.{report_count}

@@ -1,5 +1,4 @@
 -- `report_lines::item_numbers` meets its contract. Assumes nothing.
-use borrow.Author.Rules.{rules}
 use Rattle.report_lines.proofs.item_numbers.Goals as goal
 
 pub returns : goal.returns

@@ -1,13 +1,9 @@
 -- `report_lines::items_length` meets its contract. The loop's invariant: what is counted and the lines that are left are all lines.
 -- Assumes nothing.
-use mathlib.Core.Path.{◌≡◌, ap}
-use Prim.Native.Nat.{◌+◌, ◌*◌, ◌-◌, ◌≤◌}
+use mathlib.Core.Path.{ap}
 use native.Mathlib.Omega.{arith}
-use borrow.Author.Rules.{rules}
-use lib.ListN.{length, drop}
-use Rattle.cache_state.specs.Cache.{uses_of}
+use lib.ListN.{length}
 use Rattle.layout.specs.Layout.{cache_of}
-use Rattle.report_lines.specs.Lines.{item_lines}
 use Rattle.report_lines.proofs.Laws.{items_count, items_end}
 use Rattle.report_lines.proofs.items_length.Goals as goal
 

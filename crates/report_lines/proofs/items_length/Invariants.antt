@@ -1,14 +1,11 @@
 -- `report_lines::items_length` meets its contract. The loop's invariant: what is counted and the lines that are left are all lines.
 -- Assumes nothing.
-use mathlib.Core.Path.{◌≡◌, ap}
+use mathlib.Core.Path.{◌≡◌}
 use Prim.Native.Nat.{◌+◌, ◌*◌, ◌-◌, ◌≤◌}
-use native.Mathlib.Omega.{arith}
-use borrow.Author.Rules.{rules}
 use lib.ListN.{length, drop}
 use Rattle.cache_state.specs.Cache.{uses_of}
 use Rattle.layout.specs.Layout.{cache_of}
 use Rattle.report_lines.specs.Lines.{item_lines}
-use Rattle.report_lines.proofs.Laws.{items_count, items_end}
 use Rattle.report_lines.proofs.items_length.Given as goal
 
 abbrev pub invariant-loop-i : goal.invariant-loop-i

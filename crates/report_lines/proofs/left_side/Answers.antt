@@ -1,7 +1,6 @@
 -- `report_lines::left_side` meets its contract. Assumes nothing.
 use Prim.Native.Nat.{◌+◌, ◌-◌, ◌≤◌}
 use native.Mathlib.Omega.{arith}
-use borrow.Author.Rules.{rules}
 use Rattle.layout.specs.Layout.{cache_of}
 use Rattle.report_lines.proofs.Sides.{few_blocks, left_fits}
 use Rattle.report_lines.proofs.left_side.Goals as goal

@@ -1,12 +1,11 @@
 -- `report_lines::line_length` meets its contract. The loop's invariant: what is counted and what is left of the line are the whole line.
 -- Assumes nothing.
-use mathlib.Core.Path.{◌≡◌, ap}
-use Prim.Native.Nat.{◌+◌, ◌*◌, ◌-◌, ◌≤◌}
+use mathlib.Core.Path.{ap}
+use Prim.Native.Nat.{◌≤◌}
 use native.Mathlib.Omega.{arith}
 use borrow.Author.Rules.{rules}
-use lib.ListN.{length, get_or, drop}
+use lib.ListN.{length, get_or}
 use Rattle.decimal.proofs.Laws.{digits_twenty}
-use Rattle.report_lines.specs.Lines.{line_of}
 use Rattle.report_lines.proofs.Laws.{line_count, line_end}
 use mir.Val.{Fits}
 use mir.Syntax.{w64}

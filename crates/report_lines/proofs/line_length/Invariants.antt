@@ -1,13 +1,9 @@
 -- `report_lines::line_length` meets its contract. The loop's invariant: what is counted and what is left of the line are the whole line.
 -- Assumes nothing.
-use mathlib.Core.Path.{◌≡◌, ap}
+use mathlib.Core.Path.{◌≡◌}
 use Prim.Native.Nat.{◌+◌, ◌*◌, ◌-◌, ◌≤◌}
-use native.Mathlib.Omega.{arith}
-use borrow.Author.Rules.{rules}
-use lib.ListN.{length, get_or, drop}
-use Rattle.decimal.proofs.Laws.{digits_twenty}
+use lib.ListN.{length, drop}
 use Rattle.report_lines.specs.Lines.{line_of}
-use Rattle.report_lines.proofs.Laws.{line_count, line_end}
 use Rattle.report_lines.proofs.line_length.Given as goal
 
 abbrev pub invariant-loop-i : goal.invariant-loop-i

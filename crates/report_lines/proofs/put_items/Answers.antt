@@ -1,8 +1,7 @@
 -- `report_lines::put_items` meets its contract. The loop's invariant: the lines from the next item on are left to write. Assumes nothing.
 use mathlib.Core.List.{◌++◌}
-use Prim.Native.Nat.{◌+◌, ◌-◌, ◌≤◌}
+use Prim.Native.Nat.{◌+◌, ◌-◌}
 use native.Mathlib.Omega.{arith}
-use borrow.Author.Rules.{rules}
 use borrow.Rule.Slice.PartMut.{put_mid}
 use lib.ListN.{length, drop}
 use Rattle.decimal.proofs.Pages.{TextGoing, go_start, go_as, go_room, go_next, go_end}

@@ -1,10 +1,8 @@
 -- `report_lines::put_line` meets its contract. The loop's invariant: the line from the next number on is left to write. Assumes nothing.
 use mathlib.Core.Path.{◌≡◌}
-use mathlib.Core.Logic.{⊎_elim}
 use mathlib.Core.List.{◌∷◌}
-use Prim.Native.Nat.{◌+◌, ◌-◌, ◌≤◌}
+use Prim.Native.Nat.{◌+◌, ◌-◌}
 use native.Mathlib.Omega.{arith}
-use borrow.Author.Rules.{rules}
 use borrow.Rule.Slice.PartMut.{put_mid}
 use lib.ListN.{length, get_or, drop}
 use Rattle.decimal.proofs.Pages.{TextGoing, go_start, go_as, go_byte, go_number, go_end}

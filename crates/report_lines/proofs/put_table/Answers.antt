@@ -2,9 +2,8 @@
 use mathlib.Core.Path.{sym}
 use mathlib.Core.List.{[], ◌++◌, append-nil}
 use native.Mathlib.Omega.{arith}
-use borrow.Author.Rules.{rules}
 use lib.ListN.{length-append}
-use Rattle.decimal.proofs.Pages.{TextGoing, go_first, go_as, go_room, go_next, go_end}
+use Rattle.decimal.proofs.Pages.{TextGoing, go_first, go_as}
 use Rattle.report_lines.specs.Lines.{line_of}
 use Rattle.report_lines.proofs.put_table.Goals as goal
 

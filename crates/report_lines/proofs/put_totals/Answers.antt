@@ -2,10 +2,8 @@
 use mathlib.Core.Path.{◌≡◌, sym, ap, ◌∙◌}
 use mathlib.Core.List.{List, ◌++◌}
 use Prim.Native.Nat.{ℕ}
-use native.Mathlib.Omega.{arith}
 use borrow.Author.Rules.{rules}
 use lib.ListN.{length, take}
-use lib.Seq.{length-take-le}
 use Rattle.decimal.specs.InnerPages.{text_over}
 use Rattle.cache_state.specs.Cache.{view}
 use Rattle.layout.specs.Layout.{cache_of}

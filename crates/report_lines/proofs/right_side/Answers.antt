@@ -1,5 +1,4 @@
 -- `report_lines::right_side` meets its contract. Assumes nothing.
-use borrow.Author.Rules.{rules}
 use Rattle.layout.specs.Layout.{cache_of}
 use Rattle.report_lines.proofs.Sides.{right_fits}
 use Rattle.report_lines.proofs.right_side.Goals as goal

@@ -1,5 +1,4 @@
 -- `report_lines::rival_numbers` meets its contract. Assumes nothing.
-use borrow.Author.Rules.{rules}
 use Rattle.cache_state.specs.Cache.{view}
 use Rattle.layout.specs.Layout.{cache_of}
 use Rattle.report_lines.proofs.Laws.{priced_ok, rival_told}

@@ -1,12 +1,6 @@
 -- `season_items::item_refused` meets its contract: each return is a law of proofs/Items.antt. Assumes nothing.
-use borrow.Author.Rules.{rules}
 use native.Mathlib.Omega.{arith}
-use Prim.Native.Nat.{◌≤◌, ◌<◌}
 use Rattle.season_items.proofs.Items.{look_few, known_inside, item_unknown, item_large, item_fine}
-use Rattle.season_items.proofs.item_refused.Reads as reads
-use Rattle.season_items.proofs.item_refused.Lts as lts
-use Rattle.catalog_bytes.proofs.blocks.Reads as blocks-reads
-use Rattle.season_items.proofs.known.Reads as known-reads
 use Rattle.season_items.proofs.item_refused.Goals as goal
 
 pub known-number-requires : goal.known-number-requires

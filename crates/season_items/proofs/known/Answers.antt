@@ -1,6 +1,5 @@
 -- `season_items::known` meets its contract: each return is a law of proofs/Items.antt. Assumes nothing.
-use borrow.Author.Rules.{rules}
-use Rattle.season_items.proofs.Items.{known_none, known_left, known_there}
+use Rattle.season_items.proofs.Items.{known_left, known_there}
 use Rattle.season_items.proofs.known.Goals as goal
 
 pub returns-then-p-i-eq1 : goal.returns-then-p-i-eq1

@@ -1,12 +1,7 @@
 -- `season_items::put_act` meets its contract: three stores are the three numbers put at the place. Assumes nothing.
-use borrow.Author.Rules.{rules}
 use native.Mathlib.Omega.{arith}
 use lib.ListN.{length-set}
 use Rattle.season_items.proofs.Notes.{put_three}
-use Rattle.season_items.proofs.put_act.Reads as reads
-use Rattle.season_items.proofs.put_act.Lts as lts
-use Rattle.types.proofs.Act.item.Reads as item-reads
-use Rattle.types.proofs.Act.kind.Reads as kind-reads
 use Rattle.season_items.proofs.put_act.Goals as goal
 
 pub bounds-acts-i-2 : goal.bounds-acts-i-2

@@ -1,10 +1,6 @@
 -- `season_items::put_arrival` meets its contract: an arrival's values fit their bytes, being in range. Assumes nothing.
-use borrow.Author.Rules.{rules}
 use native.Mathlib.Omega.{arith}
 use Rattle.season_items.proofs.Presence.{arrival_facts, stores_arrival, stores_nothing}
-use Rattle.season_items.proofs.put_arrival.Reads as reads
-use Rattle.season_items.proofs.put_arrival.Lts as lts
-use Rattle.catalog_bytes.proofs.put.Reads as put_reads
 use Rattle.season_items.proofs.put_arrival.Goals as goal
 
 pub overflow_cast-step-then-step-eq-ARRIVE : goal.overflow_cast-step-then-step-eq-ARRIVE

@@ -1,12 +1,8 @@
 -- `season_items::put_step` meets its contract: seven stores are the seven numbers put at the place. Assumes nothing.
-use borrow.Author.Rules.{rules}
 use native.Mathlib.Omega.{arith}
 use lib.ListN.{length-set}
 use Rattle.landlord.specs.CallNumbers.{call_numbers}
 use Rattle.season_items.proofs.Notes.{put_seven}
-use Rattle.season_items.proofs.put_step.Reads as reads
-use Rattle.season_items.proofs.put_step.Lts as lts
-use Rattle.types.proofs.Step.numbers.Reads as numbers-reads
 use Rattle.season_items.proofs.put_step.Goals as goal
 
 pub bounds-calls-i-2 : goal.bounds-calls-i-2

@@ -1,11 +1,6 @@
 -- `season_items::step_refused` meets its contract: each return is a law of proofs/Items.antt, or what the item's look-up told. Assumes nothing.
-use borrow.Author.Rules.{rules}
 use mathlib.Core.Path.{refl}
 use Rattle.season_items.proofs.Items.{look_few, arrival_next, arrival_other, retire_known}
-use Rattle.season_items.proofs.step_refused.Reads as reads
-use Rattle.season_items.proofs.step_refused.Lts as lts
-use Rattle.season_items.proofs.item_refused.Reads as item-refused-reads
-use Rattle.season_items.proofs.known.Reads as known-reads
 use Rattle.season_items.proofs.step_refused.Goals as goal
 
 pub known-requires : goal.known-requires

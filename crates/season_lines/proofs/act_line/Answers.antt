@@ -1,10 +1,9 @@
 -- `season_lines::act_line` meets its contract: its tests are the line's shape, and then its ranges. Assumes nothing.
 use mathlib.Core.Path.{◌≡◌, ap, ◌∙◌}
 use mathlib.Core.Bool.{true}
-use mathlib.Core.Logic.{inl, inr, ⊎_elim}
+use mathlib.Core.Logic.{inl, inr}
 use native.Mathlib.Omega.{arith}
-use borrow.Author.Rules.{rules}
-use borrow.Author.Tests.{le-leb, lt-leb, ltb-true, ltb-false}
+use borrow.Author.Tests.{le-leb, lt-leb}
 use mathlib.Core.Bool.{not}
 use Rattle.season_lines.specs.declared.Line.TheVariants.{Act as ActLine}
 use Rattle.season_lines.proofs.Laws.{both_yes, told_no, told_yes, acts_shape, act_malformed, act_far, act_good}

@@ -1,6 +1,5 @@
 -- `season_lines::act_shaped` meets its contract. Assumes nothing.
 use mathlib.Core.Path.{sym, ◌∙◌}
-use borrow.Author.Rules.{rules}
 use Rattle.season_lines.proofs.Laws.{cond_yes, cond_no}
 use Rattle.season_lines.proofs.act_shaped.Goals as goal
 

@@ -1,6 +1,5 @@
 -- `season_lines::are_sizes` meets its contract: the second size is looked at where the first is in range. Assumes nothing.
 use mathlib.Core.Path.{sym, ◌∙◌}
-use borrow.Author.Rules.{rules}
 use Rattle.landlord.specs.Catalog.{capacity_in_range}
 use Rattle.season_lines.proofs.Laws.{and_yes, and_no}
 use Rattle.season_lines.proofs.are_sizes.Goals as goal

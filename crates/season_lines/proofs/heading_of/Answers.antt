@@ -1,6 +1,5 @@
 -- `season_lines::heading_of` meets its contract: each return compares with the headings of its table. Assumes nothing.
 use mathlib.Core.Path.{◌∙◌}
-use borrow.Author.Rules.{rules}
 use Rattle.season_lines.proofs.Laws.{heading_0, heading_1, heading_2, heading_3}
 use Rattle.season_lines.proofs.heading_of.Goals as goal
 

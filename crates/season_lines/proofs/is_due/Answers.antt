@@ -1,7 +1,5 @@
 -- `season_lines::is_due` meets its contract: one test behind each kind. Assumes nothing.
 use mathlib.Core.Path.{◌∙◌}
-use borrow.Author.Rules.{rules}
-use borrow.Author.Tests.{not-true, not-false}
 use Rattle.season_lines.proofs.is_due.Goals as goal
 
 pub returns-then-not-known : goal.returns-then-not-known

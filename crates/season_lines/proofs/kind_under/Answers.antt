@@ -1,6 +1,5 @@
 -- `season_lines::kind_under` meets its contract. Assumes nothing.
-use mathlib.Core.Logic.{inl, inr, ⊎_elim}
-use Rattle.season_lines.proofs.Laws.{kind_gone, kind_old, kind_new}
+use Rattle.season_lines.proofs.Laws.{kind_new}
 use Rattle.season_lines.proofs.kind_under.Goals as goal
 
 pub returns-else-heading-ne1 : goal.returns-else-heading-ne1

@@ -1,7 +1,6 @@
 -- `season_lines::line_in` meets its contract: as many fields as names, and then each table's own line. Assumes nothing.
 use mathlib.Core.Path.{◌≡◌, sym, ◌∙◌}
 use native.Mathlib.Omega.{arith}
-use borrow.Author.Rules.{rules}
 use Rattle.season_lines.specs.Lines.{names_in}
 use Rattle.season_lines.proofs.Laws.{line_count, line_0, line_1, line_2, line_3}
 use Rattle.season_lines.proofs.line_in.Goals as goal

@@ -1,5 +1,4 @@
 -- `season_lines::numbers_under` meets its contract. Assumes nothing.
-use borrow.Author.Rules.{rules}
 use Rattle.types.specs.Types.{numbers_from}
 use Rattle.season_lines.proofs.numbers_under.Goals as goal
 

@@ -1,8 +1,7 @@
 -- `season_lines::sizes_line` meets its contract: its tests are the line's shape, then its ranges, then the rule's word. Assumes nothing.
 use mathlib.Core.Path.{◌≡◌}
 use mathlib.Core.Bool.{true}
-use mathlib.Core.Logic.{inl, inr, ⊎_elim}
-use borrow.Author.Rules.{rules}
+use mathlib.Core.Logic.{inl, inr}
 use mathlib.Core.Path.{ap}
 use mathlib.Core.Bool.{not}
 use Rattle.season_lines.proofs.Laws.{both_yes, told_no, told_yes, sizes_shape, sizes_malformed, sizes_far, sizes_odd, sizes_good}

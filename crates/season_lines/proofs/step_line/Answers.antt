@@ -1,9 +1,8 @@
 -- `season_lines::step_line` meets its contract: its tests are the line's shape, and then the ranges of a call. Assumes nothing.
 use mathlib.Core.Path.{◌≡◌, ap, ◌∙◌}
 use mathlib.Core.Bool.{true}
-use mathlib.Core.Logic.{inl, inr, ⊎_elim}
+use mathlib.Core.Logic.{inl, inr}
 use native.Mathlib.Omega.{arith}
-use borrow.Author.Rules.{rules}
 use mathlib.Core.Bool.{not}
 use Rattle.types.specs.Types.{numbers_from}
 use Rattle.landlord.proofs.Steps.{range_few}

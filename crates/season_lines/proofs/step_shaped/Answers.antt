@@ -1,6 +1,5 @@
 -- `season_lines::step_shaped` meets its contract: its tests are those of the shape. Assumes nothing.
 use mathlib.Core.Path.{refl}
-use borrow.Author.Rules.{rules}
 use Rattle.season_lines.specs.Lines.{step_shape}
 use Rattle.season_lines.proofs.step_shaped.Goals as goal
 

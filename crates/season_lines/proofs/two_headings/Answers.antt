@@ -1,6 +1,5 @@
 -- `season_lines::two_forms` meets its contract: each test compares with a heading. Assumes nothing.
 use mathlib.Core.Path.{sym, ◌∙◌}
-use borrow.Author.Rules.{rules}
 use Rattle.season_lines.proofs.Laws.{heading_first, heading_second, heading_none}
 use Rattle.season_lines.proofs.two_headings.Goals as goal
 

@@ -54,10 +54,6 @@ pub bounds-acts-a-in-loop-a-2 : goal.bounds-acts-a-in-loop-a-2
 bounds-acts-a-in-loop-a-2 c =
     omega (arith, c.requires.priceable.few.acts, c.requires.priceable.roomy.for_acts)
 
-pub overflow_cast-acts : goal.overflow_cast-acts
-overflow_cast-acts c =
-    omega (arith, c.shared_slice_known-in-loop-a-3-1.given (3 * c.loop-a.a + 2))
-
 pub act-r-requires : goal.act-r-requires
 act-r-requires c =
     let l = c.loop-a in

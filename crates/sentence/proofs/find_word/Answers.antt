@@ -1,12 +1,7 @@
 -- `sentence::find_word` meets its contract. The loop's invariant: the word's place in the rest of the table leads to its place in the table.
 -- Assumes nothing.
-use mathlib.Core.Path.{◌≡◌, sym, ◌∙◌}
-use Prim.Native.Nat.{◌+◌, ◌-◌, ◌≤◌}
+use mathlib.Core.Path.{sym, ◌∙◌}
 use native.Mathlib.Omega.{arith}
-use borrow.Author.Rules.{rules}
-use lib.ListN.{drop}
-use Rattle.sentence.specs.Sentences.{words}
-use Rattle.sentence.specs.InnerSentences.{place_of}
 use Rattle.sentence.proofs.Laws.{place_here, place_next, place_end}
 use Rattle.sentence.proofs.find_word.Goals as goal
 

@@ -2,7 +2,6 @@
 use mathlib.Core.Path.{ap, ◌∙◌}
 use mathlib.Core.List.{List}
 use Prim.Native.Nat.{ℕ}
-use borrow.Author.Rules.{rules}
 use Rattle.decimal.specs.Decimal.{same_text}
 use Rattle.sentence.specs.InnerSentences.{in_one_text}
 use Rattle.sentence.proofs.is_word.Goals as goal

@@ -2,7 +2,6 @@
 use mathlib.Core.Path.{sym, ap, ◌∙◌}
 use Prim.Native.Nat.{ℕ, ◌+◌}
 use native.Mathlib.Omega.{arith}
-use borrow.Author.Rules.{rules}
 use lib.ListN.{length}
 use Rattle.sentence.proofs.Laws.{item_none, item_count_lem, digits_ten}
 use Rattle.sentence.proofs.item_bytes.Goals as goal

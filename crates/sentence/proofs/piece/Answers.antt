@@ -1,10 +1,7 @@
 -- `sentence::piece` meets its contract. The loop's invariant: the bytes passed and the piece that is left make the whole piece. Assumes nothing.
-use mathlib.Core.Path.{◌≡◌, ap}
-use Prim.Native.Nat.{◌+◌, ◌-◌, ◌≤◌}
+use mathlib.Core.Path.{ap}
 use native.Mathlib.Omega.{arith}
-use borrow.Author.Rules.{rules}
-use lib.ListN.{length, drop}
-use Rattle.sentence.specs.InnerSentences.{piece_of}
+use lib.ListN.{length}
 use Rattle.sentence.proofs.Laws.{piece_here, piece_next, piece_end}
 use Rattle.sentence.proofs.piece.Goals as goal
 

@@ -1,6 +1,5 @@
 -- `sentence::put_back` meets its contract: the sail, and behind it the end. Assumes nothing.
 use native.Mathlib.Omega.{arith}
-use borrow.Author.Rules.{rules}
 use Rattle.decimal.specs.Decimal.{text_of}
 use Rattle.sentence.specs.Sentences.{item_part}
 use Rattle.sentence.proofs.Laws.{first_fits, next_starts, next_fits, put_is, put_next}

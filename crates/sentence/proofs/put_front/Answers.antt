@@ -1,6 +1,5 @@
 -- `sentence::put_front` meets its contract: the word, and behind it the line. Assumes nothing.
 use native.Mathlib.Omega.{arith}
-use borrow.Author.Rules.{rules}
 use Rattle.sentence.specs.Sentences.{word_of, line_part}
 use Rattle.sentence.proofs.Laws.{first_fits, next_starts, next_fits, put_next}
 use Rattle.sentence.proofs.put_front.Goals as goal

@@ -1,7 +1,6 @@
 -- `sentence::put_line` meets its contract. Assumes nothing.
 use mathlib.Core.Path.{ap}
 use native.Mathlib.Omega.{arith}
-use borrow.Author.Rules.{rules}
 use lib.ListN.{length}
 use Rattle.sentence.proofs.Laws.{line_none, line_told, put_none, put_is, put_as}
 use Rattle.sentence.proofs.put_line.Goals as goal

@@ -1,6 +1,5 @@
 -- `sentence::put_word` meets its contract. Assumes nothing.
 use mathlib.Core.Path.{sym}
-use borrow.Author.Rules.{rules}
 use Rattle.sentence.specs.InnerSentences.{in_one_text}
 use Rattle.sentence.proofs.Laws.{put_is, put_as}
 use Rattle.sentence.proofs.put_word.Goals as goal

@@ -1,7 +1,5 @@
 -- `sentence::read_behind` meets its contract. Assumes nothing.
 use mathlib.Core.Path.{◌≡◌, sym, ap, ◌∙◌}
-use borrow.Author.Rules.{rules}
-use borrow.Author.Tests.{not-true, not-false}
 use Rattle.decimal.specs.Decimal.{text_of}
 use Rattle.sentence.specs.InnerSentences.{rest_of, line_behind, behind_word}
 use Rattle.sentence.proofs.Readings.{part_is, lent_rest, behind_none, behind_row, line_zero, line_other}

@@ -1,6 +1,5 @@
 -- `sentence::read_end` meets its contract. Assumes nothing.
 use mathlib.Core.Path.{sym, ◌∙◌}
-use borrow.Author.Rules.{rules}
 use Rattle.sentence.proofs.Readings.{end_found, end_other}
 use Rattle.sentence.proofs.read_end.Goals as goal
 

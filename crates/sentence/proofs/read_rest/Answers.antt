@@ -1,8 +1,6 @@
 -- `sentence::read_rest` meets its contract. Assumes nothing.
 use mathlib.Core.Path.{◌≡◌, sym, ap, ◌∙◌}
 use mathlib.Core.Bool.{true}
-use borrow.Author.Rules.{rules}
-use borrow.Author.Tests.{not-true, not-false}
 use Rattle.decimal.specs.Decimal.{text_of}
 use Rattle.types.specs.Types.{names_item}
 use Rattle.sentence.specs.InnerSentences.{end_of, item_behind}

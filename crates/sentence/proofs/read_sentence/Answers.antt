@@ -1,7 +1,6 @@
 -- `sentence::read_sentence` meets its contract. Assumes nothing.
 use mathlib.Core.Path.{sym}
 use native.Mathlib.Omega.{arith}
-use borrow.Author.Rules.{rules}
 use lib.Seq.{length-take-le}
 use Rattle.sentence.proofs.Laws.{piece_fits}
 use Rattle.sentence.proofs.Readings.{reading_done}

@@ -1,6 +1,5 @@
 -- `sentence::sentence_bytes` meets its contract. Assumes nothing.
 use native.Mathlib.Omega.{arith}
-use borrow.Author.Rules.{rules}
 use Rattle.sentence.proofs.Laws.{sentence_count, parts_size}
 use Rattle.sentence.proofs.sentence_bytes.Goals as goal
 

@@ -1,5 +1,4 @@
 -- `sentence::word_at` meets its contract. Assumes nothing.
-use borrow.Author.Rules.{rules}
 use Rattle.sentence.proofs.Laws.{word_at}
 use Rattle.sentence.proofs.word_at.Goals as goal
 

@@ -2,7 +2,6 @@
 use mathlib.Core.List.{◌++◌}
 use Prim.Native.Nat.{◌≤◌}
 use native.Mathlib.Omega.{arith}
-use borrow.Author.Rules.{rules}
 use lib.ListN.{length}
 use Rattle.decimal.specs.Decimal.{text_of}
 use Rattle.decimal.proofs.Laws.{wrote_fits}

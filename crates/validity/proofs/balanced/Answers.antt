@@ -1,6 +1,5 @@
 -- `validity::balanced` meets its contract: each test is one field of `SumsOk`. Assumes nothing.
 use native.Mathlib.Omega.{arith}
-use borrow.Author.Rules.{rules}
 use borrow.Author.Tests.{eqb-true, eqb-false}
 use Rattle.basis.proofs.Decides.{forced, no}
 use Rattle.validity.proofs.balanced.Goals as goal

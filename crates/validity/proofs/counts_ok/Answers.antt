@@ -1,6 +1,5 @@
 -- `validity::counts_ok` meets its contract: each test is one field of `CountsOk`. Assumes nothing.
 use native.Mathlib.Omega.{arith}
-use borrow.Author.Rules.{rules}
 use borrow.Author.Tests.{leb-true, leb-false}
 use Rattle.basis.proofs.Decides.{forced, no}
 use Rattle.validity.proofs.counts_ok.Goals as goal

@@ -1,8 +1,6 @@
 -- `validity::entry_ok` meets its contract: each test is one field of `EntryOk`. Assumes nothing.
 use native.Mathlib.Omega.{arith}
-use borrow.Author.Rules.{rules}
-use borrow.Author.Tests.{leb-true, leb-false}
-use Rattle.basis.proofs.Decides.{forced, no, denied, granted}
+use Rattle.basis.proofs.Decides.{no}
 use Rattle.validity.proofs.entry_ok.Goals as goal
 
 pub returns-then-blocks-lt1 : goal.returns-then-blocks-lt1

@@ -2,7 +2,7 @@
 use Prim.Native.Nat.{◌*◌, ◌-◌, ◌/◌, ◌≤◌}
 use native.Mathlib.Nat.{le-div_iff_mul-le, div-le_self, mul-le-mul}
 use native.Mathlib.Omega.{arith}
-use borrow.Author.Tests.{not-true, not-false, eqb-true, eqb-false, leb-true, le-leb}
+use borrow.Author.Tests.{eqb-true, eqb-false, leb-true, le-leb}
 use Rattle.basis.proofs.Decides.{clash, forced, no}
 use Rattle.validity.proofs.key_ok.Goals as goal
 

@@ -1,6 +1,5 @@
 -- `validity::level_ok` meets its contract: the product of so few evictions is one of 64 bits. Assumes nothing.
 use native.Mathlib.Omega.{arith}
-use borrow.Author.Rules.{rules}
 use borrow.Author.Tests.{leb-true, leb-false}
 use Rattle.basis.proofs.Decides.{forced}
 use Rattle.validity.proofs.level_ok.Goals as goal

@@ -2,7 +2,7 @@
 -- where it is not held no load credit. Assumes nothing.
 use native.Mathlib.Omega.{arith}
 use borrow.Author.Rules.{rules}
-use borrow.Author.Tests.{not-true, not-false, eqb-true, eqb-false}
+use borrow.Author.Tests.{eqb-true, eqb-false}
 use Rattle.basis.proofs.Decides.{clash, forced, no, sure}
 use Rattle.validity.proofs.marks_ok.Goals as goal
 

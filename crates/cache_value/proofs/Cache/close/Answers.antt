@@ -1,5 +1,4 @@
 -- `cache_value::Cache::close` meets its contract: the closing, its number as an answer. Assumes nothing.
-use borrow.Author.Rules.{rules}
 use Rattle.landlord.specs.Calls.{close}
 use Rattle.cache_value.proofs.Answers.{answered, call_number}
 use Rattle.cache_value.proofs.Cache.close.Goals as goal

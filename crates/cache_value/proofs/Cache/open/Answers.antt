@@ -1,5 +1,4 @@
 -- `cache_value::Cache::open` meets its contract: the opening, its number as an answer. Assumes nothing.
-use borrow.Author.Rules.{rules}
 use Rattle.cache_value.proofs.Answers.{opening_number_lem, opened_as}
 use Rattle.cache_value.proofs.Cache.open.Goals as goal
 

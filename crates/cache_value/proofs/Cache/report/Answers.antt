@@ -1,6 +1,5 @@
 -- `cache_value::Cache::report` meets its contract: the report of the struct's bytes, as that of the struct. Assumes nothing.
 use native.Mathlib.Omega.{arith}
-use borrow.Author.Rules.{rules}
 use Rattle.cache_value.proofs.Calls.{many_reported, reported_by}
 use Rattle.cache_value.proofs.Cache.report.Goals as goal
 

@@ -1,6 +1,5 @@
 -- `cache_value::Cache::step` meets its contract: a step by its numbers, the reply's number as an answer. Assumes nothing.
 use mathlib.Core.Path.{ap, ◌∙◌}
-use borrow.Author.Rules.{rules}
 use Rattle.types.specs.declared.Numbers.{Numbers}
 use Rattle.types.specs.Types.{telling}
 use Rattle.landlord.specs.Calls.{call_of}

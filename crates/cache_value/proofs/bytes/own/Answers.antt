@@ -1,5 +1,4 @@
 -- `cache_value::bytes::own` meets its contract: each field is what its getter found. Assumes nothing.
-use borrow.Author.Rules.{rules}
 use Rattle.cache_state.specs.InnerWith.{with_capacity, with_count, with_closed, with_steps, with_hits, with_loads, with_evictions, with_dirty_evictions, with_writebacks, with_flushes, with_load_cost, with_write_cost, with_dirty, with_rule, with_left, with_arrivals, with_retirements, with_used, with_level}
 use Rattle.layout.specs.Inner.{cleared}
 use Rattle.cache_value.specs.Inner.{first_of}

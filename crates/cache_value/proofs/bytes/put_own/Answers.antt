@@ -1,6 +1,5 @@
 -- `cache_value::bytes::put_own` meets its contract: one store after the other, over cleared bytes. Assumes nothing.
 use mathlib.Core.Path.{sym, ◌∙◌}
-use borrow.Author.Rules.{rules}
 use Rattle.cache_state.specs.InnerWith.{with_capacity, with_count, with_closed, with_steps, with_hits, with_loads, with_evictions, with_dirty_evictions, with_writebacks, with_flushes, with_load_cost, with_write_cost, with_dirty, with_rule, with_left, with_arrivals, with_retirements, with_used, with_level}
 use Rattle.layout.proofs.Places.{stands_on}
 use Rattle.cache_value.specs.Inner.{first_of}
