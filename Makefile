@@ -38,7 +38,7 @@ programs: $(SEASON) $(CHECK_LOG) ## proves and links the office's programs, and 
 # A program that nothing has changed is not linked again, and so keeps its time.
 $(SEASON) $(CHECK_LOG): $(wildcard crates/*/src/*.rt crates/*/specs/*.antt) crates.txt
 	@echo "$@ is not there, or older than its sources: it and the crates below it are proved first, each shown as it is done." >&2
-	@echo "From nothing this takes some ten minutes on four cores; what has not changed since it was proved is not proved again." >&2
+	@echo "From nothing this takes ten to fifteen minutes on four cores; what has not changed since it was proved is not proved again." >&2
 	@command -v rt >/dev/null || { echo "This needs the Rattle kit, and rt is not on the path. scripts/report runs a program that is there." >&2; exit 2; }
 	@cd $(@D:/out=) && rt run <stdin >/dev/null
 	@touch -c $@
