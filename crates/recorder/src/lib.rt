@@ -1,5 +1,5 @@
-// What the firmware calls, on lent bytes; `recorder_c` exports each to C under its name. Each answers 0 or the refusal's number, the log's with its line; refused,
-// every lent byte is as before. Nothing is asked of the caller: any bytes, any lengths and any numbers are answered.
+// What the firmware calls, on lent bytes; `recorder_c` exports each to C under its name. Each answers 0 or the refusal's number, the log's
+// with its line; refused, every lent byte is as before. Nothing is asked of the caller: any bytes, any lengths and any numbers are answered.
 #![tactic(auto)]
 
 ghost use Rattle.types.specs.Types.{numbers_from};
