@@ -1,7 +1,7 @@
 -- The papers' number, letter and values for each case of the shared types.
 -- Assumes nothing.
 use mathlib.Core.{Bool.{Bool, cond, ◌||◌}, List.{List, [], ◌∷◌}}
-use Rattle.std.specs.Prelude.{ℕ}
+use Rattle.std.specs.Prelude.{ℕ, Result, Ok, Err}
 use lib.{ListN.get_or, Dec.{leb, eqb}}
 use Rattle.types.specs.declared.{Step.{Step, TheVariants.{Read, Write, Flush, Arrive, Retire}}, Numbers.Numbers, Act.{Act, TheVariants.{Evict, Fetch}}, Deduction.{Deduction, TheVariants.{WriteFirst, LoadFirst}}, Refusal.{Refusal, TheVariants.{Malformed, Heading, OutOfRange, OutOfSequence, PlanTooLarge, UnknownItem, ItemTooLarge, LogFull, Closed, ActOutOfOrder, NotHeld, AlreadyHeld, OverCapacity, RequestNotHeld, ShortBuffer, InputTooLong, InvalidState, UnknownRule, NotNextNumber, RetiredItem}}}
 
@@ -126,6 +126,15 @@ told (InvalidState l) = telling 17 l 0
 told (UnknownRule l) = telling 18 l 0
 told (NotNextNumber l i) = telling 19 l i
 told (RetiredItem l i) = telling 20 l i
+
+-- What an answer tells: a refusal, or nothing, whatever it hands back.
+abbrev pub answer_told : {T : Type 0} → Result T Refusal → Told
+answer_told (Ok _) = nothing_told
+answer_told (Err r) = told r
+
+-- and its number: 0 where nothing is refused
+abbrev pub answer_number : {T : Type 0} → Result T Refusal → ℕ
+answer_number a = (answer_told a).number
 
 abbrev pub refusal_number : Refusal → ℕ
 refusal_number r = (told r).number
