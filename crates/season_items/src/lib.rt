@@ -2,9 +2,9 @@
 // steps and acts as numbers.
 #![tactic(auto)]
 
-ghost use Rattle.std.specs.Prelude.{◌≡◌, true, [], ◌∷◌, ◌+◌, ◌*◌, ◌≤◌, length};
+ghost use Rattle.std.specs.Prelude.{◌≡◌, true, [], ◌∷◌, ◌+◌, ◌*◌, ◌≤◌, length, get_or};
 ghost use Rattle.types.specs.declared.Step.TheVariants.{Read};
-ghost use Rattle.types.specs.Types.{numbers_of, answer_told};
+ghost use Rattle.types.specs.Types.{numbers_of, step_of, act_of, answer_told};
 ghost use Rattle.landlord.specs.Steps.{in_range};
 ghost use Rattle.landlord.specs.CallNumbers.{call_numbers, numbers_behind};
 ghost use Rattle.season_items.specs.Inner.{call_width, act_width, most_noted, item_room, Lookable, Walkable, act_noted, put_at, told_as, known_number, Advanced, CatchesUp, TellsRefusal, with_arrival};
@@ -94,23 +94,37 @@ impl Present {
         ensures { CatchesUp self.old calls.now from to self.new }
     {
         for s in from..to {
-            self.advance(types::step_of(numbers_behind(calls, CALL_NUMBERS * s)));
+            self.advance(noted_step(calls, s));
         }
     }
 }
 
-// The numbers of a step, noted as a call from place `i` on.
-fn numbers_behind(calls: &[u32], i: usize) -> Numbers
-    requires { (i + call_width ≤ length calls.now) × (i ≤ call_width * most_noted) }
-    ensures { result ≡ numbers_behind calls.now i }
+// Step `s` of those that are noted.
+pub fn noted_step(calls: &[u32], s: usize) -> Step
+    requires { (call_width * s + call_width ≤ length calls.now) × (s ≤ most_noted) }
+    ensures { result ≡ step_of (numbers_behind calls.now (call_width * s)) }
 {
-    Numbers {
+    let i = CALL_NUMBERS * s;
+    types::step_of(Numbers {
         kind: calls[i + 1],
         item: calls[i + 2],
         minutes: calls[i + 3],
         blocks: calls[i + 4],
         load: calls[i + 5],
         write: calls[i + 6],
+    })
+}
+
+// Act `a` of those that are noted.
+pub fn noted_act(acts: &[u32], a: usize) -> Act
+    requires { (act_width * a + act_width ≤ length acts.now) × (a ≤ most_noted) }
+    ensures { result ≡ act_of (get_or acts.now (act_width * a + 1) 0) (get_or acts.now (act_width * a + 2) 0) }
+{
+    let item = acts[ACT_NUMBERS * a + 2];
+    if acts[ACT_NUMBERS * a + 1] == types::EVICT {
+        Act::Evict { item }
+    } else {
+        Act::Fetch { item }
     }
 }
 

@@ -1,7 +1,5 @@
 -- `Present::catch_up` meets its contract: what is known has been carried over the steps before step s. Assumes nothing.
 use native.Mathlib.Omega.{arith}
-use mathlib.Core.Path.{ap}
-use Rattle.types.specs.Types.{step_of}
 use Rattle.season_items.proofs.Presence.{walk_few, walk_on}
 use Rattle.season_items.proofs.Present.catch_up.Goals as goal
 
@@ -11,4 +9,4 @@ advance-requires c =
 
 pub loop-s-preserved : goal.loop-s-preserved
 loop-s-preserved c =
-    walk_on _ c.loop-s.self c.advance.new.self c.args.calls.now c.args.from c.loop-s.s c.loop-s.invariant (rw (← (ap step_of c.numbers_behind.ensures), ← c.step_of.ensures) c.advance.ensures)
+    walk_on _ c.loop-s.self c.advance.new.self c.args.calls.now c.args.from c.loop-s.s c.loop-s.invariant (rw (← c.noted_step.ensures) c.advance.ensures)
