@@ -171,7 +171,7 @@ fn step_line(heading: u32, fields: StepFields, line: u32) -> Result<Line, Refusa
     if !fields.kind.is_letter() || !fields.are_shaped(n.kind) {
         return Err(Refusal::Malformed { line });
     }
-    if landlord::range_refusal(n) != 0 {
+    if !landlord::in_range(n) {
         return Err(Refusal::OutOfRange { line });
     }
     Ok(Line::Step(types::step_of(n)))
