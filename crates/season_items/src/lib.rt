@@ -9,6 +9,7 @@ ghost use Rattle.landlord.specs.Steps.{in_range};
 ghost use Rattle.landlord.specs.CallNumbers.{call_numbers, numbers_behind};
 ghost use Rattle.season_items.specs.Inner.{call_width, act_width, most_noted, item_room, Lookable, Walkable, act_noted, put_at, told_as, known_number, Advanced, CatchesUp, TellsRefusal, with_arrival};
 
+use catalog_bytes::Item;
 use types::{Act, Numbers, Refusal, Step};
 
 // The numbers of a step, noted as a call.
@@ -23,7 +24,7 @@ pub const CALL_ROOM: usize = CALL_NUMBERS * (MOST_NOTED + 1);
 pub const ACT_ROOM: usize = ACT_NUMBERS * (MOST_NOTED + 1);
 
 // What is known of the items after some steps: how many there are, and a mark for each that has left. By default there is none.
-#[derive(Clone, Copy, Default)]
+#[derive(Clone, Copy, Debug, Default, PartialEq, Eq)]
 pub struct Present {
     pub n: usize,
     pub left: [u64; 4],
@@ -52,7 +53,7 @@ impl Present {
         ensures { TellsRefusal k self.now catalog.now (Read item) line result }
     {
         self.known(item, line)?;
-        if k < u32::from(catalog_bytes::blocks(catalog, item as usize)) {
+        if k < u32::from(catalog_bytes::get(catalog, item as usize).blocks) {
             return Err(Refusal::ItemTooLarge { line, item });
         }
         Ok(())
@@ -140,13 +141,12 @@ pub fn put_arrival(catalog: &mut [u8], step: Step)
         write,
     } = step
     {
-        catalog_bytes::put(
-            catalog,
-            item as usize,
-            blocks as u8,
-            load as u16,
-            write as u16,
-        );
+        let listed = Item {
+            blocks: blocks as u8,
+            load: load as u16,
+            write: write as u16,
+        };
+        catalog_bytes::put(catalog, item as usize, listed);
     }
 }
 

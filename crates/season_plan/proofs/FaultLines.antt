@@ -13,7 +13,8 @@ use Rattle.types.specs.declared.Act.{Act}
 use Rattle.landlord.specs.Fold.{tab}
 use Rattle.landlord.specs.Catalog.{Catalog, catalog_next}
 use Rattle.landlord.specs.Plan.{Plan, Copy, no_copy, Fault, unknown_item, retired_item, not_held, already_held, request_not_held, over_capacity, Done, done, faulty, Priced, costs, fault, plan_acts, and_paid, and_then, all_acts, plan_serves, priced_with, price_then, price_from}
-use Rattle.season_tables.specs.Tables.{Placed, Tables, gives, reading_of}
+use Rattle.std.specs.Prelude.{Ok}
+use Rattle.season_tables.specs.Tables.{Placed, Tables, reading_of}
 use Rattle.season_tables.proofs.LineNumbers.{accepted_lines}
 use Rattle.season_plan.specs.Plans.{acts_at, acts_before, fault_line, price_of}
 use Rattle.season_plan.specs.Inner.{plan_of}
@@ -126,7 +127,7 @@ in_plan_line b v (request_not_held s i) l p = omega (arith, p)
 in_plan_line b v (over_capacity s) l p = omega (arith, p)
 
 -- a plan's fault is told on a line that is at most one more than the text's bytes
-pub fault_line_lem : (s : List ℕ) (v : Tables) (f : Fault) → reading_of s ≡ gives v → price_of v ≡ fault f → fault_line v f ≤ length s + 1
+pub fault_line_lem : (s : List ℕ) (v : Tables) (f : Fault) → reading_of s ≡ Ok v → price_of v ≡ fault f → fault_line v f ≤ length s + 1
 fault_line_lem s v f is faults =
     let all = length v.steps in
     let plan = plan_of v.acts in

@@ -38,9 +38,10 @@ impl Copies {
         if mark == Mark::Absent {
             return;
         }
-        self.used -= u32::from(catalog_bytes::blocks(catalog, item));
+        let listed = catalog_bytes::get(catalog, item);
+        self.used -= u32::from(listed.blocks);
         if mark == Mark::Dirty {
-            self.paid += u64::from(catalog_bytes::write_cost(catalog, item));
+            self.paid += u64::from(listed.write);
         }
     }
 
@@ -66,9 +67,10 @@ impl Copies {
         if self.marks[i] != Mark::Absent {
             return Err(Refusal::AlreadyHeld { line, item });
         }
+        let listed = catalog_bytes::get(catalog, i);
         self.marks[i] = Mark::Clean;
-        self.used += u32::from(catalog_bytes::blocks(catalog, i));
-        self.paid += u64::from(catalog_bytes::load_cost(catalog, i));
+        self.used += u32::from(listed.blocks);
+        self.paid += u64::from(listed.load);
         Ok(())
     }
 
@@ -115,7 +117,7 @@ impl Copies {
         let mut sum = 0;
         for i in 0..self.n {
             if self.marks[i] == Mark::Dirty {
-                sum += u64::from(catalog_bytes::write_cost(catalog, i));
+                sum += u64::from(catalog_bytes::get(catalog, i).write);
             }
         }
         sum

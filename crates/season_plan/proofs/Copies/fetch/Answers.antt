@@ -14,15 +14,12 @@ returns-then-ne c = fetch_fails c.requires (omega arith) _ _ (search rules)
 pub bounds-self-i-2 : goal.bounds-self-i-2
 bounds-self-i-2 c = (placed c.requires).place
 
-pub blocks-requires : goal.blocks-requires
-blocks-requires c = (placed c.requires).there
+pub get-listed-requires : goal.get-listed-requires
+get-listed-requires c = (placed c.requires).there
 
 pub overflow_add-self : goal.overflow_add-self
-overflow_add-self c = omega (arith, (placed c.requires).used, c.blocks-2.type_inv)
-
-pub load_cost-requires : goal.load_cost-requires
-load_cost-requires c = (placed c.requires).there
+overflow_add-self c = omega (arith, (placed c.requires).used, c.get-listed.type_inv)
 
 pub returns : goal.returns
 returns c =
-    fetch_does c.requires (omega arith) _ _ (search rules) refl refl (omega (arith, c.blocks-2.ensures)) (omega (arith, c.load_cost.ensures))
+    fetch_does c.requires (omega arith) _ _ (search rules) refl refl (omega (arith, c.get-listed.ensures.blocks)) (omega (arith, c.get-listed.ensures.load))

@@ -22,16 +22,16 @@ returns-then-eq c =
 pub overflow_sub-self : goal.overflow_sub-self
 overflow_sub-self c =
     let held : mark_at c.args.self.now.marks c.args.item ≢ Absent = search rules in
-    omega (arith, used_some c.requires (omega arith) held, c.blocks-2.ensures)
+    omega (arith, used_some c.requires (omega arith) held, c.get-listed.ensures.blocks)
 
 pub returns-then-eq-2 : goal.returns-then-eq-2
 returns-then-eq-2 c =
     let held : mark_at c.args.self.now.marks c.args.item ≢ Absent = search rules in
     let m : mark_at c.args.self.now.marks c.args.item ≡ Dirty = search rules in
-    lost c.requires (omega arith) _ Dirty m refl refl (omega (arith, used_some c.requires (omega arith) held, c.blocks-2.ensures)) (omega (arith, c.write_cost.ensures))
+    lost c.requires (omega arith) _ Dirty m refl refl (omega (arith, used_some c.requires (omega arith) held, c.get-listed.ensures.blocks)) (omega (arith, c.get-listed.ensures.write))
 
 pub returns-else-eq-2 : goal.returns-else-eq-2
 returns-else-eq-2 c =
     let held : mark_at c.args.self.now.marks c.args.item ≢ Absent = search rules in
     let m : mark_at c.args.self.now.marks c.args.item ≡ Clean = search rules in
-    lost c.requires (omega arith) _ Clean m refl refl (omega (arith, used_some c.requires (omega arith) held, c.blocks-2.ensures)) (omega arith)
+    lost c.requires (omega arith) _ Clean m refl refl (omega (arith, used_some c.requires (omega arith) held, c.get-listed.ensures.blocks)) (omega arith)

@@ -24,7 +24,7 @@ loop-i-preserved c =
     elim c.if-eq.branch [
       | then-eq w ↦
           let m : mark_at p.marks i ≡ Dirty = search rules in
-          rw w.sum-is (owed_dirty xs p i c.loop-i.sum w.from-sum.result c.loop-i.invariant m (search rules) (omega (arith, w.write_cost.type_inv)))
+          rw w.sum-is (owed_dirty xs p i c.loop-i.sum w.from-sum.result c.loop-i.invariant m (search rules) (omega (arith, w.get.type_inv)))
       | else-eq w ↦
           let m : mark_at p.marks i ≢ Dirty = search rules in
           rw w.sum-is (owed_other xs p i c.loop-i.sum c.loop-i.invariant m)
