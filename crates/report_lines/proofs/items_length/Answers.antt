@@ -1,5 +1,4 @@
--- `report_lines::items_length` meets its contract. The loop's invariant: what is counted and the lines that are left are all lines.
--- Assumes nothing.
+-- `report_lines::items_length` meets its contract. Assumes nothing.
 use mathlib.Core.Path.{ap}
 use native.Mathlib.Omega.{arith}
 use lib.ListN.{length}
@@ -7,19 +6,11 @@ use Rattle.layout.specs.Layout.{cache_of}
 use Rattle.report_lines.proofs.Laws.{items_count, items_end}
 use Rattle.report_lines.proofs.items_length.Goals as goal
 
-pub loop-i-init : goal.loop-i-init
-loop-i-init c =
-    omega arith
-
-pub item_numbers-line-requires : goal.item_numbers-line-requires
-item_numbers-line-requires c =
-    (c.requires.size, omega (arith, c.count-n.ensures.0, c.requires.cache.fields.few))
-
 pub loop-i-preserved : goal.loop-i-preserved
 loop-i-preserved c =
-    omega (arith, items_count (cache_of c.args.b.now) c.loop-i.i _ (omega (arith, c.count-n.ensures.0)) c.item_numbers-line.ensures)
+    omega (arith, items_count (cache_of c.args.b.now) c.loop-i.i _ (omega (arith, c.count-i-end.ensures.0)) c.item_numbers.ensures)
 
 pub returns : goal.returns
 returns c =
-    let e = ap length (items_end (cache_of c.args.b.now) c.loop-i.i (omega (arith, c.count-n.ensures.0))) in
+    let e = ap length (items_end (cache_of c.args.b.now) c.loop-i.i (omega (arith, c.count-i-end.ensures.0))) in
     omega arith

@@ -1,7 +1,7 @@
 -- `report_lines::items_length` meets its contract. The loop's invariant: what is counted and the lines that are left are all lines.
 -- Assumes nothing.
 use mathlib.Core.Path.{◌≡◌}
-use Prim.Native.Nat.{◌+◌, ◌*◌, ◌-◌, ◌≤◌}
+use Prim.Native.Nat.{◌+◌, ◌*◌, ◌≤◌}
 use lib.ListN.{length, drop}
 use Rattle.cache_state.specs.Cache.{uses_of}
 use Rattle.layout.specs.Layout.{cache_of}
@@ -10,7 +10,4 @@ use Rattle.report_lines.proofs.items_length.Given as goal
 
 abbrev pub invariant-loop-i : goal.invariant-loop-i
 invariant-loop-i l = let uses = uses_of (cache_of l.b) in
-    (l.i ≤ l.n) × (l.sum ≤ 231 * l.i) × (l.sum + length (item_lines l.i (drop l.i uses)) ≡ length (item_lines 0 uses))
-
-abbrev pub decreases-loop-i : goal.decreases-loop-i
-decreases-loop-i l = l.n - l.i
+    (l.sum ≤ 231 * l.i) × (l.sum + length (item_lines l.i (drop l.i uses)) ≡ length (item_lines 0 uses))

@@ -1,5 +1,4 @@
 -- `report_lines::put_items` meets its contract. The loop's invariant: the lines from the next item on are left to write. Assumes nothing.
-use Prim.Native.Nat.{◌-◌, ◌≤◌}
 use lib.ListN.{drop}
 use Rattle.decimal.proofs.Pages.{TextGoing}
 use Rattle.cache_state.specs.Cache.{uses_of}
@@ -9,7 +8,4 @@ use Rattle.report_lines.proofs.put_items.Given as goal
 
 abbrev pub invariant-loop-i : goal.invariant-loop-i
 invariant-loop-i l = let uses = uses_of (cache_of l.b) in
-    (l.i ≤ l.n) × TextGoing (item_lines 0 uses) l.initial.page l.at (item_lines l.i (drop l.i uses)) l.page
-
-abbrev pub decreases-loop-i : goal.decreases-loop-i
-decreases-loop-i l = l.n - l.i
+    TextGoing (item_lines 0 uses) l.initial.page l.at (item_lines l.i (drop l.i uses)) l.page
