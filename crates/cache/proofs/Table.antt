@@ -92,14 +92,6 @@ module _ (c : Cache) (i blocks load write : ℕ) where
 
 -- ---- the whole table
 
-pub range_out_lem : (n : Numbers) → range_refusal n ≢ 0 → in_range n ≡ false
-unfolding range_refusal
-range_out_lem n d = go (in_range n) d
-  where
-    go : (t : Bool) → ◌≢◌ {A = ℕ} (cond t 0 3) 0 → t ≡ false
-    go true d = absurd (d refl)
-    go false d = refl
-
 module _ (c : Cache) (n : Numbers) where
   abbrev pub answer : ℕ
   answer = refusal_now (view c) (step_call n)

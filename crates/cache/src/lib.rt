@@ -85,7 +85,7 @@ fn checked(b: &[u8], n: Numbers) -> Result<Step, Refusal>
     if 1000000 <= layout::steps(b) {
         return Err(Refusal::LogFull { line: 0 });
     }
-    if landlord::range_refusal(n) != 0 {
+    if !landlord::in_range(n) {
         return Err(Refusal::OutOfRange { line: 0 });
     }
     let step = types::step_of(n);

@@ -20,7 +20,7 @@ fn blocks_ok(catalog: &[u8], n: usize) -> bool
     ensures { Decided (BlocksOk n (λ i. (item_in catalog.now i).blocks)) result }
 {
     for i in 0..n {
-        if !(1..=16).contains(&catalog_bytes::blocks(catalog, i)) {
+        if !(1..=16).contains(&catalog_bytes::get(catalog, i).blocks) {
             return false;
         }
     }
@@ -55,9 +55,10 @@ fn put_items(b: &mut [u8], catalog: &[u8], n: usize)
     ensures { Stands b.new (entered_of (cache_of b.old) catalog.now n) }
 {
     for i in 0..n {
-        layout::put_blocks(b, i, catalog_bytes::blocks(catalog, i));
-        layout::put_item_load_cost(b, i, catalog_bytes::load_cost(catalog, i));
-        layout::put_item_write_cost(b, i, catalog_bytes::write_cost(catalog, i));
+        let item = catalog_bytes::get(catalog, i);
+        layout::put_blocks(b, i, item.blocks);
+        layout::put_item_load_cost(b, i, item.load);
+        layout::put_item_write_cost(b, i, item.write);
     }
 }
 

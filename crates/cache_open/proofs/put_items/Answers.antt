@@ -13,7 +13,7 @@ loop-i-preserved c =
     let a = c.args in
     let w = c.loop-i in
     entered_more (cache_of a.b.now) a.catalog.now w.i w.invariant
-    c.blocks-in-loop-i.ensures c.load_cost.ensures c.write_cost.ensures
+    c.get-item.ensures.blocks c.get-item.ensures.load c.get-item.ensures.write
     c.put_blocks.ensures c.put_item_load_cost.ensures c.put_item_write_cost.ensures
 
 pub returns : goal.returns
