@@ -8,7 +8,7 @@ ghost use Rattle.cache_state.specs.InnerView.{usage_of, figures_of};
 ghost use Rattle.decimal.specs.Decimal.{digits_of};
 ghost use Rattle.decimal.specs.InnerPages.{text_over};
 ghost use Rattle.landlord.specs.Figures.{tenths_of, total_cost, left_side, right_side};
-ghost use Rattle.layout.specs.Layout.{state_bytes, cache_of, ValidBytes};
+ghost use Rattle.layout.specs.Layout.{cache_of, ValidBytes};
 ghost use Rattle.report_lines.specs.Lines.{line_of, item_numbers, item_lines, total_numbers, total_lines};
 ghost use Rattle.report_lines.specs.Inner.{RivalOk};
 
@@ -76,7 +76,7 @@ fn whole_tenths(minutes: u32) -> u32
     minutes / 6
 }
 
-impl<'a> ValidState<'a> {
+impl ValidState<'_> {
     // The numbers of an item's line.
     fn item_numbers(&self, i: usize) -> [u64; 4]
         requires { i < 256 }
