@@ -7,6 +7,8 @@ use Prim.Native.Nat.{ℕ, suc}
 use borrow.Author.Tests.{eqb-true, eq-eqb}
 use lib.Dec.{eqb}
 use lib.ListN.{length}
+use native.Mathlib.Omega.{arith}
+use Rattle.std.proofs.lemmas.Bool.Decides.{nat_tests}
 use Rattle.std.specs.Cmp.Lexicographic.{pointwise}
 use Rattle.decimal.specs.Decimal.{same_text}
 use Rattle.decimal.proofs.Laws.{and_false}
@@ -28,6 +30,17 @@ same_true (x ∷ s) (y ∷ t) h =
     let e = eqb-true x y p.0 in
     let f = same_true s t p.1 in
     cc
+
+eqb_comm : (x y : ℕ) → eqb x y ≡ eqb y x
+eqb_comm x y = grind (arith, nat_tests)
+
+-- the order of the two does not matter
+pub same_comm : (s t : List ℕ) → same_text s t ≡ same_text t s
+unfolding same_text
+same_comm [] [] = refl
+same_comm [] (y ∷ t) = refl
+same_comm (x ∷ s) [] = refl
+same_comm (x ∷ s) (y ∷ t) = rw (eqb_comm x y, same_comm s t)
 
 -- the library's `==` on bytes
 pub same_pointwise : (s t : List ℕ) → pointwise eqb s t ≡ same_text s t

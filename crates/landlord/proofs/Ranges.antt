@@ -155,24 +155,7 @@ pub rule_refused : (o : Opening Catalog) → OpeningRanges o → is_deduction o.
 unfolding opening_refusal
 rule_refused o f odd = rw (f.capacity, f.catalog, f.fresh, odd)
 
--- ## An item's values, test by test
-
-pub range_empty : (b l w : ℕ) → b < 1 → false ≡ item_in_range (listed b l w)
-range_empty b l w q = rw (lt-leb 1 b q)
-
-pub range_large : (b l w : ℕ) → 1 ≤ b → 16 < b → false ≡ item_in_range (listed b l w)
-range_large b l w some q = rw (le-leb 1 b some, lt-leb b 16 q)
-
-pub range_dear : (b l w : ℕ) → 1 ≤ b → b ≤ 16 → 65535 < l → false ≡ item_in_range (listed b l w)
-range_dear b l w some small q = rw (blocks_ok b some small, lt-leb l 65535 q)
-
-pub range_item : (b l w : ℕ) → 1 ≤ b → b ≤ 16 → l ≤ 65535 → cost_in_range w ≡ item_in_range (listed b l w)
-range_item b l w some small q = rw (blocks_ok b some small, le-leb l 65535 q)
-
 -- ## A step, test by test
-
-pub range_flush : (n : Numbers) → n.kind ≡ 76 → true ≡ in_range n
-range_flush n e = rw e
 
 -- a step that names an item, where the number is none's
 pub range_wide : (n : Numbers) → n.kind ≢ 76 → 255 < n.item → false ≡ in_range n
@@ -185,20 +168,8 @@ range_wide n o l = rw (lt-leb n.item 255 l, ne_eqb n.kind 76 o) (go (eqb n.kind 
     go false false false true = refl
     go false false false false = refl
 
-pub range_read : (n : Numbers) → n.kind ≡ 82 → n.item ≤ 255 → true ≡ in_range n
-range_read n e l = rw (e, le-leb n.item 255 l)
-
 pub range_write : (n : Numbers) → n.kind ≡ 87 → n.item ≤ 255 → leb n.minutes 1440 ≡ in_range n
 range_write n e l = rw (e, le-leb n.item 255 l)
 
 pub range_arrive : (n : Numbers) → n.kind ≡ 65 → n.item ≤ 255 → item_in_range (listed n.blocks n.load n.write) ≡ in_range n
 range_arrive n e l = rw (e, le-leb n.item 255 l)
-
--- a retirement, or else a kind that is none
-pub range_retire : (n : Numbers) → n.kind ≢ 76 → n.item ≤ 255 → n.kind ≢ 82 → n.kind ≢ 87 → n.kind ≢ 65 → eqb n.kind 81 ≡ in_range n
-range_retire n f l r w a =
-    rw (ne_eqb n.kind 82 r, ne_eqb n.kind 87 w, ne_eqb n.kind 65 a, ne_eqb n.kind 76 f, le-leb n.item 255 l) (go (eqb n.kind 81))
-  where
-    go : (t : Bool) → t ≡ cond t true false
-    go true = refl
-    go false = refl
