@@ -7,9 +7,11 @@ use Prim.Native.Nat.{ℕ, suc}
 use borrow.Author.Tests.{eqb-true, eq-eqb}
 use lib.Dec.{eqb}
 use lib.ListN.{length}
+use native.Mathlib.Omega.{arith}
+use Rattle.std.proofs.lemmas.Bool.Decides.{nat_tests}
+use Rattle.std.proofs.Math.Bool.{and-false}
 use Rattle.std.specs.Cmp.Lexicographic.{pointwise}
 use Rattle.decimal.specs.Decimal.{same_text}
-use Rattle.decimal.proofs.Laws.{and_false}
 
 -- a text is one with itself
 pub same_refl : (s : List ℕ) → same_text s s ≡ true
@@ -29,6 +31,17 @@ same_true (x ∷ s) (y ∷ t) h =
     let f = same_true s t p.1 in
     cc
 
+eqb_comm : (x y : ℕ) → eqb x y ≡ eqb y x
+eqb_comm x y = grind (arith, nat_tests)
+
+-- the order of the two does not matter
+pub same_comm : (s t : List ℕ) → same_text s t ≡ same_text t s
+unfolding same_text
+same_comm [] [] = refl
+same_comm [] (y ∷ t) = refl
+same_comm (x ∷ s) [] = refl
+same_comm (x ∷ s) (y ∷ t) = rw (eqb_comm x y, same_comm s t)
+
 -- the library's `==` on bytes
 pub same_pointwise : (s t : List ℕ) → pointwise eqb s t ≡ same_text s t
 unfolding same_text
@@ -44,4 +57,4 @@ same_lengths [] [] h = absurd (h refl)
 same_lengths [] (y ∷ t) h = refl
 same_lengths (x ∷ s) [] h = refl
 same_lengths (x ∷ s) (y ∷ t) h =
-    sym (and_false (eqb x y)) ∙ ap (λ (b : Bool). eqb x y && b) (same_lengths s t (λ e. h (ap suc e)))
+    sym (and-false (eqb x y)) ∙ ap (λ (b : Bool). eqb x y && b) (same_lengths s t (λ e. h (ap suc e)))

@@ -161,7 +161,10 @@ pub fn put_text(text: &[u8], page: &mut [u8]) -> usize
     ensures value { result ≡ length text.now }
     ensures page_after { page.new ≡ text_over text.now page.old }
 {
-    page[..text.len()].copy_from_slice(text);
+    // Kept by hand: by `copy_from_slice` the log's writer took seven in a hundred more instructions.
+    for (i, b) in text.iter().enumerate() {
+        page[i] = *b;
+    }
     text.len()
 }
 

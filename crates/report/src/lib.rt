@@ -6,10 +6,10 @@ ghost use Rattle.std.specs.Prelude.{◌≡◌, ◌≤◌, length, replicate};
 ghost use Rattle.cache_state.specs.Cache.{view};
 ghost use Rattle.decimal.specs.InnerPages.{text_over};
 ghost use Rattle.layout.specs.Layout.{cache_of, ValidBytes};
-ghost use Rattle.report_lines.specs.Inner.{RivalOk, Comparable, TextFits};
+ghost use Rattle.report_lines.specs.Inner.{RivalOk};
 ghost use Rattle.report.specs.Report.{report_of, refusal_text, Put, Reported, longest};
 
-use report_lines::Rival;
+use report_lines::{Rival, ValidState};
 use types::Refusal;
 
 // The bytes of the longest report there can be, with or without a rival's figures.
@@ -24,22 +24,23 @@ pub fn longest_page() -> [u8; LONGEST]
 
 // How many bytes the report of a valid state has.
 #[tactic(auto, using(crate::proofs::Laws::report_count, crate::proofs::Longest::items_longest))]
-fn report_length(b: &[u8], rival: Option<Rival>) -> usize
-    requires { Comparable b.now rival }
-    ensures { result ≡ length (report_of (view (cache_of b.now)) rival) }
+fn report_length(state: &ValidState, rival: Option<Rival>) -> usize
+    requires { RivalOk (view (cache_of state.now.bytes.now)) rival }
+    ensures { result ≡ length (report_of (view (cache_of state.now.bytes.now)) rival) }
 {
-    30 + report_lines::items_length(b) + report_lines::totals_length(b, rival)
+    30 + state.items_length() + state.totals_length(rival)
 }
 
 // Writes the report of a valid state at the start of the page, which has room for it.
-fn put_report(page: &mut [u8], b: &[u8], rival: Option<Rival>)
-    requires { TextFits b.now rival (report_of (view (cache_of b.now)) rival) page.old }
-    ensures { page.new ≡ text_over (report_of (view (cache_of b.now)) rival) page.old }
+fn put_report(page: &mut [u8], state: &ValidState, rival: Option<Rival>)
+    requires fair { RivalOk (view (cache_of state.now.bytes.now)) rival }
+    requires room { length (report_of (view (cache_of state.now.bytes.now)) rival) ≤ length page.old }
+    ensures { page.new ≡ text_over (report_of (view (cache_of state.now.bytes.now)) rival) page.old }
 {
     let mut at = decimal::put_text(b"sail tenths loads writebacks\n", page);
-    at += report_lines::put_items(&mut page[at..], b);
+    at += state.put_items(&mut page[at..]);
     at += decimal::put_text(b"\n", &mut page[at..]);
-    report_lines::put_totals(&mut page[at..], b, rival);
+    state.put_totals(&mut page[at..], rival);
 }
 
 // The report of a state, open or closed: 17 if the bytes are no valid state, 15 if the page is too short, else the text at the start
@@ -52,11 +53,12 @@ pub fn report(b: &[u8], rival: Option<Rival>, page: &mut [u8]) -> Result<usize, 
     if !cache_check::valid(b) {
         return Err(Refusal::InvalidState { line: 0 });
     }
-    let needed = report_length(b, rival);
+    let state = ValidState { bytes: b };
+    let needed = report_length(&state, rival);
     if page.len() < needed {
         return Err(Refusal::ShortBuffer { line: 0 });
     }
-    put_report(page, b, rival);
+    put_report(page, &state, rival);
     Ok(needed)
 }
 
