@@ -74,6 +74,14 @@ pub digits_some : (x : ℕ) → 1 ≤ length (digits_of x)
 digits_some =
     by_digits (λ x. 1 ≤ length (digits_of x)) (λ x h. omega (arith, length_small x h)) (λ x h p. omega (arith, length_big x h))
 
+-- a number has one digit more than the power of ten that it reaches
+pub digits_count : (n k : ℕ) → 10 ^ k ≤ n → n < 10 * 10 ^ k → length (digits_of n) ≡ k + 1
+digits_count n zero low high = length_small n (omega arith)
+digits_count n (suc k) low high =
+    let e : 10 ^ suc k ≡ 10 ^ k * 10 = pow-suc 10 k in
+    let p : 1 ≤ 10 ^ k = one-le-pow k 10 (omega arith) in
+    omega (arith, length_big n (omega (arith, e, p, low)), digits_count (n / 10) k (omega (arith, e, low)) (omega (arith, e, high)))
+
 -- w digits are enough for a number below the w-th power of ten
 pub digits_length : (n w : ℕ) → n < 10 ^ w → 1 ≤ w → length (digits_of n) ≤ w
 digits_length n zero h k = absurd (omega arith)
