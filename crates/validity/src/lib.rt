@@ -62,7 +62,7 @@ fn marks_ok(e: &Entry, closed: bool) -> bool
     ensures { Decided (MarksOk e.now.held e.now.dirty closed e.now.load_credit e.now.write_credit) result }
 {
     if e.dirty {
-        return e.held && !closed;
+        return !closed && e.held;
     }
     e.write_credit == 0 && (e.held || e.load_credit == 0)
 }
@@ -88,7 +88,11 @@ pub fn key_ok(held: bool, level: u64, key: u64, credits: u64, blocks: u8) -> boo
     if !held {
         return key == 0;
     }
-    level <= key && key - level <= credits && (key - level) * (blocks as u64) <= credits
+    if key < level {
+        return false;
+    }
+    let due = key - level;
+    due <= credits && due * (blocks as u64) <= credits
 }
 
 // Whether the level is no more than so many evictions can have raised it.
