@@ -1,28 +1,20 @@
 -- Laws of `BlocksOk`: of the loop that tests the items in turn, and of their catalog. Assumes nothing.
 use mathlib.Core.Path.{◌≡◌, sym, subst}
-use mathlib.Core.Bool.{true}
-use Prim.Native.Nat.{ℕ, ◌+◌, ◌≤◌, ◌<◌}
+use Prim.Native.Nat.{ℕ, ◌≤◌, ◌<◌}
 use native.Mathlib.Omega.{arith}
 use lib.ListN.{length}
-use borrow.Author.Count.{below_more}
 use Rattle.landlord.specs.Fold.{tab}
-use Rattle.landlord.specs.Catalog.{Catalog, CatalogOk, Item, item_at, no_item, blocks_in_range}
+use Rattle.landlord.specs.Catalog.{Catalog, CatalogOk, Item, item_at, no_item}
 use Rattle.landlord.specs.Inner.{ItemFacts}
 use Rattle.landlord.proofs.Folds.{tab_length, tab_at}
 use Rattle.landlord.proofs.Ranges.{catalog_facts, catalog_ok, blocks_facts, blocks_ok}
 use Rattle.cache_open.specs.Inner.{BlocksOk}
 
-pub no_blocks : (blocks : ℕ → ℕ) → BlocksOk 0 blocks
-no_blocks blocks = record { each = λ i l. absurd (let z : i < 0 = l in omega arith) }
-
-pub more_blocks : (blocks : ℕ → ℕ) (i : ℕ) → BlocksOk i blocks → 1 ≤ blocks i → blocks i ≤ 16 → BlocksOk (i + 1) blocks
-more_blocks blocks i ok low high = record { each = below_more (λ j. blocks_in_range (blocks j) ≡ true) i ok.each (blocks_ok (blocks i) low high) }
-
--- and read off
-pub blocks_low : {n : ℕ} {blocks : ℕ → ℕ} → BlocksOk n blocks → (i : ℕ) → i < n → 1 ≤ blocks i
+-- the blocks of an item, read off
+blocks_low : {n : ℕ} {blocks : ℕ → ℕ} → BlocksOk n blocks → (i : ℕ) → i < n → 1 ≤ blocks i
 blocks_low {blocks = blocks} ok i l = (blocks_facts (blocks i) (ok.each i l)).0
 
-pub blocks_high : {n : ℕ} {blocks : ℕ → ℕ} → BlocksOk n blocks → (i : ℕ) → i < n → blocks i ≤ 16
+blocks_high : {n : ℕ} {blocks : ℕ → ℕ} → BlocksOk n blocks → (i : ℕ) → i < n → blocks i ≤ 16
 blocks_high {blocks = blocks} ok i l = (blocks_facts (blocks i) (ok.each i l)).1
 
 -- items whose costs are in range are a catalog in range exactly if they are at most 256 and their blocks are in range

@@ -10,7 +10,7 @@ use lib.Dec.{eqb, leb}
 use lib.ListN.{length, set, replicate, get_or-replicate, length-replicate}
 use borrow.Author.Tests.{eq-eqb, ne_eqb, le-leb, lt-leb, eqb-true, leb-true}
 use Rattle.types.specs.declared.Deduction.{Deduction}
-use Rattle.types.specs.Types.{deduction_of}
+use Rattle.types.specs.Types.{Told, deduction_of, telling}
 use Rattle.landlord.specs.Catalog.{CatalogOk, none_left}
 use Rattle.landlord.specs.Slot.{split_of}
 use Rattle.landlord.specs.Valid.{StandingOk}
@@ -22,7 +22,6 @@ use Rattle.queue.specs.Machine.{standing, lazy_at_opening, lazy_starts_at}
 use Rattle.queue.proofs.Logs.{opening_ok, opening_stands}
 use Rattle.fields.specs.Inner.{Below}
 use Rattle.catalog_bytes.specs.Catalogs.{item_in, catalog_in}
-use Rattle.catalog_bytes.specs.Inner.{HasItem}
 use Rattle.catalog_bytes.proofs.Laws.{load_lt, write_lt}
 use Rattle.cache_state.specs.Cache.{Cache, lazy, EmptyPlace}
 use Rattle.cache_state.proofs.Tells.{empty_heap}
@@ -35,21 +34,25 @@ use Rattle.layout.proofs.Rounds.{whole}
 use Rattle.basis.specs.InnerStores.{store_to}
 use Rattle.basis.proofs.Stores.{store_more, store_past, store_at}
 use Rattle.cache_open.specs.Opening.{opening_in, opening_number, OpenedLent}
-use Rattle.cache_open.specs.Inner.{BlocksOk, WholeCatalog, entered_of, Column}
+use Rattle.cache_open.specs.Inner.{BlocksOk, entered_of, Column}
 use Rattle.cache_open.proofs.Blocks.{catalog_blocks, blocks_catalog}
 use Rattle.cache_open.proofs.Empty.{empty_place, empty_becomes}
 
 -- ---- the tests
-
--- item i of n is there
-pub has_item : {n i : ℕ} {xs : List ℕ} → WholeCatalog n xs → i < n → HasItem xs i
-has_item w l = record { place = omega (arith, w.few); inside = omega (arith, w.count) }
 
 -- lengths that are right
 pub record Lengths (size : ℕ) (xs : List ℕ) : Type 0 where
   pub state : size ≡ state_bytes
   pub whole : length xs % 5 ≡ 0
   pub few : length xs ≤ 1280
+
+-- an answer tells its number alone
+pub tells : {n m : ℕ} → n ≡ m → telling n 0 0 ≡ telling m 0 0
+tells e = ap (λ (n : ℕ). telling n 0 0) e
+
+-- and so its number
+pub number_told : {n m : ℕ} → telling n 0 0 ≡ telling m 0 0 → n ≡ m
+number_told e = ap (λ (t : Told). t.number) e
 
 module _ (size : ℕ) (o : Opening (List ℕ)) where
   abbrev xs : List ℕ
@@ -106,9 +109,9 @@ pub record Right (size : ℕ) (o : Opening (List ℕ)) : Type 0 where
   pub lengths : Lengths size o.catalog
   pub accepted : OpeningOk (opening_in o)
 
-pub right : {size n : ℕ} {o : Opening (List ℕ)} → n ≡ opening_number size o → n ≡ 0 → Right size o
+pub right : {size : ℕ} {o : Opening (List ℕ)} → 0 ≡ opening_number size o → Right size o
 unfolding opening_number
-right {size = size} {o = o} asked none = go (eqb size state_bytes) (eqb (length o.catalog % 5) 0) (leb (length o.catalog) 1280) refl refl refl (sym asked ∙ none)
+right {size = size} {o = o} none = go (eqb size state_bytes) (eqb (length o.catalog % 5) 0) (leb (length o.catalog) 1280) refl refl refl (sym none)
   where
     go :
         (a b c : Bool) →
@@ -169,14 +172,10 @@ opened_becomes k r xs few =
     empty_becomes k (length xs / 5) (item_in xs) false r _ _ _ few (stored_column (length xs / 5) (λ i. (item_in xs i).blocks) few)
     (stored_column (length xs / 5) (λ i. (item_in xs i).load) few) (stored_column (length xs / 5) (λ i. (item_in xs i).write) few) (λ i. refl)
 
--- refused, every byte stays; else the bytes were cleared and capacity, count, rule and items stored
-pub opening_refused : (b : List ℕ) (o : Opening (List ℕ)) (n : ℕ) → n ≡ opening_number (length b) o → n ≢ 0 → OpenedLent b o n b
-opening_refused b o n e d = record { answer = e; valid = λ z. absurd (d z); stands = λ z. absurd (d z); lazy = λ z. absurd (d z); empty = λ z. absurd (d z); refused = λ z. refl }
-
+-- the bytes were cleared and capacity, count, rule and items stored
 pub opening_done :
-    (b : List ℕ) (o : Opening (List ℕ)) (n : ℕ) {r : Deduction} {one two three four after : List ℕ} →
-    n ≡ opening_number (length b) o →
-    n ≡ 0 →
+    (b : List ℕ) (o : Opening (List ℕ)) {r : Deduction} {one two three four after : List ℕ} →
+    0 ≡ opening_number (length b) o →
     Stands one cleared →
     Stands two (with_capacity (cache_of one) o.k) →
     Stands three (with_count (cache_of two) (length o.catalog / 5)) →
@@ -184,18 +183,18 @@ pub opening_done :
     Stands four (with_rule (cache_of three) r) →
     Stands after (entered_of (cache_of four) o.catalog (length o.catalog / 5)) →
     OpenedLent b o 0 after
-opening_done b o n {after = after} e z p q u is t s =
+opening_done b o {after = after} e p q u is t s =
     let k = o.k in
     let xs = o.catalog in
     let rule = o.rule in
     let split = split_of (deduction_of rule) in
-    let ranges = right e z in
+    let ranges = right e in
     let so : Stands after (opened_of k (deduction_of rule) xs) =
     stands_as (stands_on (λ d v. entered_of d xs v) s (stands_on with_rule t (stands_on with_count u (stands_on with_capacity q p)))) (ap (λ (d : Deduction). opened_of k d xs) is)
     in
     let stood = stands_become so (opened_becomes k (deduction_of rule) xs (omega (arith, ranges.lengths.few))) in
     record {
-      answer = sym z ∙ e;
+      answer = e;
       valid =
           λ w.
           becomes_valid (opening_ok split k (catalog_in xs) ranges.accepted.ranges.catalog)

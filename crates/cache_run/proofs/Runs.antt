@@ -1,16 +1,17 @@
 -- Laws of running a list of calls: one call more, its answer noted. Assumes nothing.
 use mathlib.Core.Path.{◌≡◌, refl, sym, ap, subst, ◌∙◌}
-use mathlib.Core.Logic.{◌≢◌}
 use mathlib.Core.List.{List, [], ◌∷◌, ◌++◌, append-nil}
-use Prim.Native.Nat.{ℕ, suc, ◌+◌, ◌≤◌, ◌<◌}
+use Prim.Native.Nat.{ℕ, zero, suc, ◌+◌, ◌*◌, ◌/◌, ◌≤◌, ◌<◌}
+use Rattle.std.specs.Simd.{first_chunks}
+use Rattle.std.proofs.lemmas.List.{get_or-take, get_or-drop}
+use Rattle.types.specs.Types.{numbers_from}
+use Rattle.landlord.proofs.CallNumbers.{call_is}
 use native.Mathlib.Omega.{arith}
 use native.Mathlib.Numerals.{add-one}
 use lib.ListN.{length, get_or, drop, set, length-append, drop_of_length-le}
 use lib.Seq.{sets, drop-cons, append_snoc}
-use borrow.Author.Tests.{eq-eqb, ne_eqb}
-use Rattle.types.specs.declared.Numbers.{Numbers}
-use Rattle.landlord.specs.Calls.{Opening, Call, step_call, close}
-use Rattle.landlord.specs.CallNumbers.{call_from}
+use Rattle.landlord.specs.Calls.{Opening, Call, close}
+use Rattle.landlord.specs.CallNumbers.{call_from, call_at, calls_of}
 use Rattle.cache_open.specs.Opening.{OpenedLent}
 use Rattle.cache.specs.Contract.{Kind, lent, Answers}
 use Rattle.cache_run.specs.Season.{Follows, none, then, RanLent}
@@ -18,12 +19,28 @@ use Rattle.cache.proofs.Calls.{answers_called}
 use Rattle.cache_run.specs.Inner.{RanCalls}
 use Rattle.cache_run.proofs.Season.{season_lent}
 
--- a call of numbers
-pub call_takes : (b after : List ℕ) (which n : ℕ) (step : Numbers) → which ≡ 0 → Answers lent b (step_call step) n after → Answers lent b (call_from which step) n after
-call_takes b after which n step e h = rw (eq-eqb which 0 e) h
+-- ---- the numbers, seven to a call
 
-pub call_closes : (b after : List ℕ) (which n : ℕ) (step : Numbers) → which ≢ 0 → Answers lent b close n after → Answers lent b (call_from which step) n after
-call_closes b after which n step e h = rw (ne_eqb which 0 e) h
+-- number j of the i-th seven
+seven_at : (k i j at : ℕ) (xs : List ℕ) → i < k → j < 7 → 7 * i + j ≡ at → get_or (get_or (first_chunks 7 k xs) i []) j 0 ≡ get_or xs at 0
+seven_at zero i j at xs l b e = absurd (omega arith)
+seven_at (suc k) zero j at xs l b e = get_or-take 7 xs j 0 b ∙ ap (λ (m : ℕ). get_or xs m 0) (let z : j ≡ at = omega arith in z)
+seven_at (suc k) (suc i) j at xs l b e =
+    seven_at k i j (7 * i + j) (drop 7 xs) (omega arith) b refl
+    ∙ get_or-drop 7 xs (7 * i + j) 0
+    ∙ ap (λ (m : ℕ). get_or xs m 0) (let z : 7 + (7 * i + j) ≡ at = omega arith in z)
+
+-- the i-th seven is call i
+pub call_seven : (xs : List ℕ) (i : ℕ) → i < length xs / 7 → get_or (calls_of xs) i close ≡ call_at (get_or (first_chunks 7 (length xs / 7) xs) i []) 0
+call_seven xs i l = call_is xs i (7 * i) l refl ∙ sym same
+  where
+    at : (j : ℕ) → j < 7 → get_or (get_or (first_chunks 7 (length xs / 7) xs) i []) j 0 ≡ get_or xs (7 * i + j) 0
+    at j b = seven_at (length xs / 7) i j (7 * i + j) xs l b refl
+
+    same : call_at (get_or (first_chunks 7 (length xs / 7) xs) i []) 0 ≡ call_at xs (7 * i)
+    same = λ z.
+        call_from (seven_at (length xs / 7) i 0 (7 * i) xs l (omega arith) (omega arith) z)
+        (numbers_from (at 1 (omega arith) z) (at 2 (omega arith) z) (at 3 (omega arith) z) (at 4 (omega arith) z) (at 5 (omega arith) z) (at 6 (omega arith) z))
 
 -- storing a run of values and one more
 sets_more : (l vs : List ℕ) (at v : ℕ) → sets l at (vs ++ (v ∷ [])) ≡ set (sets l at vs) (at + length vs) v
@@ -73,24 +90,16 @@ going_ends kind c q calls before out i l g =
       noted = g.noted ∙ ap (sets before 0) (sym (append-nil g.numbers));
     }
 
--- the whole list: a refused opening, and an accepted one, of which the season theorem holds
-pub run_refused : (b : List ℕ) (o : Opening (List ℕ)) (calls : List Call) (before last : List ℕ) (n : ℕ) → OpenedLent b o n last → n ≢ 0 → RanLent b o calls before before n last
-run_refused b o calls before last n h e =
-    record { answer = h.answer; refused = λ z. (h.refused z, refl); numbers = []; season = λ z. absurd (e z) }
-
+-- the whole list from an opening that was accepted, of which the season theorem holds
 pub run_taken :
-    (b first : List ℕ) (o : Opening (List ℕ)) (calls : List Call) (before after last : List ℕ) (n : ℕ) →
-    OpenedLent b o n first →
-    n ≡ 0 →
+    (b first : List ℕ) (o : Opening (List ℕ)) (calls : List Call) (before after last : List ℕ) →
+    OpenedLent b o 0 first →
     RanCalls lent first calls before after last →
     RanLent b o calls before after 0 last
-run_taken b first o calls before after last n h e ran =
+run_taken b first o calls before after last h ran =
     record {
-      answer = sym e ∙ h.answer;
+      answer = h.answer;
       refused = λ z. absurd (z refl);
       numbers = ran.numbers;
-      season = λ z. (
-        season_lent o calls ran.numbers last (record { before = b; first = first; opening = subst (λ (m : ℕ). OpenedLent b o m first) e h; follows = ran.follows }),
-        ran.noted,
-      );
+      season = λ z. (season_lent o calls ran.numbers last (record { before = b; first = first; opening = h; follows = ran.follows }), ran.noted);
     }

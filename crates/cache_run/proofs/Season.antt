@@ -151,7 +151,7 @@ season_prefix kind o first calls numbers d begins follows i =
 
 -- an opening that was not refused
 pub lent_begins : (b first : List ℕ) (o : Opening (List ℕ)) → OpenedLent b o 0 first → BeginsAt lent (opening_in o) first
-lent_begins b first o h = record { fine = (right h.answer refl).accepted; valid = h.valid refl; stands = h.stands refl; lazy = h.lazy refl }
+lent_begins b first o h = record { fine = (right h.answer).accepted; valid = h.valid refl; stands = h.stands refl; lazy = h.lazy refl }
 
 pub season_lent : (o : Opening (List ℕ)) (calls : List Call) (numbers d : List ℕ) → ChainLent o calls numbers d → SeasonLent (opening_in o) calls numbers d
 season_lent o calls numbers d chain =

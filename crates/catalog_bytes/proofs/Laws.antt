@@ -1,7 +1,6 @@
--- Laws of a catalog in lent bytes: how many items there are, which they are, the first n of them, one more at their end, that
--- none has left, and how large the numbers of an item can be. Assumes nothing.
+-- Laws of a catalog in lent bytes: how many items there are, which they are, the first n of them, one more at their end,
+-- and how large the numbers of an item can be. Assumes nothing.
 use mathlib.Core.Path.{◌≡◌, refl, sym, ap, ◌∙◌}
-use mathlib.Core.Bool.{true}
 use mathlib.Core.List.{List, [], ◌∷◌, ◌++◌}
 use Prim.Native.Nat.{ℕ, ◌+◌, ◌*◌, ◌/◌, ◌≤◌, ◌<◌}
 use native.Mathlib.Omega.{arith}
@@ -9,9 +8,8 @@ use native.Mathlib.Decide.{ℕ_discrete}
 use lib.ListN.{length, take, drop, get_or, length-append, get_or-append}
 use lib.Seq.{sets, length-sets, sets-eq, length-take-le, take_at, get_or-take, get_or_at, get_or-append-add}
 use Rattle.landlord.specs.Fold.{tab_from}
-use Rattle.landlord.specs.Catalog.{Item, item_at, no_item, listed, none_left}
+use Rattle.landlord.specs.Catalog.{Item, item_at, no_item, listed}
 use Rattle.landlord.proofs.Folds.{tab_length, tab_at, tab_of}
-use Rattle.landlord.proofs.Ranges.{listed_none_left}
 use Rattle.catalog_bytes.specs.Catalogs.{item_in, catalog_in}
 use Rattle.catalog_bytes.specs.Inner.{catalog_of_first, item_bytes}
 
@@ -24,12 +22,6 @@ length_catalog_in xs = tab_length (length xs / 5) (item_in xs)
 pub item_at_lem : (xs : List ℕ) (i : ℕ) → i < length xs / 5 → item_at (catalog_in xs) i ≡ item_in xs i
 unfolding catalog_in
 item_at_lem xs i l = tab_at (length xs / 5) (item_in xs) i no_item l
-
--- a catalog in bytes is one as an opening takes it
-pub none_left_in : (xs : List ℕ) → none_left (catalog_in xs) ≡ true
-unfolding catalog_in
-none_left_in xs =
-    listed_none_left (length xs / 5) (λ i. (item_in xs i).blocks) (λ i. (item_in xs i).load) (λ i. (item_in xs i).write)
 
 -- an item is its five bytes
 item_eq :
@@ -118,9 +110,6 @@ one_more n xs b l w h =
     in ap catalog_in t ∙ catalog_more b l w (take (5 * n) xs) n f
 
 -- ---- how large the numbers of an item can be
-
-pub blocks_lt : (xs : List ℕ) (i : ℕ) → ((j : ℕ) → get_or xs j 0 < 256) → (item_in xs i).blocks < 256
-blocks_lt xs i h = h (5 * i)
 
 pub load_lt : (xs : List ℕ) (i : ℕ) → ((j : ℕ) → get_or xs j 0 < 256) → (item_in xs i).load < 65536
 load_lt xs i h = omega (arith, h (5 * i + 1), h (5 * i + 2))

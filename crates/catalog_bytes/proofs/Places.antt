@@ -1,21 +1,12 @@
--- What the code stores is what the specification says. Assumes nothing.
-use mathlib.Core.Path.{◌≡◌}
-use mathlib.Core.List.{List}
-use Prim.Native.Nat.{ℕ, suc, ◌+◌, ◌*◌, ◌/◌, ◌%◌}
+-- Bytes stored together are stored one after the other. Assumes nothing.
+use mathlib.Core.Path.{◌≡◌, sym}
+use mathlib.Core.List.{List, append_assoc}
+use Prim.Native.Nat.{ℕ, ◌+◌, ◌≤◌}
 use native.Mathlib.Omega.{arith}
-use lib.ListN.{set}
-use lib.Seq.{sets}
-use Rattle.landlord.specs.Catalog.{listed}
-use Rattle.catalog_bytes.specs.Inner.{item_bytes}
+use borrow.Rule.Slice.PartMut.{put_mid}
+use lib.ListN.{length, take, drop}
+use lib.Seq.{sets, sets-eq, drop-drop}
 
--- an item, stored byte by byte
-pub put_stores :
-    (xs : List ℕ) (i b l w : ℕ) →
-    set (set (set (set (set xs (5 * i) b) (5 * i + 1) (l % 256)) (5 * i + 2) (l / 256)) (5 * i + 3) (w % 256)) (5 * i + 4) (w / 256)
-    ≡ sets xs (5 * i) (item_bytes (listed b l w))
-put_stores xs i b l w =
-    let e₁ : 5 * i + 1 ≡ suc (5 * i) = omega arith in
-    let e₂ : 5 * i + 2 ≡ suc (suc (5 * i)) = omega arith in
-    let e₃ : 5 * i + 3 ≡ suc (suc (suc (5 * i))) = omega arith in
-    let e₄ : 5 * i + 4 ≡ suc (suc (suc (suc (5 * i)))) = omega arith in
-    rw (e₁, e₂, e₃, e₄)
+pub put_mid-sets : (a k : ℕ) (xs ys : List ℕ) → length ys ≡ k → a + k ≤ length xs → put_mid a k xs ys ≡ sets xs a ys
+put_mid-sets a k xs ys e h =
+    rw (sets-eq ys xs a (omega arith), drop-drop k a xs, e) (sym (append_assoc (take a xs) ys (drop (a + k) xs)))

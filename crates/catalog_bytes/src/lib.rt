@@ -1,7 +1,7 @@
 // A catalog in lent bytes, as the firmware hands it in and as the office keeps it: an item's three numbers, read and stored.
 #![tactic(auto)]
 
-ghost use Rattle.std.specs.Prelude.{◌≡◌, ◌+◌, ◌*◌};
+ghost use Rattle.std.specs.Prelude.{◌≡◌, ◌*◌};
 ghost use Rattle.std.proofs.lemmas.List.Edits.{sets};
 ghost use Rattle.landlord.specs.Catalog.{listed};
 ghost use Rattle.catalog_bytes.specs.Catalogs.{item_in};
@@ -12,46 +12,37 @@ pub const ITEM_BYTES: usize = 5;
 
 pub const MOST_BYTES: usize = 1280;
 
-// A cost from its two bytes, the low one first.
-fn cost(low: u8, high: u8) -> u16
-    ensures { result ≡ low + 256 * high }
-{
-    low as u16 + 256 * (high as u16)
+// An item's three numbers, as a catalog lists them: its blocks, its load cost and its write cost.
+#[derive(Clone, Copy, Debug, PartialEq, Eq)]
+pub struct Item {
+    pub blocks: u8,
+    pub load: u16,
+    pub write: u16,
 }
 
-// The blocks of item `i`.
-pub fn blocks(catalog: &[u8], i: usize) -> u8
+// Item `i`. The low byte of a cost comes first.
+pub fn get(catalog: &[u8], i: usize) -> Item
     requires { HasItem catalog.now i }
-    ensures { result ≡ (item_in catalog.now i).blocks }
+    ensures blocks { result.blocks ≡ (item_in catalog.now i).blocks }
+    ensures load { result.load ≡ (item_in catalog.now i).load }
+    ensures write { result.write ≡ (item_in catalog.now i).write }
 {
-    catalog[5 * i]
-}
-
-// Its load cost.
-pub fn load_cost(catalog: &[u8], i: usize) -> u16
-    requires { HasItem catalog.now i }
-    ensures { result ≡ (item_in catalog.now i).load }
-{
-    cost(catalog[5 * i + 1], catalog[5 * i + 2])
-}
-
-// Its write cost.
-pub fn write_cost(catalog: &[u8], i: usize) -> u16
-    requires { HasItem catalog.now i }
-    ensures { result ≡ (item_in catalog.now i).write }
-{
-    cost(catalog[5 * i + 3], catalog[5 * i + 4])
+    let at = ITEM_BYTES * i;
+    Item {
+        blocks: catalog[at],
+        load: u16::from_le_bytes([catalog[at + 1], catalog[at + 2]]),
+        write: u16::from_le_bytes([catalog[at + 3], catalog[at + 4]]),
+    }
 }
 
 // Stores item `i`.
-pub fn put(catalog: &mut [u8], i: usize, blocks: u8, load: u16, write: u16)
+pub fn put(catalog: &mut [u8], i: usize, item: Item)
     requires { HasItem catalog.old i }
-    ensures { catalog.new ≡ sets catalog.old (5 * i) (item_bytes (listed blocks load write)) }
+    ensures { catalog.new ≡ sets catalog.old (5 * i) (item_bytes (listed item.blocks item.load item.write)) }
 {
-    let at = 5 * i;
-    catalog[at] = blocks;
-    catalog[at + 1] = (load % 256) as u8;
-    catalog[at + 2] = (load / 256) as u8;
-    catalog[at + 3] = (write % 256) as u8;
-    catalog[at + 4] = (write / 256) as u8;
+    let at = ITEM_BYTES * i;
+    let [load_low, load_high] = item.load.to_le_bytes();
+    let [write_low, write_high] = item.write.to_le_bytes();
+    let bytes = [item.blocks, load_low, load_high, write_low, write_high];
+    catalog[at..at + ITEM_BYTES].copy_from_slice(&bytes);
 }

@@ -2,8 +2,9 @@
 use mathlib.Core.Path.{◌≡◌, refl}
 use mathlib.Core.List.{List, [], ◌∷◌, ◌++◌}
 use Prim.Native.Nat.{ℕ}
+use Rattle.std.specs.Prelude.{Ok, Err}
 use lib.ListN.{replicate}
-use Rattle.decimal.specs.declared.Number.TheVariants.{Malformed, OutOfRange, Value}
+use Rattle.decimal.specs.declared.NumberError.TheVariants.{Malformed, OutOfRange}
 use Rattle.decimal.specs.Decimal.{all_digits, leading_zero, shaped, value_of, digits_in, digits_of, wrote_of, page_of}
 use Rattle.decimal.specs.InnerReads.{read_of}
 
@@ -11,32 +12,32 @@ use Rattle.decimal.specs.InnerReads.{read_of}
 abbrev nines : List ℕ
 nines = replicate 20 57
 
-zero_alone : read_of (48 ∷ []) 999999 ≡ Value 0
+zero_alone : read_of (48 ∷ []) 999999 ≡ Ok 0
 unfolding read_of shaped all_digits leading_zero value_of
 zero_alone = refl
 
-zero_ahead : read_of (48 ∷ 55 ∷ []) 999999 ≡ Malformed
+zero_ahead : read_of (48 ∷ 55 ∷ []) 999999 ≡ Err Malformed
 unfolding read_of shaped all_digits leading_zero
 zero_ahead = refl
 
-nothing : read_of [] 999999 ≡ Malformed
+nothing : read_of [] 999999 ≡ Err Malformed
 unfolding read_of shaped all_digits leading_zero
 nothing = refl
 
-colon : read_of (49 ∷ 58 ∷ []) 999999 ≡ Malformed
+colon : read_of (49 ∷ 58 ∷ []) 999999 ≡ Err Malformed
 unfolding read_of shaped all_digits leading_zero
 colon = refl
 
-at_limit : read_of (replicate 6 57) 999999 ≡ Value 999999
+at_limit : read_of (replicate 6 57) 999999 ≡ Ok 999999
 unfolding read_of shaped all_digits leading_zero value_of
 at_limit = refl
 
-past_limit : read_of (49 ∷ replicate 6 48) 999999 ≡ OutOfRange
+past_limit : read_of (49 ∷ replicate 6 48) 999999 ≡ Err OutOfRange
 unfolding read_of shaped all_digits leading_zero value_of
 past_limit = refl
 
 -- no width makes a number ill-formed, and none is lost
-many_digits : read_of nines 18446744073709551615 ≡ OutOfRange
+many_digits : read_of nines 18446744073709551615 ≡ Err OutOfRange
 unfolding read_of shaped all_digits leading_zero value_of
 many_digits = refl
 
@@ -44,7 +45,7 @@ all_counted : value_of nines ≡ 99999999999999999999
 unfolding value_of
 all_counted = refl
 
-many_and_a_fault : read_of (nines ++ (58 ∷ [])) 999999 ≡ Malformed
+many_and_a_fault : read_of (nines ++ (58 ∷ [])) 999999 ≡ Err Malformed
 unfolding read_of shaped all_digits leading_zero
 many_and_a_fault = refl
 

@@ -10,7 +10,7 @@ use lib.ListN.{length, get_or, take, drop, set, length-append, length-drop, take
 use lib.Seq.{drop-cons, drop-drop, take_at, drop_at, length-take-le, take_all, set_split}
 use borrow.Rule.Slice.PartMut.{mid_of, put_mid, mid_len}
 use Rattle.decimal.specs.Decimal.{digits_of, wrote_of, page_of}
-use Rattle.decimal.specs.InnerPages.{text_over}
+use Rattle.decimal.specs.InnerPages.{text_over, labelled}
 use Rattle.decimal.proofs.Laws.{wrote_all, page_all}
 
 -- ## A text at a place of a page
@@ -161,3 +161,15 @@ go_as e g = rw e at g
 
 pub text_next : (t : List ℕ) (i : ℕ) → i < length t → drop i t ≡ get_or t i 0 ∷ drop (i + 1) t
 text_next t i h = rw (drop-cons t i 0 h, add-one)
+
+-- ## A number behind its label
+
+-- a label, and the number written into the rest of the page, by a writer that would leave it as it was if there were no room
+pub label_put :
+    (label : List ℕ) (v : ℕ) (before : List ℕ) {page ys : List ℕ} {a w : ℕ} →
+    length (labelled label v) ≤ length before →
+    (a ≡ length label) × (page ≡ text_over label before) →
+    (w ≡ wrote_of (digits_of v) (mid_of a (length page - a) page)) × (ys ≡ page_of (digits_of v) (mid_of a (length page - a) page)) →
+    (a + w ≡ length (labelled label v)) × (put_mid a (length page - a) page ys ≡ text_over (labelled label v) before)
+label_put label v before room put wrote =
+    go_end (go_number room v [] (go_as (sym (append-nil (digits_of v))) (go_first label (digits_of v) before room put.0 put.1)) wrote)

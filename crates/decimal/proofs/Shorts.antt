@@ -1,21 +1,20 @@
 -- The laws of short numbers: the digits of a number below 10,000, each known at once (two_digits ..), how many they are (short_count), and
 -- what the stores of them leave on a page. Assumes nothing.
 use mathlib.Core.Path.{◌≡◌, refl, ap, ◌∙◌}
-use mathlib.Core.Bool.{Bool, true, false}
 use mathlib.Core.Logic.{⊎_elim}
 use mathlib.Core.List.{List, ◌∷◌}
-use Prim.Native.Nat.{ℕ, ◌+◌, ◌*◌, ◌-◌, ◌^◌, ◌/◌, ◌%◌, ◌≤◌, ◌<◌}
+use Prim.Native.Nat.{ℕ, ◌+◌, ◌/◌, ◌%◌, ◌≤◌, ◌<◌}
 use native.Mathlib.Nat.{zero-add}
-use native.Mathlib.Numerals.{add-one}
 use native.Mathlib.Omega.{arith}
 use borrow.Author.Tests.{lt-ltb, le-ltb}
 use lib.Dec.{ltb}
-use lib.ListN.{length, set}
+use lib.ListN.{length, set, length-set}
 use lib.Seq.{sets, sets-eq}
 use mir.Val.{bool_byte}
+use Rattle.std.proofs.lemmas.Bool.{cases_lt}
 use Rattle.decimal.specs.Decimal.{digits_of}
 use Rattle.decimal.specs.InnerPages.{text_over, two_digits, three_digits}
-use Rattle.decimal.proofs.Laws.{less_or_not, digits_small, digits_big, length_small}
+use Rattle.decimal.proofs.Laws.{digits_small, digits_big, digits_some, length_small}
 
 -- ## The digits
 
@@ -52,22 +51,8 @@ count_four v a b = ap length (four_digits v a b)
 abbrev count_of : ℕ → ℕ
 count_of v = 1 + bool_byte (ltb 9 v) + bool_byte (ltb 99 v) + bool_byte (ltb 999 v)
 
-byte_small : (b : Bool) → bool_byte b ≤ 1
-byte_small true = omega arith
-byte_small false = omega arith
-
--- the sum has room in a word at each plus
-pub fits_one : (a : Bool) → 1 + bool_byte a < 2 ^ 64
-fits_one a = omega (arith, byte_small a)
-
-pub fits_two : (a b : Bool) → 1 + bool_byte a + bool_byte b < 2 ^ 64
-fits_two a b = omega (arith, byte_small a, byte_small b)
-
-pub fits_three : (a b c : Bool) → 1 + bool_byte a + bool_byte b + bool_byte c < 2 ^ 64
-fits_three a b c = omega (arith, byte_small a, byte_small b, byte_small c)
-
 pub short_count : (v : ℕ) → v < 10000 → count_of v ≡ length (digits_of v)
-short_count v h = ⊎_elim one (λ a. ⊎_elim (two a) (λ b. ⊎_elim (three b) four (less_or_not v 1000)) (less_or_not v 100)) (less_or_not v 10)
+short_count v h = ⊎_elim one (λ a. ⊎_elim (two a) (λ b. ⊎_elim (three b) four (cases_lt v 1000)) (cases_lt v 100)) (cases_lt v 10)
   where
     one : v < 10 → count_of v ≡ length (digits_of v)
     one a = rw (le-ltb 9 v (omega arith), le-ltb 99 v (omega arith), le-ltb 999 v (omega arith), length_small v a)
@@ -83,28 +68,11 @@ short_count v h = ⊎_elim one (λ a. ⊎_elim (two a) (λ b. ⊎_elim (three b)
 
 -- ## The stores of them
 
-pub two_stored :
-    (page : List ℕ) (at v : ℕ) {a b : ℕ} → a ≡ 48 + v / 10 → b ≡ 48 + (v - 10 * (v / 10)) →
-    set (set page at a) (at + 1) b ≡ sets page at (two_digits v)
-two_stored page at v p q =
-    let low : v - 10 * (v / 10) ≡ v % 10 = omega arith in
-    rw (p, q, low, add-one)
-
-pub three_stored :
-    (page : List ℕ) (at v : ℕ) {a : ℕ} {after : List ℕ} → a ≡ 48 + v / 100 →
-    after ≡ sets (set page at a) (at + 1) (two_digits (v - 100 * (v / 100))) →
-    after ≡ sets page at (three_digits v)
-three_stored page at v p q =
-    let low : v - 100 * (v / 100) ≡ v % 100 = omega arith in
-    rw (q, p, low, add-one)
-
 pub four_stored :
     (page : List ℕ) (v : ℕ) {a : ℕ} {after : List ℕ} → a ≡ 48 + v / 1000 →
-    after ≡ sets (set page 0 a) 1 (three_digits (v - 1000 * (v / 1000))) →
+    after ≡ sets (set page 0 a) 1 (three_digits (v % 1000)) →
     after ≡ sets page 0 ((48 + v / 1000) ∷ three_digits (v % 1000))
-four_stored page v p q =
-    let low : v - 1000 * (v / 1000) ≡ v % 1000 = omega arith in
-    rw (q, p, low)
+four_stored page v p q = rw (q, p)
 
 -- the digits stored from the page's start on are the text over the page
 pub digits_stored :
@@ -113,3 +81,6 @@ pub digits_stored :
 digits_stored v page t e h q =
     let room : length t ≤ length page = rw e at h in
     rw e (refl, q ∙ sets-eq t page 0 (omega arith) ∙ rw zero-add)
+
+-- what one needs of a number stored
+pub ruleset stored = (digits_small, digits_some, two_digits_lem, three_digits_lem, four_digits, count_four, digits_stored, four_stored, length-set)

@@ -1,17 +1,17 @@
--- The laws of two texts compared: they are one just if they have the same bytes (same_refl, same_true), and what each turn of comparing
--- them byte by byte decides. Assumes nothing.
+-- The laws of two texts compared: they are one just if they have the same bytes (same_refl, same_true), and the library's `==` on bytes
+-- compares them so (same_pointwise). Assumes nothing.
 use mathlib.Core.Path.{◌≡◌, refl, sym, ap, ◌∙◌}
 use mathlib.Core.Bool.{Bool, true, false, ◌&&◌, and-eq-true_iff, false≢true}
 use mathlib.Core.List.{List, [], ◌∷◌}
-use Prim.Native.Nat.{ℕ, suc, ◌+◌, ◌≤◌, ◌<◌}
-use native.Mathlib.Numerals.{add-one}
-use native.Mathlib.Omega.{arith}
-use borrow.Author.Tests.{eqb-true, eq-eqb, ne_eqb}
+use Prim.Native.Nat.{ℕ, suc}
+use borrow.Author.Tests.{eqb-true, eq-eqb}
 use lib.Dec.{eqb}
-use lib.ListN.{length, get_or, drop, drop_of_length-le}
-use lib.Seq.{drop-cons}
+use lib.ListN.{length}
+use native.Mathlib.Omega.{arith}
+use Rattle.std.proofs.lemmas.Bool.Decides.{nat_tests}
+use Rattle.std.proofs.Math.Bool.{and-false}
+use Rattle.std.specs.Cmp.Lexicographic.{pointwise}
 use Rattle.decimal.specs.Decimal.{same_text}
-use Rattle.decimal.proofs.Laws.{and_false}
 
 -- a text is one with itself
 pub same_refl : (s : List ℕ) → same_text s s ≡ true
@@ -31,6 +31,25 @@ same_true (x ∷ s) (y ∷ t) h =
     let f = same_true s t p.1 in
     cc
 
+eqb_comm : (x y : ℕ) → eqb x y ≡ eqb y x
+eqb_comm x y = grind (arith, nat_tests)
+
+-- the order of the two does not matter
+pub same_comm : (s t : List ℕ) → same_text s t ≡ same_text t s
+unfolding same_text
+same_comm [] [] = refl
+same_comm [] (y ∷ t) = refl
+same_comm (x ∷ s) [] = refl
+same_comm (x ∷ s) (y ∷ t) = rw (eqb_comm x y, same_comm s t)
+
+-- the library's `==` on bytes
+pub same_pointwise : (s t : List ℕ) → pointwise eqb s t ≡ same_text s t
+unfolding same_text
+same_pointwise [] [] = refl
+same_pointwise [] (y ∷ t) = refl
+same_pointwise (x ∷ s) [] = refl
+same_pointwise (x ∷ s) (y ∷ t) = rw (same_pointwise s t)
+
 -- texts of two lengths differ
 pub same_lengths : (s t : List ℕ) → (length s ≡ length t → ⊥) → false ≡ same_text s t
 unfolding same_text
@@ -38,21 +57,4 @@ same_lengths [] [] h = absurd (h refl)
 same_lengths [] (y ∷ t) h = refl
 same_lengths (x ∷ s) [] h = refl
 same_lengths (x ∷ s) (y ∷ t) h =
-    sym (and_false (eqb x y)) ∙ ap (λ (b : Bool). eqb x y && b) (same_lengths s t (λ e. h (ap suc e)))
-
--- a byte that is the same: the rest decides
-pub same_step : (s t : List ℕ) (i : ℕ) → i < length s → i < length t → get_or s i 0 ≡ get_or t i 0 → same_text (drop (i + 1) s) (drop (i + 1) t) ≡ same_text (drop i s) (drop i t)
-unfolding same_text
-same_step s t i a b e = rw (drop-cons s i 0, drop-cons t i 0, add-one, eq-eqb (get_or s i 0) (get_or t i 0) e)
-
--- and one that is not
-pub same_differs : (s t : List ℕ) (i : ℕ) → i < length s → i < length t → (get_or s i 0 ≡ get_or t i 0 → ⊥) → false ≡ same_text (drop i s) (drop i t)
-unfolding same_text
-same_differs s t i a b e = rw (drop-cons s i 0, drop-cons t i 0, ne_eqb (get_or s i 0) (get_or t i 0) e)
-
--- nothing is left to compare
-pub same_end : (s t : List ℕ) (i : ℕ) → length s ≡ length t → length s ≤ i → true ≡ same_text (drop i s) (drop i t)
-unfolding same_text
-same_end s t i e a =
-    let b : length t ≤ i = omega arith in
-    rw (drop_of_length-le s a, drop_of_length-le t b)
+    sym (and-false (eqb x y)) ∙ ap (λ (b : Bool). eqb x y && b) (same_lengths s t (λ e. h (ap suc e)))

@@ -1,8 +1,8 @@
 -- What the loops of this crate keep from turn to turn: what is left to do, done from here on, leads to what the contract asks.
--- Each loop has a law for its start, for a turn, and for its end. Assumes nothing.
-use mathlib.Core.Path.{◌≡◌, refl}
+-- Assumes nothing.
+use mathlib.Core.Path.{◌≡◌}
 use mathlib.Core.List.{List}
-use Prim.Native.Nat.{ℕ, zero, suc, ◌+◌, ◌*◌, ◌-◌, ◌/◌, ◌%◌, ◌^◌, ◌≤◌, ◌<◌}
+use Prim.Native.Nat.{ℕ, suc, ◌+◌, ◌*◌, ◌-◌, ◌/◌, ◌%◌, ◌^◌, ◌≤◌, ◌<◌}
 use native.Mathlib.Nat.{pow-suc, pow-le-pow_right, lt_of_lt_of_le}
 use native.Mathlib.Omega.{arith}
 use lib.ListN.{length, get_or, set}
@@ -10,19 +10,19 @@ use lib.Seq.{sets, drop-cons}
 use Rattle.fields.specs.LittleEndian.{from_bytes, number_at, to_bytes}
 
 -- put: with one byte stored, the rest of them lead to the same list
-pub put_step : (buf : List ℕ) (at i rest x : ℕ) → 0 < rest → sets (set buf (at + i) (x % 256)) (at + (i + 1)) (to_bytes (rest - 1) (x / 256)) ≡ sets buf (at + i) (to_bytes rest x)
+pub put_step : (buf : List ℕ) (at w i x : ℕ) → i < w → sets (set buf (at + i) (x % 256)) (at + (i + 1)) (to_bytes (w - (i + 1)) (x / 256)) ≡ sets buf (at + i) (to_bytes (w - i) x)
 unfolding to_bytes
-put_step buf at i zero x h = absurd (omega arith)
-put_step buf at i (suc rest) x h =
-    let e : suc rest - 1 ≡ rest = omega arith in
+put_step buf at w i x h =
+    let e : w - i ≡ suc (w - (i + 1)) = omega arith in
     let f : at + (i + 1) ≡ suc (at + i) = omega arith in
     rw (e, f)
 
 -- put: no byte left
-pub put_done : (buf : List ℕ) (to rest x : ℕ) → rest ≤ 0 → sets buf to (to_bytes rest x) ≡ buf
+pub put_done : (buf : List ℕ) (to w i x : ℕ) → w ≤ i → sets buf to (to_bytes (w - i) x) ≡ buf
 unfolding to_bytes
-put_done buf to zero x h = refl
-put_done buf to (suc rest) x h = absurd (omega arith)
+put_done buf to w i x h =
+    let e : w - i ≡ 0 = omega arith in
+    rw e
 
 -- get: no byte yet
 pub get_start : (buf : List ℕ) (at w : ℕ) → (0 < 256 ^ (w - w)) × (0 ≡ number_at buf (at + w) (w - w))
@@ -49,10 +49,3 @@ get_lt x b w i p q h k =
 -- get: while a byte is left to read, one more still fits
 pub get_fits : (x w i : ℕ) → 0 < i → w ≤ 8 → x < 256 ^ (w - i) → x < 256 ^ 7
 get_fits x w i p q h = lt_of_lt_of_le h (pow-le-pow_right {n = 256} (omega arith) {i = w - i} {j = 7} (omega arith))
-
--- get: no byte left
-pub get_done : (buf : List ℕ) (at w i x : ℕ) → i ≤ 0 → x < 256 ^ (w - i) → x ≡ number_at buf (at + i) (w - i) → (x ≡ number_at buf at w) × (x < 256 ^ w)
-get_done buf at w i x z h e =
-    let p : w - i ≡ w = omega arith in
-    let q : at + i ≡ at = omega arith in
-    (rw (p, q) at e, rw p at h)

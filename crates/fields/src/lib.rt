@@ -14,13 +14,9 @@ pub fn put(buf: &mut [u8], at: usize, w: usize, v: u64)
     ensures { buf.new ≡ sets buf.old at (to_bytes w v) }
 {
     let mut x = v;
-    let mut i: usize = 0;
-    let mut rest = w;
-    while 0 < rest {
-        rest -= 1;
+    for i in 0..w {
         buf[at + i] = (x % 256) as u8;
-        x = x / 256;
-        i += 1;
+        x /= 256;
     }
 }
 
@@ -30,9 +26,7 @@ pub fn get(buf: &[u8], at: usize, w: usize) -> u64
     ensures { (result ≡ number_at buf.now at w) × (result < 256 ^ w) }
 {
     let mut x = 0;
-    let mut i = w;
-    while 0 < i {
-        i -= 1;
+    for i in (0..w).rev() {
         x = x * 256 + buf[at + i] as u64;
     }
     x

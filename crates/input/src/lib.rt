@@ -17,6 +17,7 @@ pub fn read_all<R: Read>(from: &mut R, text: &mut [u8]) -> io::Result<usize>
     ensures whole { IfOk result (λ n. n < length text.new → IsAtEnd (R.remaining from.new)) }
     ensures failed { OnErr result ((n : ℕ) × (n ≤ length text.new) × Consumes (R.remaining from.old) (R.remaining from.new) (take n text.new)) }
 {
+    // Kept by hand: std's read_exact and read_to_end say little of what stands in the buffer where a read fails.
     let mut n = 0;
     while n < text.len() {
         let more = from.read(&mut text[n..])?;

@@ -7,7 +7,7 @@ use Prim.Native.Nat.{ℕ, zero, suc, ◌≤◌, ◌<◌}
 use native.Mathlib.Omega.{arith}
 use lib.ListN.{length}
 use lib.Dec.{leb, eqb}
-use borrow.Author.Tests.{leb-true, ne_eqb, le-leb, lt-leb}
+use borrow.Author.Tests.{not-true, leb-true, ne_eqb, le-leb, lt-leb}
 use Rattle.types.specs.declared.Numbers.{Numbers}
 use Rattle.types.specs.Types.{is_deduction}
 use Rattle.landlord.specs.Fold.{tab}
@@ -76,16 +76,12 @@ catalog_ok cat f = rw (le-leb (length cat) 256 f.few, all_ok cat f.each)
 
 -- ## A catalog of which no item has left
 
-not_true : (t : Bool) → not t ≡ true → t ≡ false
-not_true true e = absurd (false≢true e)
-not_true false e = refl
-
 -- none has left, and nothing past the end has
 pub none_left_at : (cat : Catalog) → none_left cat ≡ true → (i : ℕ) → (item_at cat i).left ≡ false
 unfolding none_left
 none_left_at [] e zero = refl
 none_left_at [] e (suc i) = refl
-none_left_at (x ∷ items) e zero = not_true x.left (and_left (not x.left) (none_left items) e)
+none_left_at (x ∷ items) e zero = not-true x.left (and_left (not x.left) (none_left items) e)
 none_left_at (x ∷ items) e (suc i) = none_left_at items (and_right (not x.left) (none_left items) e) i
 
 pub none_left_ok : (cat : Catalog) → ((i : ℕ) → i < length cat → (item_at cat i).left ≡ false) → none_left cat ≡ true
@@ -155,24 +151,7 @@ pub rule_refused : (o : Opening Catalog) → OpeningRanges o → is_deduction o.
 unfolding opening_refusal
 rule_refused o f odd = rw (f.capacity, f.catalog, f.fresh, odd)
 
--- ## An item's values, test by test
-
-pub range_empty : (b l w : ℕ) → b < 1 → false ≡ item_in_range (listed b l w)
-range_empty b l w q = rw (lt-leb 1 b q)
-
-pub range_large : (b l w : ℕ) → 1 ≤ b → 16 < b → false ≡ item_in_range (listed b l w)
-range_large b l w some q = rw (le-leb 1 b some, lt-leb b 16 q)
-
-pub range_dear : (b l w : ℕ) → 1 ≤ b → b ≤ 16 → 65535 < l → false ≡ item_in_range (listed b l w)
-range_dear b l w some small q = rw (blocks_ok b some small, lt-leb l 65535 q)
-
-pub range_item : (b l w : ℕ) → 1 ≤ b → b ≤ 16 → l ≤ 65535 → cost_in_range w ≡ item_in_range (listed b l w)
-range_item b l w some small q = rw (blocks_ok b some small, le-leb l 65535 q)
-
 -- ## A step, test by test
-
-pub range_flush : (n : Numbers) → n.kind ≡ 76 → true ≡ in_range n
-range_flush n e = rw e
 
 -- a step that names an item, where the number is none's
 pub range_wide : (n : Numbers) → n.kind ≢ 76 → 255 < n.item → false ≡ in_range n
@@ -185,20 +164,8 @@ range_wide n o l = rw (lt-leb n.item 255 l, ne_eqb n.kind 76 o) (go (eqb n.kind 
     go false false false true = refl
     go false false false false = refl
 
-pub range_read : (n : Numbers) → n.kind ≡ 82 → n.item ≤ 255 → true ≡ in_range n
-range_read n e l = rw (e, le-leb n.item 255 l)
-
 pub range_write : (n : Numbers) → n.kind ≡ 87 → n.item ≤ 255 → leb n.minutes 1440 ≡ in_range n
 range_write n e l = rw (e, le-leb n.item 255 l)
 
 pub range_arrive : (n : Numbers) → n.kind ≡ 65 → n.item ≤ 255 → item_in_range (listed n.blocks n.load n.write) ≡ in_range n
 range_arrive n e l = rw (e, le-leb n.item 255 l)
-
--- a retirement, or else a kind that is none
-pub range_retire : (n : Numbers) → n.kind ≢ 76 → n.item ≤ 255 → n.kind ≢ 82 → n.kind ≢ 87 → n.kind ≢ 65 → eqb n.kind 81 ≡ in_range n
-range_retire n f l r w a =
-    rw (ne_eqb n.kind 82 r, ne_eqb n.kind 87 w, ne_eqb n.kind 65 a, ne_eqb n.kind 76 f, le-leb n.item 255 l) (go (eqb n.kind 81))
-  where
-    go : (t : Bool) → t ≡ cond t true false
-    go true = refl
-    go false = refl

@@ -14,8 +14,8 @@ pub fn split(rule: Deduction, loss: u64, load: u64, write: u64) -> u64
     ensures { (blocks : ℕ) → result ≡ split_of rule blocks loss load write }
 {
     match rule {
-        Deduction::WriteFirst => if loss < write { loss } else { write },
-        Deduction::LoadFirst => if load < loss { loss - load } else { 0 },
+        Deduction::WriteFirst => loss.min(write),
+        Deduction::LoadFirst => loss.saturating_sub(load),
     }
 }
 
@@ -23,46 +23,27 @@ pub fn split(rule: Deduction, loss: u64, load: u64, write: u64) -> u64
 pub fn item_in_range(blocks: u32, load: u32, write: u32) -> bool
     ensures { result ≡ item_in_range (listed blocks load write) }
 {
-    if blocks < 1 {
-        return false;
-    }
-    if 16 < blocks {
-        return false;
-    }
-    if 65535 < load {
-        return false;
-    }
-    write <= 65535
+    (1..=16).contains(&blocks) && load <= 65535 && write <= 65535
 }
 
 // Whether a step's kind is one of R, W, L, A and Q, and the values that such a step has are in their ranges.
-fn in_range(n: Numbers) -> bool
+pub fn in_range(n: Numbers) -> bool
     ensures { result ≡ in_range n }
 {
-    if n.kind == types::FLUSH {
-        return true;
+    let item = n.item <= 255;
+    match n.kind {
+        types::READ | types::RETIRE => item,
+        types::WRITE => item && n.minutes <= 1440,
+        types::ARRIVE => item && item_in_range(n.blocks, n.load, n.write),
+        types::FLUSH => true,
+        _ => false,
     }
-    if 255 < n.item {
-        return false;
-    }
-    if n.kind == types::READ {
-        return true;
-    }
-    if n.kind == types::WRITE {
-        return n.minutes <= 1440;
-    }
-    if n.kind == types::ARRIVE {
-        return item_in_range(n.blocks, n.load, n.write);
-    }
-    n.kind == types::RETIRE
 }
 
 // What a step is refused with by its numbers: 3 if they are out of range, else 0.
+#[tactic(auto, unfolding(crate::specs::Steps::range_refusal))]
 pub fn range_refusal(n: Numbers) -> u32
     ensures { result ≡ range_refusal n }
 {
-    if in_range(n) {
-        return 0;
-    }
-    3
+    if in_range(n) { 0 } else { 3 }
 }

@@ -1,72 +1,45 @@
 -- The laws that a scan over lines and fields by positions cites: how a text falls into pieces at its first separator, and whether one
 -- of some fields is empty. Assumes nothing.
-use mathlib.Core.Path.{◌≡◌, refl, ap}
-use mathlib.Core.Bool.{Bool, true, false, cond, not, and-false}
+use mathlib.Core.Path.{◌≡◌, refl}
+use mathlib.Core.Bool.{true, false}
 use mathlib.Core.List.{List, [], ◌∷◌, ◌++◌}
-use mathlib.Core.Logic.{◌⊎◌, inl, inr, ⊎_elim}
+use mathlib.Core.Logic.{◌⊎◌, ⊎_elim}
 use Prim.Native.Nat.{ℕ, zero, suc, ◌+◌, ◌≤◌, ◌<◌}
 use native.Mathlib.Numerals.{add-one}
 use native.Mathlib.Omega.{arith}
-use borrow.Author.Tests.{leb-true, leb-false}
-use lib.Dec.{leb, eqb}
 use lib.ListN.{length, take, drop}
+use Rattle.std.proofs.lemmas.Grind.{common_steps}
 use Rattle.decimal.specs.Decimal.{shaped}
 use Rattle.line_fields.specs.declared.Field.{Field}
 use Rattle.line_fields.specs.declared.Field.TheVariants.{Empty}
-use Rattle.line_fields.specs.Fields.{onto, split, field_of, all_fields, fields_of, field_at, is_empty, none_empty}
+use Rattle.line_fields.specs.Fields.{split, field_of, all_fields, fields_of, field_at, is_empty, none_empty}
 use Rattle.line_fields.specs.Inner.{before}
-use Rattle.line_fields.proofs.Laws.{and_parts}
 
 -- ## A text and its first separator
 
 pub before_le : (b : ℕ) (s : List ℕ) → length (before b s) ≤ length s
 unfolding before
-before_le b [] = omega arith
-before_le b (x ∷ s) = go (eqb x b) (before_le b s)
-  where
-    go : (t : Bool) → length (before b s) ≤ length s → length (cond t [] (x ∷ before b s)) ≤ suc (length s)
-    go true h = omega arith
-    go false h = omega arith
+before_le b [] = grind arith
+before_le b (x ∷ s) = grind (arith, before_le b s)
 
 pub before_take : (b : ℕ) (s : List ℕ) → take (length (before b s)) s ≡ before b s
 unfolding before
 before_take b [] = refl
-before_take b (x ∷ s) = go (eqb x b) (before_take b s)
-  where
-    go :
-        (t : Bool) →
-        take (length (before b s)) s ≡ before b s →
-        take (length (cond t [] (x ∷ before b s))) (x ∷ s) ≡ cond t [] (x ∷ before b s)
-    go true h = refl
-    go false h = ap (λ (l : List ℕ). x ∷ l) h
+before_take b (x ∷ s) = grind (arith, common_steps, before_take b s)
 
 pub split_last : (b : ℕ) (s : List ℕ) → length s ≤ length (before b s) → split b s ≡ before b s ∷ []
 unfolding before split
 split_last b [] h = refl
-split_last b (x ∷ s) h = go (eqb x b) h (split_last b s)
-  where
-    go :
-        (t : Bool) →
-        suc (length s) ≤ length (cond t [] (x ∷ before b s)) →
-        (length s ≤ length (before b s) → split b s ≡ before b s ∷ []) →
-        cond t ([] ∷ split b s) (onto x (split b s)) ≡ cond t [] (x ∷ before b s) ∷ []
-    go true h e = absurd (omega arith)
-    go false h e = ap (onto x) (e (omega arith))
+split_last b (x ∷ s) h = grind (arith, split_last b s)
 
 pub split_more :
     (b : ℕ) (s : List ℕ) → length (before b s) < length s → split b s ≡ before b s ∷ split b (drop (length (before b s) + 1) s)
 unfolding before split
-split_more b [] h = absurd (omega arith)
-split_more b (x ∷ s) h = go (eqb x b) h (split_more b s)
+split_more b s h = rw add-one (next s h)
   where
-    go :
-        (t : Bool) →
-        length (cond t [] (x ∷ before b s)) < suc (length s) →
-        (length (before b s) < length s → split b s ≡ before b s ∷ split b (drop (length (before b s) + 1) s)) →
-        cond t ([] ∷ split b s) (onto x (split b s))
-        ≡ cond t [] (x ∷ before b s) ∷ split b (drop (length (cond t [] (x ∷ before b s)) + 1) (x ∷ s))
-    go true h e = refl
-    go false h e = rw (add-one (suc (length (before b s)))) (rw add-one at (ap (onto x) (e (omega arith))))
+    next : (s : List ℕ) → length (before b s) < length s → split b s ≡ before b s ∷ split b (drop (suc (length (before b s))) s)
+    next [] h = absurd (omega arith)
+    next (x ∷ s) h = grind (arith, next s)
 
 -- the first piece of any text is what stands before the first b
 pub split_some : (b : ℕ) (s : List ℕ) → (ps : List (List ℕ)) × (split b s ≡ before b s ∷ ps)
@@ -75,11 +48,7 @@ split_some b s =
     (least (length s) (length (before b s)))
   where
     least : (m n : ℕ) → (m ≤ n) ⊎ (n < m)
-    least m n = go (leb m n) refl
-      where
-        go : (t : Bool) → leb m n ≡ t → (m ≤ n) ⊎ (n < m)
-        go true e = inl (leb-true m n e)
-        go false e = inr (leb-false m n e)
+    least m n = grind arith
 
 -- ## The fields of a line
 
@@ -109,13 +78,11 @@ pub one_empty : (fs : List Field) (j : ℕ) → j < length fs → is_empty (fiel
 unfolding none_empty
 one_empty [] j h e = absurd (omega arith)
 one_empty (f ∷ fs) zero h e = rw e
-one_empty (f ∷ fs) (suc j) h e = rw (one_empty fs j (omega arith) e, and-false (not (is_empty f)))
+one_empty (f ∷ fs) (suc j) h e = grind (arith, one_empty fs j)
 
 -- one more field that is not empty
 pub none_empty_more :
     (fs : List Field) (f : Field) → none_empty fs ≡ true → is_empty f ≡ false → none_empty (fs ++ (f ∷ [])) ≡ true
 unfolding none_empty
 none_empty_more [] f h e = rw e
-none_empty_more (g ∷ fs) f h e =
-    let both = and_parts (not (is_empty g)) (none_empty fs) h in
-    rw (both.0, none_empty_more fs f both.1 e)
+none_empty_more (g ∷ fs) f h e = grind (arith, none_empty_more fs f)

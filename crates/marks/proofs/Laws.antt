@@ -14,6 +14,9 @@ use lib.Count.{ones, ones_step, ones-le, count_trailing_zeros, under}
 use lib.Dec.{eqb}
 use lib.ListN.{length, get_or, set, drop, length-set, length-drop, drop_of_length-le, get_or-eq_default}
 use lib.Pow.{pow_pos, pow_mono, pow-lt, shr_lt, shr-shr, shr_le, shl_exact}
+use Rattle.std.specs.List.{sum_by}
+use mir.Syntax.{w64}
+use mir.Val.{Fits}
 use lib.Seq.{ext_get_or, get_or-set_same, get_or-set_other, get_or-drop, drop-drop, set_out}
 use Rattle.marks.specs.Marks.{bit, marked}
 use Rattle.marks.specs.Inner.{marks_from, marks, count_set, first_set}
@@ -201,21 +204,26 @@ count_word (suc n) f i w h d =
         let e : suc i + j ≡ i + suc j = omega arith in
         ap f e ∙ d (suc j) (omega arith) ∙ ap (λ x. eqb x 1) (bit_suc w j)
 
-pub count_marks : (ws : List ℕ) → get_or ws 0 0 < 2 ^ 64 → get_or ws 1 0 < 2 ^ 64 → get_or ws 2 0 < 2 ^ 64 → get_or ws 3 0 < 2 ^ 64
-    → ones (get_or ws 0 0) + ones (get_or ws 1 0) + ones (get_or ws 2 0) + ones (get_or ws 3 0) ≡ count_set (marks ws)
+-- the words together have as many digits 1 as marks are set
+pub count_marks : (ws : List ℕ) → length ws ≡ 4 → ((k : ℕ) → Fits w64 (get_or ws k 0)) → sum_by ones ws ≡ count_set (marks ws)
 unfolding marks
-count_marks ws a b c d =
-    let f = marked ws in
+count_marks (a ∷ b ∷ c ∷ d ∷ []) n fit =
+    let f = marked (a ∷ b ∷ c ∷ d ∷ []) in
     omega (
       arith,
       count_split 64 192 f 0,
       count_split 64 128 f 64,
       count_split 64 64 f 128,
-      count_word 64 f 0 (get_or ws 0 0) a (place ws 0),
-      count_word 64 f 64 (get_or ws 1 0) b (place ws 1),
-      count_word 64 f 128 (get_or ws 2 0) c (place ws 2),
-      count_word 64 f 192 (get_or ws 3 0) d (place ws 3),
+      count_word 64 f 0 a (fit 0).fits (place (a ∷ b ∷ c ∷ d ∷ []) 0),
+      count_word 64 f 64 b (fit 1).fits (place (a ∷ b ∷ c ∷ d ∷ []) 1),
+      count_word 64 f 128 c (fit 2).fits (place (a ∷ b ∷ c ∷ d ∷ []) 2),
+      count_word 64 f 192 d (fit 3).fits (place (a ∷ b ∷ c ∷ d ∷ []) 3),
     )
+count_marks [] n fit = absurd (omega arith)
+count_marks (a ∷ []) n fit = absurd (omega arith)
+count_marks (a ∷ b ∷ []) n fit = absurd (omega arith)
+count_marks (a ∷ b ∷ c ∷ []) n fit = absurd (omega arith)
+count_marks (a ∷ b ∷ c ∷ d ∷ e ∷ ws) n fit = absurd (omega arith)
 
 -- ---- the first that is set
 

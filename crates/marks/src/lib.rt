@@ -5,38 +5,41 @@
 ghost use Rattle.std.specs.Prelude.{◌+◌, ◌≡◌, true, false, set, drop};
 ghost use Rattle.marks.specs.Inner.{marks, count_set, first_set};
 
+// The marks with mark `i` as `marked` says.
+fn with_mark(words: [u64; 4], i: usize, marked: bool) -> [u64; 4]
+    ensures { marks result ≡ set (marks words) i marked }
+{
+    let mut out = words;
+    if i < 256 {
+        let digit = 1 << (i % 64);
+        if marked {
+            out[i / 64] |= digit;
+        } else {
+            out[i / 64] &= !digit;
+        }
+    }
+    out
+}
+
 // The marks with mark `i` set.
 pub fn mark(words: [u64; 4], i: usize) -> [u64; 4]
     ensures { marks result ≡ set (marks words) i true }
 {
-    let mut out = words;
-    if i >= 256 {
-        return out;
-    }
-    out[i / 64] = words[i / 64] | (1 << (i % 64));
-    out
+    with_mark(words, i, true)
 }
 
 // The marks with mark `i` cleared.
 pub fn unmark(words: [u64; 4], i: usize) -> [u64; 4]
     ensures { marks result ≡ set (marks words) i false }
 {
-    let mut out = words;
-    if i >= 256 {
-        return out;
-    }
-    out[i / 64] = words[i / 64] & !(1 << (i % 64));
-    out
+    with_mark(words, i, false)
 }
 
 // How many marks are set.
 pub fn count(words: [u64; 4]) -> u32
     ensures { result ≡ count_set (marks words) }
 {
-    u64::count_ones(words[0])
-        + u64::count_ones(words[1])
-        + u64::count_ones(words[2])
-        + u64::count_ones(words[3])
+    words.iter().map(|word| word.count_ones()).sum()
 }
 
 // The first set mark at or after `from`. Where there is none it is 256, or `from` itself if that lies past the marks.

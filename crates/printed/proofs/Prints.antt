@@ -6,35 +6,16 @@ use Prim.Native.Nat.{ℕ, ◌≤◌}
 use native.Mathlib.Omega.{arith}
 use lib.ListN.{length, drop}
 use borrow.Author.Tests.{le-leb}
+use Rattle.std.specs.Prelude.{Result, Ok, Err}
 use Rattle.types.specs.declared.Refusal.{Refusal}
 use Rattle.types.specs.declared.Refusal.TheVariants.{ShortBuffer}
 use Rattle.types.specs.Types.{Told, telling, nothing_told, told}
 use Rattle.types.proofs.Refusals.{refusal_one, refused_some}
 use Rattle.decimal.specs.Decimal.{fits, wrote_of, page_of}
 use Rattle.decimal.proofs.Laws.{wrote_all, wrote_fits, page_all, page_length}
-use Rattle.report.specs.declared.Written.{Written}
-use Rattle.report.specs.declared.Written.TheVariants.{Text, Refused}
-use Rattle.report.specs.Report.{refusal_text, written_length, Put, longest}
+use Rattle.report.specs.Report.{refusal_text, longest}
 use Rattle.printed.specs.Printed.{Outcome, refused, prints, Yields, printed_on, output_of, Printed, printed_bytes, printed_page}
 use Rattle.printed.specs.Inner.{OutcomeFits, RefusalFits}
-
--- what `print` ensures
-abbrev Prints : Written → List ℕ → ℕ → List ℕ → Type 0
-Prints w page n after = (n ≡ printed_bytes w page) × ((after ≡ printed_page w page) × RefusalFits w)
-
--- a text stands on the page already
-pub print_text : (w : Written) (n : ℕ) (page : List ℕ) → w ≡ Text n → Prints w page n page
-print_text w n page e = subst (λ (z : Written). Prints z page n page) (sym e) (refl, (refl, tt))
-
--- a refusal is put there
-pub print_refusal :
-    (w z : Written) (r : Refusal) (n : ℕ) (page after : List ℕ) →
-    w ≡ Refused r →
-    Put (refusal_text r) page z after →
-    length (refusal_text r) ≤ longest →
-    written_length z ≡ n →
-    Prints w page n after
-print_refusal w z r n page after e put few is = subst (λ (v : Written). Prints v page n after) (sym e) (sym is ∙ put.size, (put.page, few))
 
 -- the text was put on the page
 text_fits : (b : Bool) → nothing_told ≡ telling (cond b 0 15) 0 0 → b ≡ true
@@ -77,7 +58,7 @@ on_page most o before after t n f short is e p = (
 
 -- an answer that is printed on its page
 pub answer_printed :
-    (most : ℕ) (o : Outcome) (before : List ℕ) (w : Written) (middle : List ℕ) (n : ℕ) (after : List ℕ) →
+    (most : ℕ) (o : Outcome) (before : List ℕ) (w : Result ℕ Refusal) (middle : List ℕ) (n : ℕ) (after : List ℕ) →
     longest ≤ most →
     OutcomeFits most o →
     Yields o before w middle →
@@ -85,19 +66,19 @@ pub answer_printed :
     n ≡ printed_bytes w middle →
     after ≡ printed_page w middle →
     Printed most o before n after × (n ≤ length after)
-answer_printed most (refused x) before (Text m) middle n after room f a s e p =
+answer_printed most (refused x) before (Ok m) middle n after room f a s e p =
     absurd (refused_some x (ap (λ (t : Told). t.number) (sym a.0)))
-answer_printed most (refused x) before (Refused y) middle n after room f a s e p =
+answer_printed most (refused x) before (Err y) middle n after room f a s e p =
     let same : refusal_text x ≡ refusal_text y = ap refusal_text (sym (refusal_one y x a.0)) in
     on_page most (refused x) before after (refusal_text y) n f (omega (arith, ap length same, s)) same
     (e ∙ ap (wrote_of (refusal_text y)) a.1)
     (p ∙ ap (page_of (refusal_text y)) a.1)
-answer_printed most (prints t) before (Text m) middle n after room f a s e p =
+answer_printed most (prints t) before (Ok m) middle n after room f a s e p =
     on_page most (prints t) before after t n f f
     (ap (λ (b : Bool). cond b t (refusal_text (ShortBuffer 0))) (text_fits (fits t before) a.tells))
     (e ∙ a.size)
     (p ∙ a.page)
-answer_printed most (prints t) before (Refused y) middle n after room f a s e p =
+answer_printed most (prints t) before (Err y) middle n after room f a s e p =
     let short = text_short (fits t before) y a.tells in
     let same : middle ≡ before = a.page ∙ unfold page_of in ap (λ (b : Bool). cond b (t ++ drop (length t) before) before) short.0 in
     on_page most (prints t) before after (refusal_text y) n f f

@@ -5,6 +5,7 @@ use Prim.Native.Nat.{ℕ, zero, suc, ◌+◌, ◌*◌, ◌-◌, ◌^◌, ◌≤�
 use native.Mathlib.Nat.{le_refl}
 use native.Mathlib.Omega.{arith}
 use lib.ListN.{length, drop, length-append}
+use Rattle.std.specs.Prelude.{Option, None, Some}
 use Rattle.decimal.specs.Decimal.{digits_of}
 use Rattle.decimal.proofs.Laws.{digits_length}
 use Rattle.types.specs.declared.Refusal.{Refusal}
@@ -17,14 +18,13 @@ use Rattle.cache_state.specs.Cache.{Cache, uses_of, view, Valid}
 use Rattle.cache_state.specs.InnerView.{usage_of, state_of, figures_of}
 use Rattle.cache_state.proofs.Views.{size_is, use_is}
 use Rattle.report_lines.specs.declared.Rival.{Rival}
-use Rattle.report_lines.specs.declared.Rival.TheVariants.{Absent, Against}
 use Rattle.report_lines.specs.Lines.{separator, line_of, item_numbers, item_lines, rival_numbers, total_names, total_numbers}
 use Rattle.report_lines.specs.Inner.{RivalOk}
 use Rattle.report_lines.proofs.Sides.{few_blocks, left_fits, right_fits}
 use Rattle.report_lines.proofs.Laws.{items_count, items_end, names_alone_count, names_priced_count, totals_count}
 use Rattle.report.specs.Report.{report_of, refusal_text, longest}
 use Rattle.types.proofs.Refusals.{refusal_range}
-use Rattle.report.proofs.Laws.{report_count, refusal_is, refused_count}
+use Rattle.report.proofs.Laws.{report_count, refused_count}
 
 -- a number of at most w digits in front of a line makes it longer by at most w + 1
 cons_longest :
@@ -86,19 +86,19 @@ items_longest c v = omega (arith, rest_longest c v c.n 0 (omega arith), v.fields
 -- ## The totals
 
 rival_longest :
-    (c : Cache) (rival : Rival) → Valid c → RivalOk (view c) rival →
+    (c : Cache) (rival : Option Rival) → Valid c → RivalOk (view c) rival →
     length (total_names rival) + length (line_of (rival_numbers (view c) rival)) ≤ 144
-rival_longest c Absent v f = omega (arith, names_alone_count, none_longest)
-rival_longest c (Against h cost) v f =
-    let line : length (line_of (rival_numbers (view c) (Against h cost))) ≤ 63 =
-    cons_longest cost 20 42 _ (omega (arith, f.2)) (omega arith)
-    (cons_longest (left_side c.k h (total_cost (figures_of c))) 20 21 _ (omega (arith, left_fits c v (c.k - h + 1) (omega (arith, few_blocks c v, f.0, f.1)))) (omega arith)
-    (cons_longest (right_side c.k cost) 20 0 _ (omega (arith, right_fits c v cost f.2)) (omega arith) none_longest)) in
-    omega (arith, names_priced_count h cost)
+rival_longest c None v f = omega (arith, names_alone_count, none_longest)
+rival_longest c (Some plan) v f =
+    let line : length (line_of (rival_numbers (view c) (Some plan))) ≤ 63 =
+    cons_longest plan.cost 20 42 _ (omega (arith, f.2)) (omega arith)
+    (cons_longest (left_side c.k plan.blocks (total_cost (figures_of c))) 20 21 _ (omega (arith, left_fits c v (c.k - plan.blocks + 1) (omega (arith, few_blocks c v, f.0, f.1)))) (omega arith)
+    (cons_longest (right_side c.k plan.cost) 20 0 _ (omega (arith, right_fits c v plan.cost f.2)) (omega arith) none_longest)) in
+    omega (arith, names_priced_count plan)
 
 -- the eight totals and the bytes behind them, in front of a rival's numbers
 totals_longest :
-    (c : Cache) (rival : Rival) → Valid c → length (line_of (total_numbers (view c) rival)) ≤ 77 + length (line_of (rival_numbers (view c) rival))
+    (c : Cache) (rival : Option Rival) → Valid c → length (line_of (total_numbers (view c) rival)) ≤ 77 + length (line_of (rival_numbers (view c) rival))
 totals_longest c rival v =
     let r = v.standing in
     let m = length (line_of (rival_numbers (view c) rival)) in
@@ -111,7 +111,7 @@ totals_longest c rival v =
     (cons_longest c.writecost 11 (13 + m) _ (omega arith) (omega arith)
     (cons_longest (c.loadcost + c.writecost) 12 m (rival_numbers (view c) rival) (omega arith) (omega arith) (le_refl m))))))))
 
-pub no_longer : (c : Cache) (rival : Rival) → Valid c → RivalOk (view c) rival → length (report_of (view c) rival) ≤ longest
+pub no_longer : (c : Cache) (rival : Option Rival) → Valid c → RivalOk (view c) rival → length (report_of (view c) rival) ≤ longest
 no_longer c rival v f =
     omega (arith, report_count (view c) rival, totals_count (view c) rival, items_longest c v, rival_longest c rival v f, totals_longest c rival v)
 
@@ -122,9 +122,4 @@ refusal_no_longer r h k =
     let line : length (line_of (refusal_number r ∷ refusal_line r ∷ [])) ≤ 14 =
     cons_longest (refusal_number r) 2 11 _ (omega (arith, (refusal_range r).1)) (omega arith)
     (cons_longest (refusal_line r) 10 0 _ (omega arith) (omega arith) none_longest) in
-    omega (
-      arith,
-      ap length (refusal_is r),
-      refused_count (refusal_number r) (refusal_line r) (refusal_item r),
-      sentence_fits (refusal_number r) (refusal_line r) (refusal_item r) (omega arith) (omega arith),
-    )
+    omega (arith, refused_count r refl refl refl, sentence_fits (refusal_number r) (refusal_line r) (refusal_item r) (omega arith) (omega arith))

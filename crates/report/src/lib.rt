@@ -6,22 +6,14 @@ ghost use Rattle.std.specs.Prelude.{◌≡◌, ◌≤◌, length, replicate};
 ghost use Rattle.cache_state.specs.Cache.{view};
 ghost use Rattle.decimal.specs.InnerPages.{text_over};
 ghost use Rattle.layout.specs.Layout.{cache_of, ValidBytes};
-ghost use Rattle.report_lines.specs.Inner.{RivalOk, Comparable, TextFits};
+ghost use Rattle.report_lines.specs.Inner.{RivalOk};
 ghost use Rattle.report.specs.Report.{report_of, refusal_text, Put, Reported, longest};
-ghost use Rattle.report.specs.Inner.{refused_text};
 
-use report_lines::Rival;
+use report_lines::{Rival, ValidState};
 use types::Refusal;
 
 // The bytes of the longest report there can be, with or without a rival's figures.
 const LONGEST: usize = 7931;
-
-// What writing on a page answers: the length of the text, or why nothing was written.
-#[derive(Clone, Copy)]
-pub enum Written {
-    Text(usize),
-    Refused(Refusal),
-}
 
 // A blank page with room for every report.
 pub fn longest_page() -> [u8; LONGEST]
@@ -31,55 +23,65 @@ pub fn longest_page() -> [u8; LONGEST]
 }
 
 // How many bytes the report of a valid state has.
-fn report_length(b: &[u8], rival: Rival) -> usize
-    requires { Comparable b.now rival }
-    ensures { result ≡ length (report_of (view (cache_of b.now)) rival) }
+#[tactic(auto, using(crate::proofs::Laws::report_count, crate::proofs::Longest::items_longest))]
+fn report_length(state: &ValidState, rival: Option<Rival>) -> usize
+    requires { RivalOk (view (cache_of state.now.bytes.now)) rival }
+    ensures { result ≡ length (report_of (view (cache_of state.now.bytes.now)) rival) }
 {
-    30 + report_lines::items_length(b) + report_lines::totals_length(b, rival)
+    30 + state.items_length() + state.totals_length(rival)
 }
 
 // Writes the report of a valid state at the start of the page, which has room for it.
-fn put_report(page: &mut [u8], b: &[u8], rival: Rival)
-    requires { TextFits b.now rival (report_of (view (cache_of b.now)) rival) page.old }
-    ensures { page.new ≡ text_over (report_of (view (cache_of b.now)) rival) page.old }
+fn put_report(page: &mut [u8], state: &ValidState, rival: Option<Rival>)
+    requires fair { RivalOk (view (cache_of state.now.bytes.now)) rival }
+    requires room { length (report_of (view (cache_of state.now.bytes.now)) rival) ≤ length page.old }
+    ensures { page.new ≡ text_over (report_of (view (cache_of state.now.bytes.now)) rival) page.old }
 {
     let mut at = decimal::put_text(b"sail tenths loads writebacks\n", page);
-    at += report_lines::put_items(&mut page[at..], b);
+    at += state.put_items(&mut page[at..]);
     at += decimal::put_text(b"\n", &mut page[at..]);
-    report_lines::put_totals(&mut page[at..], b, rival);
+    state.put_totals(&mut page[at..], rival);
 }
 
 // The report of a state, open or closed: 17 if the bytes are no valid state, 15 if the page is too short, else the text at the start
 // of the page. A rival is asked to be in range for the state.
-pub fn report(b: &[u8], rival: Rival, page: &mut [u8]) -> Written
+#[tactic(auto, using(crate::proofs::Laws::put_short, crate::proofs::Laws::put_whole, crate::proofs::Laws::fine_told))]
+pub fn report(b: &[u8], rival: Option<Rival>, page: &mut [u8]) -> Result<usize, Refusal>
     requires { ValidBytes b.now → RivalOk (view (cache_of b.now)) rival }
     ensures { Reported b.now rival page.old result page.new }
 {
     if !cache_check::valid(b) {
-        return Written::Refused(Refusal::InvalidState { line: 0 });
+        return Err(Refusal::InvalidState { line: 0 });
     }
-    let needed = report_length(b, rival);
+    let state = ValidState { bytes: b };
+    let needed = report_length(&state, rival);
     if page.len() < needed {
-        return Written::Refused(Refusal::ShortBuffer { line: 0 });
+        return Err(Refusal::ShortBuffer { line: 0 });
     }
-    put_report(page, b, rival);
-    Written::Text(needed)
+    put_report(page, &state, rival);
+    Ok(needed)
 }
 
 // How many bytes the output of a refused input has: the names, the two numbers, and the sentence.
-fn refusal_length(number: u32, line: u32, item: u32) -> usize
-    ensures { result ≡ length (refused_text number line item) }
+fn refusal_length(r: Refusal) -> usize
+    ensures value { result ≡ length (refusal_text r) }
+    ensures upper_bound { result ≤ longest }
 {
+    let number = r.number();
+    let line = r.line();
+    let item = r.item();
     let numbers = [number as u64, line as u64];
-    let first = 13 + report_lines::line_length(&numbers);
-    first + sentence::sentence_bytes(number, line, item)
+    13 + report_lines::line_length(&numbers) + sentence::sentence_bytes(number, line, item)
 }
 
 // Writes the output of a refused input at the start of the page, which has room for it.
-fn put_refusal(page: &mut [u8], number: u32, line: u32, item: u32)
-    requires { length (refused_text number line item) ≤ length page.old }
-    ensures { page.new ≡ text_over (refused_text number line item) page.old }
+fn put_refusal(page: &mut [u8], r: Refusal)
+    requires { length (refusal_text r) ≤ length page.old }
+    ensures { page.new ≡ text_over (refusal_text r) page.old }
 {
+    let number = r.number();
+    let line = r.line();
+    let item = r.item();
     let both = [number as u64, line as u64];
     report_lines::put_table(page, b"refusal line\n", &both);
     let at = 13 + report_lines::line_length(&both);
@@ -88,17 +90,14 @@ fn put_refusal(page: &mut [u8], number: u32, line: u32, item: u32)
 
 // The output of a refused input: the refusal's number and its line, and the sentence of both and of the item that it names; 15 if the
 // page is too short.
-pub fn refused(r: Refusal, page: &mut [u8]) -> Written
+pub fn refused(r: Refusal, page: &mut [u8]) -> Result<usize, Refusal>
     ensures put { Put (refusal_text r) page.old result page.new }
     ensures r_len_bound { length (refusal_text r) ≤ longest }
 {
-    let number = r.number();
-    let line = r.line();
-    let item = r.item();
-    let bytes = refusal_length(number, line, item);
+    let bytes = refusal_length(r);
     if page.len() < bytes {
-        return Written::Refused(Refusal::ShortBuffer { line: 0 });
+        return Err(Refusal::ShortBuffer { line: 0 });
     }
-    put_refusal(page, number, line, item);
-    Written::Text(bytes)
+    put_refusal(page, r);
+    Ok(bytes)
 }

@@ -2,20 +2,37 @@
 // lines, and the last two with the totals and a rival's figures. What a report is, and when one is refused, is in `report`.
 #![tactic(auto)]
 
-ghost use Rattle.std.specs.Prelude.{◌≡◌, ◌++◌, ◌+◌, ◌≤◌, ◌<◌, length, take};
+ghost use Rattle.std.specs.Prelude.{◌≡◌, ◌++◌, ◌+◌, ◌≤◌, ◌<◌, None, Some, length};
 ghost use Rattle.cache_state.specs.Cache.{view, uses_of};
 ghost use Rattle.cache_state.specs.InnerView.{usage_of, figures_of};
+ghost use Rattle.decimal.specs.Decimal.{digits_of};
 ghost use Rattle.decimal.specs.InnerPages.{text_over};
 ghost use Rattle.landlord.specs.Figures.{tenths_of, total_cost, left_side, right_side};
-ghost use Rattle.layout.specs.Layout.{state_bytes, cache_of, ValidBytes};
-ghost use Rattle.report_lines.specs.Lines.{line_of, item_numbers, item_lines, rival_numbers, total_numbers, total_lines};
-ghost use Rattle.report_lines.specs.Inner.{Comparable, TextFits, rival_count};
+ghost use Rattle.layout.specs.Layout.{cache_of, ValidBytes};
+ghost use Rattle.report_lines.specs.Lines.{line_of, item_numbers, item_lines, total_numbers, total_lines};
+ghost use Rattle.report_lines.specs.Inner.{RivalOk};
 
-// What the last two lines say of a rival plan: nothing; or, of a plan of so many blocks, its cost and the two sides of the bound.
+// A rival plan, by its blocks and its cost. Where there is one, the last two lines go on with its cost and the two sides of the bound.
+#[derive(Clone, Copy, Debug, PartialEq, Eq)]
+pub struct Rival {
+    pub blocks: u32,
+    pub cost: u64,
+}
+
+// A valid state, of which the lines of a report are written.
 #[derive(Clone, Copy)]
-pub enum Rival {
-    Absent,
-    Against { blocks: u32, cost: u64 },
+pub struct ValidState<'a> {
+    pub bytes: &'a [u8],
+    pub ghost valid: { ValidBytes bytes.now },
+}
+
+// How many bytes a number of a line has: its digits, and the byte behind it.
+#[tactic(auto, using(decimal::proofs::Laws::digits_twenty))]
+fn number_length(x: u64) -> usize
+    ensures value { result ≡ length (digits_of x) + 1 }
+    ensures upper_bound { result ≤ 21 }
+{
+    decimal::width(x) + 1
 }
 
 // How many bytes a line of numbers has: its digits, and one byte behind each number.
@@ -24,13 +41,7 @@ pub fn line_length(numbers: &[u64]) -> usize
     ensures value { result ≡ length (line_of numbers.now) }
     ensures upper_bound { result ≤ 231 }
 {
-    let mut n = 0;
-    let mut i = 0;
-    while i < numbers.len() {
-        n += decimal::width(numbers[i]) + 1;
-        i += 1;
-    }
-    n
+    numbers.iter().map(|&x| number_length(x)).sum()
 }
 
 // Writes a line of numbers at the start of the page, which has room for it.
@@ -40,12 +51,10 @@ fn put_line(page: &mut [u8], numbers: &[u64]) -> usize
     ensures page_after { page.new ≡ text_over (line_of numbers.now) page.old }
 {
     let mut at = 0;
-    let mut i = 0;
-    while i < numbers.len() {
-        at += decimal::write(numbers[i], &mut page[at..]);
-        i += 1;
+    for (i, &x) in numbers.iter().enumerate() {
+        at += decimal::write(x, &mut page[at..]);
         // A space before the next number, a line feed behind the last.
-        page[at] = if i < numbers.len() { 32 } else { 10 };
+        page[at] = if i + 1 < numbers.len() { b' ' } else { b'\n' };
         at += 1;
     }
     at
@@ -67,139 +76,130 @@ fn whole_tenths(minutes: u32) -> u32
     minutes / 6
 }
 
-// The numbers of an item's line.
-fn item_numbers(b: &[u8], i: usize) -> [u64; 4]
-    requires { (length b.now ≡ state_bytes) × (i < 256) }
-    ensures { result ≡ item_numbers i (usage_of (cache_of b.now) i) }
-{
-    let tenths = whole_tenths(layout::minutes(b, i)) as u64;
-    let loads = layout::item_loads(b, i) as u64;
-    let writebacks = layout::item_writebacks(b, i) as u64;
-    [i as u64, tenths, loads, writebacks]
-}
-
-// How many bytes the items' lines have.
-pub fn items_length(b: &[u8]) -> usize
-    requires { ValidBytes b.now }
-    ensures { result ≡ length (item_lines 0 (uses_of (cache_of b.now))) }
-{
-    let n = layout::count(b);
-    let mut sum = 0;
-    let mut i = 0;
-    while i < n {
-        let line = item_numbers(b, i);
-        sum += line_length(&line);
-        i += 1;
+impl ValidState<'_> {
+    // The numbers of an item's line.
+    fn item_numbers(&self, i: usize) -> [u64; 4]
+        requires { i < 256 }
+        ensures { result ≡ item_numbers i (usage_of (cache_of self.now.bytes.now) i) }
+    {
+        let tenths = whole_tenths(layout::minutes(self.bytes, i)) as u64;
+        let loads = layout::item_loads(self.bytes, i) as u64;
+        let writebacks = layout::item_writebacks(self.bytes, i) as u64;
+        [i as u64, tenths, loads, writebacks]
     }
-    sum
-}
 
-// Writes the items' lines at the start of the page, which has room for them.
-pub fn put_items(page: &mut [u8], b: &[u8]) -> usize
-    requires { ValidBytes b.now × (length (item_lines 0 (uses_of (cache_of b.now))) ≤ length page.old) }
-    ensures value { result ≡ length (item_lines 0 (uses_of (cache_of b.now))) }
-    ensures page_after { page.new ≡ text_over (item_lines 0 (uses_of (cache_of b.now))) page.old }
-{
-    let n = layout::count(b);
-    let mut at = 0;
-    let mut i = 0;
-    while i < n {
-        let line = item_numbers(b, i);
-        at += put_line(&mut page[at..], &line);
-        i += 1;
+    // How many bytes the items' lines have.
+    pub fn items_length(&self) -> usize
+        ensures { result ≡ length (item_lines 0 (uses_of (cache_of self.now.bytes.now))) }
+    {
+        let mut sum = 0;
+        for i in 0..layout::count(self.bytes) {
+            sum += line_length(&self.item_numbers(i));
+        }
+        sum
     }
-    at
-}
 
-// What the season has cost.
-fn total_cost(b: &[u8]) -> u64
-    requires { ValidBytes b.now }
-    ensures { result ≡ total_cost (figures_of (cache_of b.now)) }
-{
-    let load = layout::load_cost(b);
-    let write = layout::write_cost(b);
-    load + write
-}
-
-// The bound's left side, for a plan of `h` blocks.
-fn left_side(b: &[u8], h: u32) -> u64
-    requires { ValidBytes b.now × (1 ≤ h) × (h ≤ (cache_of b.now).k) }
-    ensures { result ≡ left_side (cache_of b.now).k h (total_cost (figures_of (cache_of b.now))) }
-{
-    let total = total_cost(b);
-    let k = layout::capacity(b);
-    let factor = (k - h + 1) as u64;
-    factor * total
-}
-
-// And its right side, for a plan that costs so much.
-fn right_side(b: &[u8], cost: u64) -> u64
-    requires { ValidBytes b.now × (cost ≤ 1000000000000) }
-    ensures { result ≡ right_side (cache_of b.now).k cost }
-{
-    let k = layout::capacity(b) as u64;
-    k * cost
-}
-
-// The rival's numbers; without a rival three that are not printed.
-fn rival_numbers(b: &[u8], rival: Rival) -> [u64; 3]
-    requires { Comparable b.now rival }
-    ensures { take (rival_count rival) result ≡ rival_numbers (view (cache_of b.now)) rival }
-{
-    match rival {
-        Rival::Absent => [0, 0, 0],
-        Rival::Against { blocks: h, cost: a } => [a, left_side(b, h), right_side(b, a)],
+    // Writes the items' lines at the start of the page, which has room for them.
+    pub fn put_items(&self, page: &mut [u8]) -> usize
+        requires { length (item_lines 0 (uses_of (cache_of self.now.bytes.now))) ≤ length page.old }
+        ensures value { result ≡ length (item_lines 0 (uses_of (cache_of self.now.bytes.now))) }
+        ensures page_after { page.new ≡ text_over (item_lines 0 (uses_of (cache_of self.now.bytes.now))) page.old }
+    {
+        let mut at = 0;
+        for i in 0..layout::count(self.bytes) {
+            at += put_line(&mut page[at..], &self.item_numbers(i));
+        }
+        at
     }
-}
 
-// The numbers of the last line, eight and the rival's.
-fn figures(b: &[u8], rival: Rival) -> [u64; 11]
-    requires { Comparable b.now rival }
-    ensures { take (8 + rival_count rival) result ≡ total_numbers (view (cache_of b.now)) rival }
-{
-    let more = rival_numbers(b, rival);
-    let hits = layout::hits(b) as u64;
-    let loads = layout::loads(b) as u64;
-    let load = layout::load_cost(b);
-    let evictions = layout::evictions(b) as u64;
-    let dirties = layout::dirty_evictions(b) as u64;
-    let writebacks = layout::writebacks(b) as u64;
-    let write = layout::write_cost(b);
-    let total = total_cost(b);
-    [
-        hits, loads, load, evictions, dirties, writebacks, write, total, more[0], more[1], more[2],
-    ]
-}
-
-// How many bytes the last two lines have: the names, and the numbers.
-pub fn totals_length(b: &[u8], rival: Rival) -> usize
-    requires { Comparable b.now rival }
-    ensures value { result ≡ length (total_lines (view (cache_of b.now)) rival) }
-    ensures upper_bound { result ≤ 312 }
-{
-    let numbers = figures(b, rival);
-    match rival {
-        Rival::Absent => 64 + line_length(&numbers[..8]),
-        Rival::Against { blocks: _, cost: _ } => 81 + line_length(&numbers),
+    // What the season has cost.
+    fn total_cost(&self) -> u64
+        ensures { result ≡ total_cost (figures_of (cache_of self.now.bytes.now)) }
+    {
+        let load = layout::load_cost(self.bytes);
+        let write = layout::write_cost(self.bytes);
+        load + write
     }
-}
 
-// Writes the last two lines at the start of the page, which has room for them.
-pub fn put_totals(page: &mut [u8], b: &[u8], rival: Rival)
-    requires { TextFits b.now rival (total_lines (view (cache_of b.now)) rival) page.old }
-    ensures { page.new ≡ text_over (total_lines (view (cache_of b.now)) rival) page.old }
-{
-    let numbers = figures(b, rival);
-    match rival {
-        Rival::Absent => put_table(
-            page,
-            b"hits loads loadcost drops dirtydrops writebacks writecost total\n",
-            &numbers[..8],
-        ),
-        Rival::Against { blocks: _, cost: _ } => put_table(
-            page,
-            b"hits loads loadcost drops dirtydrops writebacks writecost total rival left right\n",
-            &numbers,
-        ),
+    // The bound's left side, for a plan of `h` blocks.
+    fn left_side(&self, h: u32) -> u64
+        requires { (1 ≤ h) × (h ≤ (cache_of self.now.bytes.now).k) }
+        ensures { result ≡ left_side (cache_of self.now.bytes.now).k h (total_cost (figures_of (cache_of self.now.bytes.now))) }
+    {
+        let total = self.total_cost();
+        let k = layout::capacity(self.bytes);
+        let factor = (k - h + 1) as u64;
+        factor * total
+    }
+
+    // And its right side, for a plan that costs so much.
+    fn right_side(&self, cost: u64) -> u64
+        requires { cost ≤ 1000000000000 }
+        ensures { result ≡ right_side (cache_of self.now.bytes.now).k cost }
+    {
+        let k = layout::capacity(self.bytes) as u64;
+        k * cost
+    }
+
+    // The eight totals.
+    fn totals(&self) -> [u64; 8]
+        ensures { result ≡ total_numbers (view (cache_of self.now.bytes.now)) None }
+    {
+        let hits = layout::hits(self.bytes) as u64;
+        let loads = layout::loads(self.bytes) as u64;
+        let load = layout::load_cost(self.bytes);
+        let evictions = layout::evictions(self.bytes) as u64;
+        let dirties = layout::dirty_evictions(self.bytes) as u64;
+        let writebacks = layout::writebacks(self.bytes) as u64;
+        let write = layout::write_cost(self.bytes);
+        let total = self.total_cost();
+        [
+            hits, loads, load, evictions, dirties, writebacks, write, total,
+        ]
+    }
+
+    // And behind them the rival's numbers.
+    fn totals_against(&self, rival: Rival) -> [u64; 11]
+        requires { RivalOk (view (cache_of self.now.bytes.now)) (Some rival) }
+        ensures { result ≡ total_numbers (view (cache_of self.now.bytes.now)) (Some rival) }
+    {
+        let mut numbers = [0; 11];
+        numbers[..8].copy_from_slice(&self.totals());
+        numbers[8] = rival.cost;
+        numbers[9] = self.left_side(rival.blocks);
+        numbers[10] = self.right_side(rival.cost);
+        numbers
+    }
+
+    // How many bytes the last two lines have: the names, and the numbers.
+    pub fn totals_length(&self, rival: Option<Rival>) -> usize
+        requires { RivalOk (view (cache_of self.now.bytes.now)) rival }
+        ensures value { result ≡ length (total_lines (view (cache_of self.now.bytes.now)) rival) }
+        ensures upper_bound { result ≤ 312 }
+    {
+        match rival {
+            None => 64 + line_length(&self.totals()),
+            Some(rival) => 81 + line_length(&self.totals_against(rival)),
+        }
+    }
+
+    // Writes the last two lines at the start of the page, which has room for them.
+    pub fn put_totals(&self, page: &mut [u8], rival: Option<Rival>)
+        requires fair { RivalOk (view (cache_of self.now.bytes.now)) rival }
+        requires room { length (total_lines (view (cache_of self.now.bytes.now)) rival) ≤ length page.old }
+        ensures { page.new ≡ text_over (total_lines (view (cache_of self.now.bytes.now)) rival) page.old }
+    {
+        match rival {
+            None => put_table(
+                page,
+                b"hits loads loadcost drops dirtydrops writebacks writecost total\n",
+                &self.totals(),
+            ),
+            Some(rival) => put_table(
+                page,
+                b"hits loads loadcost drops dirtydrops writebacks writecost total rival left right\n",
+                &self.totals_against(rival),
+            ),
+        }
     }
 }

@@ -1,3 +1,2 @@
 -- The definitions that the contracts of `season_lines` cite. Assumes nothing.
 pub mod Lines
-pub mod Inner

@@ -2,26 +2,27 @@
 -- every word of the table is a test that is computed over its numbers, and one law for all such tests (`in_rows`). Assumes nothing.
 use mathlib.Core.Path.{◌≡◌, refl, sym, ap, ◌∙◌}
 use mathlib.Core.Bool.{Bool, true, false, cond, not, ◌&&◌, ◌||◌, and-eq-true_iff, false≢true}
-use mathlib.Core.List.{List, [], ◌∷◌, ◌++◌, append_assoc, append-nil}
+use mathlib.Core.List.{List, [], ◌∷◌, ◌++◌}
 use mathlib.Core.Logic.{⊎_elim}
-use Prim.Native.Nat.{ℕ, zero, suc, ◌+◌, ◌-◌, ◌≤◌, ◌<◌}
+use Prim.Native.Nat.{ℕ, zero, suc, ◌+◌, ◌≤◌, ◌<◌}
 use Prim.Native.String.{String}
-use native.Mathlib.Numerals.{add-one}
 use native.Mathlib.Omega.{arith}
-use borrow.Author.Tests.{leb-true, eqb-true, eqb-false, lt-leb, le-leb, eq-eqb, ne_eqb, not-true}
-use borrow.Rule.Slice.PartMut.{mid_of, put_mid}
-use lib.Dec.{leb, eqb}
-use lib.ListN.{length, get_or, take, drop, length-append, take-append-drop, drop_of_length-le, get_or-eq_default}
-use lib.Seq.{drop-cons, take_at, drop_at, take_all}
-use Rattle.decimal.specs.Decimal.{text_of, same_text, digits_of, all_digits, wrote_of, page_of}
+use borrow.Author.Tests.{leb-true, eqb-true, eqb-false, le-leb, eq-eqb, ne_eqb, not-true}
+use lib.Dec.{leb, ltb, eqb}
+use lib.ListN.{length, get_or, take, drop, length-append, take-append-drop, get_or-eq_default}
+use Rattle.std.specs.List.{position_or_len}
+use Rattle.std.proofs.lemmas.Bool.{cases_lt}
+use Rattle.std.proofs.lemmas.Bool.Decides.{nat_tests}
+use Rattle.std.proofs.Common.{drop-cons, Option, Some, None, MatchOption, SomeIff, unwrap_or}
+use Rattle.decimal.specs.Decimal.{text_of, same_text, digits_of, all_digits}
 use Rattle.decimal.specs.InnerPages.{text_over, labelled}
-use Rattle.decimal.proofs.Laws.{less_or_not, digits_all, digits_length, wrote_all, wrote_none, page_all, page_none}
+use Rattle.decimal.proofs.Laws.{digits_all, digits_length}
 use Rattle.decimal.proofs.Texts.{same_true}
-use Rattle.decimal.proofs.Pages.{TextGoing, go_first, go_as, go_room, go_next, go_end}
+use Rattle.decimal.proofs.Pages.{TextGoing, go_first}
 use Rattle.types.specs.Types.{names_item}
 use Rattle.basis.proofs.Tables.{every, every_at}
 use Rattle.sentence.specs.Sentences.{words, word_of, in_table, line_part, item_part, sentence_of, longest_sentence}
-use Rattle.sentence.specs.InnerSentences.{in_one_text, start_of, WordAt, OnPage, is_stop, piece_of, place_of}
+use Rattle.sentence.specs.InnerSentences.{is_stop, piece_of, place_of}
 
 -- ## Tests
 
@@ -32,45 +33,38 @@ the_other false b h e = h
 
 -- ## The table
 
-word_none : (n : ℕ) → 28 ≤ n → word_of n ≡ []
+pub word_none : (n : ℕ) → 28 ≤ n → word_of n ≡ []
 unfolding word_of
 word_none n h = ap text_of (get_or-eq_default words "" {n = n} h)
 
-no_row : (n : ℕ) → 28 ≤ n → in_table n ≡ false
+pub no_row : (n : ℕ) → 28 ≤ n → in_table n ≡ false
 unfolding in_table
 no_row n h = rw (word_none n h)
 
 -- a number of the table is below 28
 row_below : (n : ℕ) → in_table n ≡ true → n < 28
-row_below n t = ⊎_elim (λ l. l) (λ l. absurd (false≢true (sym (no_row n l) ∙ t))) (less_or_not n 28)
+row_below n t = ⊎_elim (λ l. l) (λ l. absurd (false≢true (sym (no_row n l) ∙ t))) (cases_lt n 28)
 
 -- a test that passes at each number below 28, by computing it, and past them, where there is no word, passes for every number
 in_rows : (f : ℕ → Bool) → every f 28 ≡ true → ((n : ℕ) → 28 ≤ n → f n ≡ true) → (n : ℕ) → f n ≡ true
-in_rows f t past n = ⊎_elim (every_at f 28 t n) (past n) (less_or_not n 28)
+in_rows f t past n = ⊎_elim (every_at f 28 t n) (past n) (cases_lt n 28)
 
--- 0, 23 and the numbers from 28 on have no row
-pub row_none : (n : ℕ) → ((n ≡ 0 → ⊥) → (n ≡ 23 → ⊥) → 28 ≤ n) → false ≡ in_table n
-unfolding in_table word_of
-row_none n h = go (eqb n 0) refl (eqb n 23) refl
-  where
-    go : (a : Bool) → eqb n 0 ≡ a → (b : Bool) → eqb n 23 ≡ b → false ≡ in_table n
-    go true e b f = sym (ap in_table (eqb-true n 0 e))
-    go false e true f = sym (ap in_table (eqb-true n 23 f))
-    go false e false f = sym (no_row n (h (eqb-false n 0 e) (eqb-false n 23 f)))
+-- the letters of each word of the table, and that there are none past it
+abbrev pub Spelled : List String → ℕ → Type 0
+Spelled [] n = (m : ℕ) → n ≤ m → word_of m ≡ []
+Spelled (w ∷ rest) n = (word_of n ≡ text_of w) × Spelled rest (suc n)
 
--- the others have one
-pub row_law : (n : ℕ) → (n ≡ 0 → ⊥) → (n ≡ 23 → ⊥) → leb n 27 ≡ in_table n
-unfolding in_table word_of
-row_law n h k = ⊎_elim in_it past (less_or_not n 28)
-  where
-    in_it : n < 28 → leb n 27 ≡ in_table n
-    in_it l =
-        let t = every_at (λ m. (eqb m 0 || eqb m 23) || in_table m) 28 refl n l in
-        let e : (eqb n 0 || eqb n 23) ≡ false = rw (ne_eqb n 0 h) (ne_eqb n 23 k) in
-        le-leb n 27 (omega arith) ∙ sym (the_other _ (in_table n) t e)
+spelled_from : (n : ℕ) (rest : List String) → drop n words ≡ rest → n + length rest ≡ 28 → Spelled rest n
+unfolding word_of
+spelled_from n [] e h = λ m l. word_none m (omega (arith, h))
+spelled_from n (w ∷ rest) e h =
+    let split : drop n words ≡ get_or words n "" ∷ drop (suc n) words = drop-cons words n "" (omega (arith, h)) in
+    let first : get_or words n "" ≡ w = cc in
+    let later : drop (suc n) words ≡ rest = cc in
+    (ap text_of first, spelled_from (suc n) rest later (omega (arith, h)))
 
-    past : 28 ≤ n → leb n 27 ≡ in_table n
-    past l = lt-leb n 27 (omega arith) ∙ sym (no_row n l)
+pub spelled : Spelled words 0
+spelled = spelled_from 0 words refl refl
 
 -- a word has no comma and no full stop
 unfoldable pub plain : List ℕ → Bool
@@ -96,48 +90,6 @@ word_size n =
     (in_rows (λ m. leb (length (word_of m)) (cond (names_item m) 11 28)) refl
     (λ m h. rw (word_none m h) (le-leb 0 (cond (names_item m) 11 28) (omega arith)))
     n)
-
--- ## The words as one text
-
--- past the last of them there is nothing more
-pub start_past : (n : ℕ) → 28 ≤ n → 224 ≡ start_of n
-unfolding start_of in_one_text
-start_past n h = rw (take_all n words h)
-
--- the words before a word, the word, and those behind it
-parted : (table : List String) (n : ℕ) → in_one_text table ≡ in_one_text (take n table) ++ (text_of (get_or table n "") ++ in_one_text (drop (suc n) table))
-unfolding in_one_text
-parted [] zero = refl
-parted [] (suc n) = refl
-parted (w ∷ rest) zero = refl
-parted (w ∷ rest) (suc n) = ap (λ (l : List ℕ). text_of w ++ l) (parted rest n) ∙ sym (append_assoc (text_of w) (in_one_text (take n rest)) _)
-
-parted_next : (table : List String) (n : ℕ) → in_one_text (take (suc n) table) ≡ in_one_text (take n table) ++ text_of (get_or table n "")
-unfolding in_one_text
-parted_next [] zero = refl
-parted_next [] (suc n) = refl
-parted_next (w ∷ rest) zero = append-nil (text_of w)
-parted_next (w ∷ rest) (suc n) = ap (λ (l : List ℕ). text_of w ++ l) (parted_next rest n) ∙ sym (append_assoc (text_of w) (in_one_text (take n rest)) _)
-
--- a word stands from its own start to the next one's
-pub word_at : (n a e : ℕ) → a ≡ start_of n → e ≡ start_of (n + 1) → WordAt n a e
-unfolding start_of in_one_text word_of
-word_at n a e p q =
-    let front = in_one_text (take n words) in
-    let back = in_one_text (drop (suc n) words) in
-    let all : in_one_text words ≡ front ++ (word_of n ++ back) = parted words n in
-    let next : e ≡ length front + length (word_of n) =
-    (rw add-one at q) ∙ ap length (parted_next words n) ∙ length-append front (word_of n) in
-    let whole : 224 ≡ length front + (length (word_of n) + length back) =
-    ap length all ∙ length-append front (word_of n ++ back) ∙ ap (λ (k : ℕ). length front + k) (length-append (word_of n) back) in
-    let size : e - a ≡ length (word_of n) = omega arith in
-    let here : drop a (in_one_text words) ≡ word_of n ++ back = ap (drop a) all ∙ drop_at front (word_of n ++ back) a (sym p) in
-    record {
-      grows = omega arith;
-      within = omega arith;
-      size = size;
-      text = ap (take (e - a)) here ∙ take_at (word_of n) back (e - a) (sym size);
-    }
 
 -- ## The parts of a sentence, and their lengths
 
@@ -168,7 +120,7 @@ item_count_lem number item h = rw (item_told_lem number item h) (sym (length-app
 pub digits_ten : (v : ℕ) → v ≤ 4294967295 → length (digits_of v) ≤ 10
 digits_ten v h = digits_length v 10 (omega arith) (omega arith)
 
-line_size : (line : ℕ) → line ≤ 4294967295 → length (line_part line) ≤ 17
+pub line_size : (line : ℕ) → line ≤ 4294967295 → length (line_part line) ≤ 17
 line_size line h = go (eqb line 0) refl
   where
     go : (t : Bool) → eqb line 0 ≡ t → length (line_part line) ≤ 17
@@ -203,58 +155,46 @@ pub parts_size :
     (n l i : ℕ) → l ≤ 4294967295 → i ≤ 4294967295 → length (word_of n) + length (line_part l) + length (item_part n i) + 2 ≤ longest_sentence
 parts_size n l i h k = omega (arith, line_size l h, word_item_size n i k)
 
+pub word_few : (n : ℕ) → length (word_of n) ≤ 28
+word_few n = go (names_item n) (word_size n)
+  where
+    go : (t : Bool) → length (word_of n) ≤ cond t 11 28 → length (word_of n) ≤ 28
+    go true h = omega (arith, h)
+    go false h = h
+
+pub item_size : (n i : ℕ) → i ≤ 4294967295 → length (item_part n i) ≤ 28
+item_size n i h = omega (arith, word_item_size n i h)
+
+-- what one needs of them
+pub ruleset sizes = (sentence_count, word_few, line_size, item_size)
+
+pub ruleset parts = (line_none, line_told, line_count, item_none, item_told_lem, item_count_lem, digits_ten)
+
 -- ## A text written in parts, each into the rest of the page
 
--- what a writer answers, and what it leaves on the page
-pub put_is : {t before page : List ℕ} {a : ℕ} → (a ≡ length t) × (page ≡ text_over t before) → OnPage t before a page
-put_is p = record { count = p.0; text = p.1 }
-
--- the first of two parts has room
-pub first_fits : (t u before : List ℕ) → length (t ++ u) ≤ length before → length t ≤ length before
-first_fits t u before h = omega (arith, length-append t u)
-
-module _ (t u : List ℕ) {before : List ℕ} (room : length (t ++ u) ≤ length before) where
-  -- the first part is put, and the next is left
-  going : {a : ℕ} {page : List ℕ} → OnPage t before a page → TextGoing (t ++ u) before a (u ++ []) page
-  going p = go_as (sym (append-nil u)) (go_first t u before room p.count p.text)
-
-  pub next_starts : {a : ℕ} {page : List ℕ} → OnPage t before a page → a ≤ length page
-  next_starts p = omega (arith, room, (going p).count, (going p).same)
-
-  pub next_fits : {a : ℕ} {page : List ℕ} → OnPage t before a page → length u ≤ length (mid_of a (length page - a) page)
-  next_fits {a} {page} p = go_room room a u [] page (going p)
-
-  -- the next part is put behind what is there
-  pub put_next :
-      {a b : ℕ} {page ys : List ℕ} →
-      OnPage t before a page →
-      OnPage u (mid_of a (length page - a) page) b ys →
-      OnPage (t ++ u) before (a + b) (put_mid a (length page - a) page ys)
-  put_next p q = put_is (go_end (go_next room u [] (going p) q.count q.text))
-
--- nothing is put
-pub put_none : (page : List ℕ) → OnPage [] page 0 page
-put_none page = record { count = refl; text = refl }
-
--- the same text in another form
-pub put_as : {t u before page : List ℕ} {n : ℕ} → t ≡ u → OnPage u before n page → OnPage t before n page
-put_as e p = rw e p
+-- the word is put, and the others are left
+pub word_put :
+    (n l i : ℕ) (before : List ℕ) {word page : List ℕ} {a : ℕ} →
+    length (sentence_of n l i) ≤ length before →
+    word ≡ word_of n →
+    a ≡ length word →
+    page ≡ text_over word before →
+    TextGoing (sentence_of n l i) before a (line_part l ++ (item_part n i ++ text_of ".\n")) page
+unfolding sentence_of
+word_put n l i before room w e p =
+    go_first (word_of n) _ before room (e ∙ ap length w) (p ∙ ap (λ (t : List ℕ). text_over t before) w)
 
 -- ## A text taken apart
 
--- a piece ends at a comma or a full stop
-module _ (s : List ℕ) (i : ℕ) (h : i < length s) where
-  pub piece_here : is_stop (get_or s i 0) ≡ true → piece_of (drop i s) ≡ []
-  unfolding piece_of
-  piece_here e = rw (drop-cons s i 0 h, e)
-
-  pub piece_next : is_stop (get_or s i 0) ≡ false → piece_of (drop i s) ≡ get_or s i 0 ∷ piece_of (drop (i + 1) s)
-  unfolding piece_of
-  piece_next e = rw (drop-cons s i 0 h, add-one, e)
-
-pub piece_end : (s : List ℕ) (i : ℕ) → length s ≤ i → piece_of (drop i s) ≡ []
+-- a piece ends at the first comma or full stop
+piece_length : (s : List ℕ) → length (piece_of s) ≡ position_or_len is_stop s
 unfolding piece_of
-piece_end s i h = rw (drop_of_length-le s {i = i} h)
+piece_length [] = refl
+piece_length (b ∷ s) = go (is_stop b) (piece_length s)
+  where
+    go : (t : Bool) → length (piece_of s) ≡ position_or_len is_stop s → length (cond t [] (b ∷ piece_of s)) ≡ cond (not t) (1 + position_or_len is_stop s) 0
+    go true e = refl
+    go false e = omega (arith, e)
 
 pub take_piece : (s : List ℕ) → take (length (piece_of s)) s ≡ piece_of s
 unfolding piece_of
@@ -271,6 +211,13 @@ piece_front s = sym (take-append-drop (length (piece_of s)) s) ∙ ap (λ (l : L
 
 pub piece_fits : (s : List ℕ) → length (piece_of s) ≤ length s
 piece_fits s = omega (arith, ap length (piece_front s), length-append (piece_of s) (drop (length (piece_of s)) s))
+
+-- where the first comma or full stop is found, or nowhere
+pub piece_found :
+    (s : List ℕ) (r : Option ℕ) →
+    r ≡ cond (ltb (position_or_len is_stop s) (length s)) (Some (position_or_len is_stop s)) None →
+    unwrap_or r (length s) ≡ length (piece_of s)
+piece_found s r e = grind (arith, nat_tests, piece_length s, piece_fits s)
 
 -- a word or a number, and behind it a comma or a full stop
 pub piece_plain : (w r : List ℕ) → plain w ≡ true → piece_of (w ++ r) ≡ w ++ piece_of r
@@ -293,18 +240,41 @@ number_plain v = digits_plain (digits_of v) (digits_all v)
 
 -- ## A word looked up
 
-module _ (n : ℕ) (w : List ℕ) (h : n < 28) where
-  pub place_here : same_text (word_of n) w ≡ true → place_of (drop n words) w ≡ 0
-  unfolding place_of word_of
-  place_here e = rw (drop-cons words n "" h, e)
+abbrev Is : List String → List ℕ → ℕ → Type 0
+Is table w n = same_text (text_of (get_or table n "")) w ≡ true
 
-  pub place_next : same_text (word_of n) w ≡ false → place_of (drop n words) w ≡ suc (place_of (drop (n + 1) words) w)
-  unfolding place_of word_of
-  place_next e = rw (drop-cons words n "" h, add-one, e)
+abbrev Not : List String → List ℕ → ℕ → Type 0
+Not table w n = same_text (text_of (get_or table n "")) w ≡ false
 
-pub place_end : (n : ℕ) (w : List ℕ) → 28 ≤ n → place_of (drop n words) w ≡ 0
+-- the place of a word is where it is found first
+place_first : (table : List String) (w : List ℕ) (n : ℕ) → n < length table → Is table w n → ((k : ℕ) → k < n → Not table w k) → place_of table w ≡ n
 unfolding place_of
-place_end n w h = rw (drop_of_length-le words {i = n} h)
+place_first [] w n h e f = absurd (omega arith)
+place_first (t ∷ rest) w zero h e f = rw e
+place_first (t ∷ rest) w (suc n) h e f = rw (f 0 (omega arith)) (ap suc (place_first rest w n (omega arith) e (λ k l. f (suc k) (omega arith))))
+
+-- or past the table, if it is found nowhere
+place_nowhere : (table : List String) (w : List ℕ) → ((k : ℕ) → k < length table → Not table w k) → place_of table w ≡ length table
+unfolding place_of
+place_nowhere [] w f = refl
+place_nowhere (t ∷ rest) w f = rw (f 0 (omega arith)) (ap suc (place_nowhere rest w (λ k l. f (suc k) (omega arith))))
+
+abbrev pub IsWord : List ℕ → ℕ → Type 0
+IsWord w n = same_text (word_of n) w ≡ true
+
+abbrev pub OtherWord : List ℕ → ℕ → Type 0
+OtherWord w n = same_text (word_of n) w ≡ false
+
+-- what looking through the table finds
+pub place_sought :
+    (w : List ℕ) (r : Option ℕ) →
+    MatchOption r ((k : ℕ) → 0 ≤ k → k < 28 → OtherWord w k) (λ i. (0 ≤ i) × (i < 28) × IsWord w i × ((k : ℕ) → 0 ≤ k → k < i → OtherWord w k)) →
+    SomeIff r (place_of words w < 28) (place_of words w)
+unfolding word_of
+place_sought w None f = λ h. omega (arith, place_nowhere words w (λ k l. f k (omega arith) l))
+place_sought w (Some i) f =
+    let p = place_first words w i f.1 f.2 (λ k l. f.3 k (omega arith) l) in
+    (omega (arith, f.1), sym p)
 
 -- a word that is found is the word looked for
 place_right : (table : List String) (w : List ℕ) → place_of table w < length table → text_of (get_or table (place_of table w) "") ≡ w
@@ -323,29 +293,3 @@ place_right (t ∷ rest) w h = go (same_text (text_of t) w) refl h (place_right 
 pub place_found : (w : List ℕ) → in_table (place_of words w) ≡ true → w ≡ word_of (place_of words w)
 unfolding word_of
 place_found w t = sym (place_right words w (row_below (place_of words w) t))
-
--- ## A sentence written in two halves
-
-halves : (n l i : ℕ) → sentence_of n l i ≡ (word_of n ++ line_part l) ++ (item_part n i ++ text_of ".\n")
-unfolding sentence_of
-halves n l i = sym (append_assoc (word_of n) (line_part l) (item_part n i ++ text_of ".\n"))
-
--- a page with room for a sentence has room for its halves
-pub halves_fit :
-    (n l i : ℕ) (page : List ℕ) → length (sentence_of n l i) ≤ length page →
-    length ((word_of n ++ line_part l) ++ (item_part n i ++ text_of ".\n")) ≤ length page
-halves_fit n l i page h = rw (halves n l i) at h
-
--- the whole sentence is on the page
-pub put_halves :
-    (n l i : ℕ) {before page : List ℕ} {bytes : ℕ} →
-    length (sentence_of n l i) ≤ length before →
-    OnPage ((word_of n ++ line_part l) ++ (item_part n i ++ text_of ".\n")) before bytes page →
-    (bytes ≡ wrote_of (sentence_of n l i) before) × (page ≡ page_of (sentence_of n l i) before)
-put_halves n l i {before} h p =
-    let q = put_as (halves n l i) p in
-    (q.count ∙ sym (wrote_all (sentence_of n l i) before h), q.text ∙ sym (page_all (sentence_of n l i) before h))
-
--- or the page is as it was
-pub put_short : (t before : List ℕ) → length before < length t → (0 ≡ wrote_of t before) × (before ≡ page_of t before)
-put_short t before h = (sym (wrote_none t before h), sym (page_none t before h))

@@ -5,30 +5,33 @@ use mathlib.Core.Bool.{Bool, true, false, cond}
 use mathlib.Core.List.{List, [], ◌++◌, append_assoc, append-nil}
 use Prim.Native.Nat.{ℕ, ◌+◌, ◌-◌, ◌≤◌, ◌<◌}
 use native.Mathlib.Omega.{arith}
-use borrow.Author.Tests.{eqb-true, eqb-false, eq-eqb, ne_eqb}
+use borrow.Author.Tests.{eqb-true, eqb-false}
 use lib.Dec.{eqb}
-use lib.ListN.{length, take, drop, length-append, length-take, length-drop, take-append-drop}
+use lib.ListN.{length, take, drop, length-append, length-drop, take-append-drop}
 use lib.Seq.{drop-drop, take_all, take-append_seam, drop-append_seam}
-use Rattle.decimal.specs.declared.Number.{Number}
-use Rattle.decimal.specs.declared.Number.TheVariants.{Malformed, OutOfRange, Value}
+use Rattle.std.specs.Cmp.Lexicographic.{pointwise}
+use Rattle.std.proofs.Common.{Option, Some, None, Result, Ok, Err}
+use Rattle.std.specs.Result.{result_ok}
+use Rattle.decimal.specs.declared.NumberError.{NumberError}
 use Rattle.decimal.specs.Decimal.{text_of, same_text, digits_of}
 use Rattle.decimal.specs.InnerPages.{labelled}
 use Rattle.decimal.specs.InnerReads.{read_of}
 use Rattle.decimal.proofs.Laws.{read_digits, read_value}
-use Rattle.decimal.proofs.Texts.{same_lengths, same_refl, same_true}
+use Rattle.decimal.proofs.Texts.{same_refl, same_true, same_pointwise, same_comm}
 use Rattle.types.specs.Types.{names_item, item_told}
 use Rattle.sentence.specs.declared.Part.{Part}
-use Rattle.sentence.specs.declared.Part.TheVariants.{Missing, Told}
-use Rattle.sentence.specs.declared.Reading.{Reading}
-use Rattle.sentence.specs.declared.Reading.TheVariants.{NoSentence, Sentence}
+use Rattle.sentence.specs.declared.Sentence.{Sentence}
 use Rattle.sentence.specs.Sentences.{words, word_of, in_table, line_part, item_part, sentence_of, Sayable, SaysThat}
-use Rattle.sentence.specs.InnerSentences.{piece_of, place_of, part_from, part_of, end_of, item_behind, rest_of, line_behind, behind_word, read_back}
-use Rattle.sentence.proofs.Laws.{word_plain, place_word, place_found, line_none, line_told, item_none, item_told_lem, take_piece, piece_front, piece_fits, piece_plain, number_plain}
+use Rattle.sentence.specs.InnerSentences.{piece_of, place_of, saying, told, part_from, part_of, end_of, item_behind, rest_of, line_behind, behind_word, read_back}
+use Rattle.sentence.proofs.Laws.{word_plain, no_row, place_word, place_found, line_none, line_told, item_none, item_told_lem, take_piece, piece_front, piece_fits, piece_plain, number_plain}
+
+pub some_one : {T : Type 0} {a b : T} → Some a ≡ Some b → a ≡ b
+some_one e = cc
 
 -- ## A number behind its label
 
 module _ (label : List ℕ) (limit : ℕ) (s : List ℕ) where
-  part_other : same_text label (take (length label) s) ≡ false → part_of label limit s ≡ Missing
+  part_other : same_text label (take (length label) s) ≡ false → part_of label limit s ≡ None
   unfolding part_of
   part_other h = rw h
 
@@ -39,44 +42,22 @@ module _ (label : List ℕ) (limit : ℕ) (s : List ℕ) where
   unfolding part_of
   part_read h = rw h
 
-  -- the text is too short for the label, or begins with another
-  pub part_short : length s < length label → Missing ≡ part_of label limit s
-  part_short h =
-      sym (part_other (sym (same_lengths label (take (length label) s) (λ e. omega (arith, length-take (length label) s)))))
-
-  pub part_none : same_text label (take (length label) s) ≡ false → Missing ≡ part_of label limit s
-  part_none h = sym (part_other h)
-
-  -- x is what stands behind the label, up to e, read as a number
-  pub part_found :
-      {e : ℕ} {x : Number} →
-      same_text label (take (length label) s) ≡ true →
-      e ≡ length label + length (piece_of (drop (length label) s)) →
-      x ≡ read_of (take (e - length label) (drop (length label) s)) limit →
-      part_from e x ≡ part_of label limit s
-  part_found {e} {x} h k r =
-      let rest = drop (length label) s in
-      let n : e - length label ≡ length (piece_of rest) = omega arith in
-      let digits : take (e - length label) rest ≡ piece_of rest = ap (λ (j : ℕ). take j rest) n ∙ take_piece rest in
-      rw k (ap (part_from (length label + length (piece_of rest))) (r ∙ ap (λ (l : List ℕ). read_of l limit) digits)) ∙ sym (part_read h)
-
   -- what is read as a number behind its label is that number's text
-  pub part_is : (v bytes : ℕ) → part_of label limit s ≡ Told v bytes → (s ≡ labelled label v ++ drop bytes s) × (v ≤ limit) × (bytes ≤ length s)
+  pub part_is : (v bytes : ℕ) → part_of label limit s ≡ told v bytes → (s ≡ labelled label v ++ drop bytes s) × (v ≤ limit) × (bytes ≤ length s)
   part_is v bytes h = go (same_text label (take (length label) s)) refl
     where
       rest : List ℕ
       rest = drop (length label) s
 
       found :
-          (x : Number) → read_of (piece_of rest) limit ≡ x → same_text label (take (length label) s) ≡ true →
-          part_from (length label + length (piece_of rest)) x ≡ Told v bytes →
+          (x : Result ℕ NumberError) → read_of (piece_of rest) limit ≡ x → same_text label (take (length label) s) ≡ true →
+          part_from (length label + length (piece_of rest)) x ≡ told v bytes →
           (s ≡ labelled label v ++ drop bytes s) × (v ≤ limit) × (bytes ≤ length s)
-      found Malformed e t q = let z : ◌≡◌ {A = ℕ} 0 1 = cc in absurd (omega arith)
-      found OutOfRange e t q = let z : ◌≡◌ {A = ℕ} 0 1 = cc in absurd (omega arith)
-      found (Value x) e t q =
+      found (Err why) e t q = absurd (cc)
+      found (Ok x) e t q =
           let r = read_value (piece_of rest) limit x e in
-          let same : x ≡ v = cc in
-          let n : length label + length (piece_of rest) ≡ bytes = cc in
+          let same : x ≡ v = ap (λ (y : Part). y.value) (some_one q) in
+          let n : length label + length (piece_of rest) ≡ bytes = ap (λ (y : Part). y.bytes) (some_one q) in
           let front : s ≡ label ++ rest =
           sym (take-append-drop (length label) s) ∙ ap (λ (l : List ℕ). l ++ rest) (sym (same_true label (take (length label) s) t)) in
           let back : rest ≡ digits_of v ++ drop bytes s =
@@ -92,19 +73,19 @@ module _ (label : List ℕ) (limit : ℕ) (s : List ℕ) where
           (t : Bool) → same_text label (take (length label) s) ≡ t →
           (s ≡ labelled label v ++ drop bytes s) × (v ≤ limit) × (bytes ≤ length s)
       go true e = found (read_of (piece_of rest) limit) refl e (sym (part_read e) ∙ h)
-      go false e = let m = part_other e in let z : ◌≡◌ {A = ℕ} 0 1 = cc in absurd (omega arith)
+      go false e = let m = part_other e in absurd (cc)
 
 -- a number behind its label is read
 part_told :
     (label : List ℕ) (limit v : ℕ) (r : List ℕ) → v ≤ limit → piece_of r ≡ [] →
-    part_of label limit (labelled label v ++ r) ≡ Told v (length (labelled label v))
+    part_of label limit (labelled label v ++ r) ≡ told v (length (labelled label v))
 unfolding part_of
 part_told label limit v r h k =
     let all : labelled label v ++ r ≡ label ++ (digits_of v ++ r) = append_assoc label (digits_of v) r in
     let digits : piece_of (digits_of v ++ r) ≡ digits_of v =
     piece_plain (digits_of v) r (number_plain v) ∙ ap (λ (l : List ℕ). digits_of v ++ l) k ∙ append-nil (digits_of v) in
     rw (all, take-append_seam label (digits_of v ++ r), drop-append_seam label (digits_of v ++ r), same_refl label, digits, read_digits v limit h)
-    (ap (Told v) (sym (length-append label (digits_of v))))
+    (ap (told v) (sym (length-append label (digits_of v))))
 
 -- ## A sentence is read as its numbers
 
@@ -117,11 +98,11 @@ tail_stops n i = go (names_item n) refl
     go true e = rw (item_told_lem n i e)
     go false e = rw (item_none n i e)
 
-tail_other : (limit n i : ℕ) → part_of (text_of ", line ") limit (item_part n i ++ text_of ".\n") ≡ Missing
+tail_other : (limit n i : ℕ) → part_of (text_of ", line ") limit (item_part n i ++ text_of ".\n") ≡ None
 unfolding part_of same_text
 tail_other limit n i = go (names_item n) refl
   where
-    go : (t : Bool) → names_item n ≡ t → part_of (text_of ", line ") limit (item_part n i ++ text_of ".\n") ≡ Missing
+    go : (t : Bool) → names_item n ≡ t → part_of (text_of ", line ") limit (item_part n i ++ text_of ".\n") ≡ None
     go true e = rw (item_told_lem n i e)
     go false e = rw (item_none n i e)
 
@@ -133,11 +114,11 @@ line_stops l r h = go (eqb l 0) refl
     go true e = rw (line_none l (eqb-true l 0 e)) h
     go false e = rw (line_told l (eqb-false l 0 e))
 
-rest_reads : (limit n l i : ℕ) → i ≤ limit → rest_of limit n l (item_part n i ++ text_of ".\n") ≡ Sentence n l (item_told n i)
+rest_reads : (limit n l i : ℕ) → i ≤ limit → rest_of limit n l (item_part n i ++ text_of ".\n") ≡ saying n l (item_told n i)
 unfolding rest_of end_of same_text piece_of
 rest_reads limit n l i h = go (names_item n) refl
   where
-    go : (t : Bool) → names_item n ≡ t → rest_of limit n l (item_part n i ++ text_of ".\n") ≡ Sentence n l (item_told n i)
+    go : (t : Bool) → names_item n ≡ t → rest_of limit n l (item_part n i ++ text_of ".\n") ≡ saying n l (item_told n i)
     go true e =
         let sail = text_of ", sail " in
         rw (
@@ -150,17 +131,17 @@ rest_reads limit n l i h = go (names_item n) refl
 
 behind_reads :
     (limit n l i : ℕ) → in_table n ≡ true → l ≤ limit → i ≤ limit →
-    behind_word limit n (line_part l ++ (item_part n i ++ text_of ".\n")) ≡ Sentence n l (item_told n i)
+    behind_word limit n (line_part l ++ (item_part n i ++ text_of ".\n")) ≡ saying n l (item_told n i)
 unfolding behind_word
 behind_reads limit n l i t h k = go (eqb l 0) refl
   where
     tail : List ℕ
     tail = item_part n i ++ text_of ".\n"
 
-    go : (b : Bool) → eqb l 0 ≡ b → behind_word limit n (line_part l ++ tail) ≡ Sentence n l (item_told n i)
+    go : (b : Bool) → eqb l 0 ≡ b → behind_word limit n (line_part l ++ tail) ≡ saying n l (item_told n i)
     go true e =
         let z = eqb-true l 0 e in
-        rw (t, line_none l z, tail_other limit n i) (rest_reads limit n 0 i k ∙ ap (λ (m : ℕ). Sentence n m (item_told n i)) (sym z))
+        rw (t, line_none l z, tail_other limit n i) (rest_reads limit n 0 i k ∙ ap (λ (m : ℕ). saying n m (item_told n i)) (sym z))
     go false e =
         let label = text_of ", line " in
         rw (
@@ -173,7 +154,7 @@ behind_reads limit n l i t h k = go (eqb l 0) refl
         (rest_reads limit n l i k)
 
 pub reading_back :
-    (limit n l i : ℕ) → in_table n ≡ true → l ≤ limit → i ≤ limit → read_back limit (sentence_of n l i) ≡ Sentence n l (item_told n i)
+    (limit n l i : ℕ) → in_table n ≡ true → l ≤ limit → i ≤ limit → read_back limit (sentence_of n l i) ≡ saying n l (item_told n i)
 unfolding read_back sentence_of
 reading_back limit n l i t h k =
     let rest = line_part l ++ (item_part n i ++ text_of ".\n") in
@@ -187,11 +168,11 @@ reading_back limit n l i t h k =
 abbrev big : ℕ
 big = 4294967295
 
-abbrev Sound : List ℕ → Reading → Type 0
-Sound s NoSentence = Unit {0}
-Sound s (Sentence n l i) = SaysThat s (Sentence n l i)
+abbrev Sound : List ℕ → Option Sentence → Type 0
+Sound s None = Unit {0}
+Sound s (Some x) = SaysThat s (Some x)
 
-sound_as : {s u : List ℕ} (r : Reading) → s ≡ u → Sound u r → Sound s r
+sound_as : {s u : List ℕ} (r : Option Sentence) → s ≡ u → Sound u r → Sound s r
 sound_as r e p = subst (λ (l : List ℕ). Sound l r) (sym e) p
 
 end_sound :
@@ -202,7 +183,7 @@ end_sound n l i u p q = go (same_text (text_of ".\n") u) refl
   where
     go :
         (t : Bool) → same_text (text_of ".\n") u ≡ t →
-        Sound (word_of n ++ (line_part l ++ (item_part n i ++ u))) (cond t (Sentence n l i) NoSentence)
+        Sound (word_of n ++ (line_part l ++ (item_part n i ++ u))) (cond t (saying n l i) None)
     go true e =
         (p, q, ap (λ (r : List ℕ). word_of n ++ (line_part l ++ (item_part n i ++ r))) (sym (same_true (text_of ".\n") u e)))
     go false e = tt
@@ -214,9 +195,11 @@ rest_sound n l u t h = go (names_item n) refl
     whole : List ℕ → List ℕ
     whole r = word_of n ++ (line_part l ++ r)
 
-    named : (p : Part) → part_of (text_of ", sail ") big u ≡ p → names_item n ≡ true → Sound (whole u) (item_behind n l u p)
-    named Missing e k = tt
-    named (Told i bytes) e k =
+    named : (p : Option Part) → part_of (text_of ", sail ") big u ≡ p → names_item n ≡ true → Sound (whole u) (item_behind n l u p)
+    named None e k = tt
+    named (Some x) e k =
+        let i = x.value in
+        let bytes = x.bytes in
         let q = part_is (text_of ", sail ") big u i bytes e in
         let split : u ≡ item_part n i ++ drop bytes u = q.0 ∙ ap (λ (r : List ℕ). r ++ drop bytes u) (sym (item_told_lem n i k)) in
         sound_as (end_of n l i (drop bytes u)) (ap whole split)
@@ -233,8 +216,8 @@ unfolding behind_word
 behind_sound n w u f = go (in_table n) refl
   where
     lined :
-        (l bytes : ℕ) → in_table n ≡ true → part_of (text_of ", line ") big u ≡ Told l bytes → (b : Bool) → eqb l 0 ≡ b →
-        Sound (w ++ u) (cond b NoSentence (rest_of big n l (drop bytes u)))
+        (l bytes : ℕ) → in_table n ≡ true → part_of (text_of ", line ") big u ≡ told l bytes → (b : Bool) → eqb l 0 ≡ b →
+        Sound (w ++ u) (cond b None (rest_of big n l (drop bytes u)))
     lined l bytes t e true z = tt
     lined l bytes t e false z =
         let q = part_is (text_of ", line ") big u l bytes e in
@@ -242,13 +225,13 @@ behind_sound n w u f = go (in_table n) refl
         let all : w ++ u ≡ word_of n ++ (line_part l ++ drop bytes u) = ap (λ (r : List ℕ). r ++ u) (f t) ∙ ap (λ (r : List ℕ). word_of n ++ r) split in
         sound_as (rest_of big n l (drop bytes u)) all (rest_sound n l (drop bytes u) t q.1)
 
-    line : (p : Part) → part_of (text_of ", line ") big u ≡ p → in_table n ≡ true → Sound (w ++ u) (line_behind big n u p)
-    line Missing e t =
+    line : (p : Option Part) → part_of (text_of ", line ") big u ≡ p → in_table n ≡ true → Sound (w ++ u) (line_behind big n u p)
+    line None e t =
         let none : word_of n ++ u ≡ word_of n ++ (line_part 0 ++ u) = ap (λ (r : List ℕ). word_of n ++ (r ++ u)) (sym (line_none 0 refl)) in
         sound_as (rest_of big n 0 u) (ap (λ (r : List ℕ). r ++ u) (f t) ∙ none) (rest_sound n 0 u t (omega arith))
-    line (Told l bytes) e t = lined l bytes t e (eqb l 0) refl
+    line (Some x) e t = lined x.value x.bytes t e (eqb x.value 0) refl
 
-    go : (b : Bool) → in_table n ≡ b → Sound (w ++ u) (cond b (line_behind big n u (part_of (text_of ", line ") big u)) NoSentence)
+    go : (b : Bool) → in_table n ≡ b → Sound (w ++ u) (cond b (line_behind big n u (part_of (text_of ", line ") big u)) None)
     go true t = line (part_of (text_of ", line ") big u) refl t
     go false t = tt
 
@@ -263,26 +246,25 @@ reading_sound s =
 reading_right : (s : List ℕ) → SaysThat s (read_back 4294967295 s)
 reading_right s = go (read_back big s) refl (reading_sound s)
   where
-    go : (r : Reading) → read_back big s ≡ r → Sound s r → SaysThat s r
-    go NoSentence e p =
+    go : (r : Option Sentence) → read_back big s ≡ r → Sound s r → SaysThat s r
+    go None e p =
         λ n l i y q.
         let b = reading_back big n l i y.row y.line_fits y.item_fits in
         let a = ap (read_back big) q in
-        let z : ◌≡◌ {A = ℕ} 0 1 = cc in
-        omega arith
-    go (Sentence n l i) e p = p
+        cc
+    go (Some x) e p = p
 
 -- and it says nothing else
-pub reading_only : (s : List ℕ) (r : Reading) → SaysThat s r → r ≡ read_back 4294967295 s
-reading_only s (Sentence n l i) p =
+pub reading_only : (s : List ℕ) (r : Option Sentence) → SaysThat s r → r ≡ read_back 4294967295 s
+reading_only s (Some x) p =
     let y = p.0 in
     sym
-    (ap (read_back big) p.2 ∙ reading_back big n l i y.row y.line_fits y.item_fits ∙ ap (Sentence n l) p.1)
-reading_only s NoSentence p = go (read_back big s) (reading_right s)
+    (ap (read_back big) p.2 ∙ reading_back big x.number x.line x.item y.row y.line_fits y.item_fits ∙ ap (saying x.number x.line) p.1)
+reading_only s None p = go (read_back big s) (reading_right s)
   where
-    go : (r : Reading) → SaysThat s r → NoSentence ≡ r
-    go NoSentence q = refl
-    go (Sentence n l i) q = absurd (p n l i q.0 q.2)
+    go : (r : Option Sentence) → SaysThat s r → None ≡ r
+    go None q = refl
+    go (Some x) q = absurd (p x.number x.line x.item q.0 q.2)
 
 -- ## What each function of the reader finds
 
@@ -290,43 +272,30 @@ reading_only s NoSentence p = go (read_back big s) (reading_right s)
 pub lent_rest : (k : ℕ) (s : List ℕ) → take (length s - k) (drop k s) ≡ drop k s
 lent_rest k s = take_all (length s - k) (drop k s) (omega (arith, length-drop k s))
 
-module _ (n l i : ℕ) (s : List ℕ) where
-  pub end_found : same_text (text_of ".\n") s ≡ true → Sentence n l i ≡ end_of n l i s
-  unfolding end_of
-  end_found e = rw e
+-- the library's test of what a text begins with
+pub begins_with : (t s : List ℕ) → pointwise eqb s t ≡ same_text t s
+begins_with t s = same_pointwise s t ∙ same_comm s t
 
-  pub end_other : same_text (text_of ".\n") s ≡ false → NoSentence ≡ end_of n l i s
-  unfolding end_of
-  end_other e = rw e
+-- a number that is read is within the limit
+pub read_small : (s : List ℕ) (limit v : ℕ) (r : Result ℕ NumberError) → r ≡ read_of s limit → result_ok r ≡ Some v → v ≤ limit
+read_small s limit v (Ok x) e f = let g : x ≡ v = some_one f in omega (arith, (read_value s limit x (sym e)).1)
+read_small s limit v (Err why) e f = absurd (cc)
 
-module _ (n l : ℕ) (s : List ℕ) where
-  pub rest_bare : names_item n ≡ false → end_of n l 0 s ≡ rest_of 4294967295 n l s
-  unfolding rest_of
-  rest_bare e = rw e
+-- what one needs of a part
+pub ruleset parting = (begins_with, take_piece)
 
-  pub rest_named : {p : Part} → names_item n ≡ true → p ≡ part_of (text_of ", sail ") 4294967295 s → item_behind n l s p ≡ rest_of 4294967295 n l s
-  unfolding rest_of
-  rest_named e q = rw (e, q)
-
-module _ (n : ℕ) (s : List ℕ) where
-  pub behind_none : in_table n ≡ false → NoSentence ≡ behind_word 4294967295 n s
-  unfolding behind_word
-  behind_none e = rw e
-
-  pub behind_row : {p : Part} → in_table n ≡ true → p ≡ part_of (text_of ", line ") 4294967295 s → line_behind 4294967295 n s p ≡ behind_word 4294967295 n s
-  unfolding behind_word
-  behind_row e q = rw (e, q)
-
-  -- line 0 is never told
-  pub line_zero : (l bytes : ℕ) → l ≡ 0 → NoSentence ≡ line_behind 4294967295 n s (Told l bytes)
-  line_zero l bytes e = rw (eq-eqb l 0 e)
-
-  pub line_other : (l bytes : ℕ) → (l ≡ 0 → ⊥) → rest_of 4294967295 n l (drop bytes s) ≡ line_behind 4294967295 n s (Told l bytes)
-  line_other l bytes e = rw (ne_eqb l 0 e)
+-- a text that begins with no word says nothing
+pub reading_stray : (s : List ℕ) {n : ℕ} → n ≡ length (piece_of s) → (place_of words (take n s) < 28 → ⊥) → SaysThat s None
+unfolding read_back behind_word
+reading_stray s {n} e h =
+    let word : take n s ≡ piece_of s = ap (λ (j : ℕ). take j s) e ∙ take_piece s in
+    let far : place_of words (piece_of s) < 28 → ⊥ = rw word at h in
+    let none : read_back 4294967295 s ≡ None = rw (no_row (place_of words (piece_of s)) (omega (arith, far))) in
+    subst (SaysThat s) none (reading_right s)
 
 -- the whole text: a word, the number whose word it is, and what is read behind it
 pub reading_done :
-    (s : List ℕ) {n k : ℕ} {r : Reading} →
+    (s : List ℕ) {n k : ℕ} {r : Option Sentence} →
     n ≡ length (piece_of s) →
     k ≡ place_of words (take n s) →
     r ≡ behind_word 4294967295 k (take (length s - n) (drop n s)) →

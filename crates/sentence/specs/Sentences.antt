@@ -2,10 +2,11 @@
 -- Assumes nothing.
 use mathlib.Core.{Path.◌≡◌, Bool.{Bool, true, cond, not}, List.{List, [], ◌∷◌, ◌++◌}}
 use Prim.Native.{Nat.{ℕ, ◌≤◌}, String.String}
+use Rattle.std.specs.Prelude.{Option, Some, None}
 use lib.{ListN.{length, get_or}, Dec.eqb}
 use Rattle.decimal.specs.Decimal.{text_of, digits_of}
 use Rattle.types.specs.Types.{names_item, item_told}
-use Rattle.sentence.specs.declared.Reading.{Reading, TheVariants.{NoSentence, Sentence}}
+use Rattle.sentence.specs.declared.Sentence.{Sentence}
 
 -- The words of the refusals, each at the place of its number: 1 to 17 from paper 01's table, the others from paper 02. There is no
 -- refusal 0 and none of number 23.
@@ -43,10 +44,10 @@ pub record Sayable (number line item : ℕ) : Type 0 where
 
 -- What reading a text answers: the numbers whose sentence it is, the item 0 where the number names none; or that it is the sentence of
 -- no numbers. Two refusals that differ never have one sentence (proofs/Sentences.antt, sentence_one), so this leaves no choice.
-abbrev pub SaysThat : List ℕ → Reading → Type 0
-SaysThat s (Sentence number line item) =
-    Sayable number line item × (item_told number item ≡ item) × (s ≡ sentence_of number line item)
-SaysThat s NoSentence = (number line item : ℕ) → Sayable number line item → s ≡ sentence_of number line item → ⊥
+abbrev pub SaysThat : List ℕ → Option Sentence → Type 0
+SaysThat s (Some x) =
+    Sayable x.number x.line x.item × (item_told x.number x.item ≡ x.item) × (s ≡ sentence_of x.number x.line x.item)
+SaysThat s None = (number line item : ℕ) → Sayable number line item → s ≡ sentence_of number line item → ⊥
 
 -- the bytes of the longest sentence: 11 of `misnumbered`, 7 before the line and 7 before the item, 10 digits each, full stop and line feed
 abbrev pub longest_sentence : ℕ

@@ -2,9 +2,7 @@
 use mathlib.Core.Path.{◌≡◌, refl}
 use mathlib.Core.Bool.{true}
 use Prim.Native.Nat.{ℕ, ◌<◌}
-use native.Mathlib.Decide.{ℕ_discrete}
 use native.Mathlib.Omega.{arith}
-use borrow.Author.Tests.{ne_eqb}
 use Rattle.types.specs.declared.Deduction.{Deduction}
 use Rattle.types.specs.declared.Deduction.TheVariants.{WriteFirst, LoadFirst}
 use Rattle.types.specs.Types.{deduction_number, deduction_of, is_deduction}
@@ -15,12 +13,7 @@ deduction_number_lem WriteFirst = (refl, refl)
 deduction_number_lem LoadFirst = (refl, refl)
 
 pub deduction_lt : (r : Deduction) → deduction_number r < 2
-deduction_lt WriteFirst = omega arith
-deduction_lt LoadFirst = omega arith
+deduction_lt r = grind arith
 
 pub number_deduction : (n : ℕ) → n < 2 → deduction_number (deduction_of n) ≡ n
-number_deduction n l = go (ℕ_discrete n 0)
-  where
-    go : Dec (n ≡ 0) → deduction_number (deduction_of n) ≡ n
-    go (yes e) = rw e
-    go (no e) = rw (ne_eqb n 0 e) (let f : 1 ≡ n = omega (arith, l, e) in f)
+number_deduction n l = grind arith

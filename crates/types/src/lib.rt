@@ -3,7 +3,7 @@
 #![tactic(auto)]
 
 ghost use Rattle.std.specs.Prelude.{◌≡◌, ◌≤◌};
-ghost use Rattle.types.specs.Types.{numbers_from, numbers_of, step_of, step_item, act_kind, act_item, deduction_number, deduction_of, told, telling, refusal_number, refusal_line, refusal_item};
+ghost use Rattle.types.specs.Types.{numbers_of, step_of, step_item, act_kind, act_item, deduction_number, deduction_of, told, telling, refusal_number, refusal_line, refusal_item};
 
 // The code of each letter that stands for a step: R, W, L, A and Q.
 pub const READ: u32 = b'R' as u32;
@@ -22,7 +22,7 @@ pub const EVICT: u32 = b'D' as u32;
 pub const FETCH: u32 = b'F' as u32;
 
 // A step of the log. Its numbers are as given: nothing here says that they are in range.
-#[derive(Clone, Copy)]
+#[derive(Clone, Copy, Debug, PartialEq, Eq)]
 pub enum Step {
     Read {
         item: u32,
@@ -47,7 +47,7 @@ pub enum Step {
 }
 
 // A step as a call names it: the code of its letter, and then its values. What a step lacks is not looked at, and is 0 where it is told.
-#[derive(Clone, Copy)]
+#[derive(Clone, Copy, Debug, Default, PartialEq, Eq)]
 pub struct Numbers {
     pub kind: u32,
     pub item: u32,
@@ -58,7 +58,7 @@ pub struct Numbers {
 }
 
 // An act of a plan, done before a step is served.
-#[derive(Clone, Copy)]
+#[derive(Clone, Copy, Debug, PartialEq, Eq)]
 pub enum Act {
     // paper 01: D, drops a held sail
     Evict { item: u32 },
@@ -67,7 +67,7 @@ pub enum Act {
 }
 
 // The rule of deduction: which of its two credits an item loses from first. It is chosen at the opening.
-#[derive(Clone, Copy)]
+#[derive(Clone, Copy, Debug, PartialEq, Eq)]
 pub enum Deduction {
     // paper 01's: from the write credit first
     WriteFirst,
@@ -77,7 +77,7 @@ pub enum Deduction {
 
 // A refusal, one case for each number of the table: 1 to 17 are paper 01's, 18 to 20 paper 02's. The payload is the line of the text, counted
 // from 1; it is 0 where a call is refused and no text was read. Some name the item that they are about.
-#[derive(Clone, Copy)]
+#[derive(Clone, Copy, Debug, PartialEq, Eq)]
 pub enum Refusal {
     // 1, torn
     Malformed { line: u32 },
@@ -121,84 +121,85 @@ pub enum Refusal {
     RetiredItem { line: u32, item: u32 },
 }
 
-fn six_numbers(kind: u32, item: u32, minutes: u32, blocks: u32, load: u32, write: u32) -> Numbers
-    ensures { result ≡ numbers_from kind item minutes blocks load write }
-{
-    Numbers {
-        kind: kind,
-        item: item,
-        minutes: minutes,
-        blocks: blocks,
-        load: load,
-        write: write,
-    }
-}
-
 impl Step {
     // The step's numbers. Its letter stands for it in the log, as its code.
     pub fn numbers(self) -> Numbers
         ensures { result ≡ numbers_of self }
     {
+        let none = Numbers::default();
         match self {
-            Step::Read { item } => six_numbers(READ, item, 0, 0, 0, 0),
-            Step::Write { item, minutes } => six_numbers(WRITE, item, minutes, 0, 0, 0),
-            Step::Flush => six_numbers(FLUSH, 0, 0, 0, 0, 0),
+            Step::Read { item } => Numbers {
+                kind: READ,
+                item,
+                ..none
+            },
+            Step::Write { item, minutes } => Numbers {
+                kind: WRITE,
+                item,
+                minutes,
+                ..none
+            },
+            Step::Flush => Numbers {
+                kind: FLUSH,
+                ..none
+            },
             Step::Arrive {
                 item,
                 blocks,
                 load,
                 write,
-            } => six_numbers(ARRIVE, item, 0, blocks, load, write),
-            Step::Retire { item } => six_numbers(RETIRE, item, 0, 0, 0, 0),
+            } => Numbers {
+                kind: ARRIVE,
+                item,
+                blocks,
+                load,
+                write,
+                ..none
+            },
+            Step::Retire { item } => Numbers {
+                kind: RETIRE,
+                item,
+                ..none
+            },
         }
     }
-}
 
-impl Step {
     // The item that the step names; 0 for a flush, which names none.
     pub fn item(self) -> u32
         ensures { result ≡ step_item self }
     {
         match self {
-            Step::Read { item } => item,
-            Step::Write { item, minutes: _ } => item,
+            Step::Read { item }
+            | Step::Write { item, .. }
+            | Step::Arrive { item, .. }
+            | Step::Retire { item } => item,
             Step::Flush => 0,
-            Step::Arrive {
-                item,
-                blocks: _,
-                load: _,
-                write: _,
-            } => item,
-            Step::Retire { item } => item,
         }
     }
 }
 
-// The step of a known kind; every other kind is a flush here: whoever takes numbers asks first whether the kind is one.
+// The step of a known kind; every other kind is a flush here: whoever takes numbers asks first whether the kind is one. Kept by hand: a
+// `TryFrom` would ask again what the range of a step's numbers, tested before, has told.
+#[tactic(auto, unfolding(crate::specs::Types::step_of))]
 pub fn step_of(n: Numbers) -> Step
     ensures { result ≡ step_of n }
 {
-    if n.kind == READ {
-        return Step::Read { item: n.item };
-    }
-    if n.kind == WRITE {
-        return Step::Write {
-            item: n.item,
+    let item = n.item;
+    match n.kind {
+        READ => Step::Read { item },
+        WRITE => Step::Write {
+            item,
             minutes: n.minutes,
-        };
-    }
-    if n.kind == ARRIVE {
-        return Step::Arrive {
-            item: n.item,
+        },
+        ARRIVE => Step::Arrive {
+            item,
             blocks: n.blocks,
             load: n.load,
             write: n.write,
-        };
+        },
+        RETIRE => Step::Retire { item },
+        _ => Step::Flush,
     }
-    if n.kind == RETIRE {
-        return Step::Retire { item: n.item };
-    }
-    Step::Flush
 }
 
 impl Act {
@@ -207,19 +208,16 @@ impl Act {
         ensures { result ≡ act_kind self }
     {
         match self {
-            Act::Evict { item: _ } => EVICT,
-            Act::Fetch { item: _ } => FETCH,
+            Act::Evict { .. } => EVICT,
+            Act::Fetch { .. } => FETCH,
         }
     }
-}
 
-impl Act {
     pub fn item(self) -> u32
         ensures { result ≡ act_item self }
     {
         match self {
-            Act::Evict { item } => item,
-            Act::Fetch { item } => item,
+            Act::Evict { item } | Act::Fetch { item } => item,
         }
     }
 }
@@ -236,15 +234,15 @@ impl Deduction {
     }
 }
 
-// The rule of deduction of a number: 0 is write-first. Every other is load-first here; whoever takes a number asks first whether it is a
-// rule's.
+// The rule of deduction of a number: 0 is write-first. Every other is load-first here; whoever takes a number from a call asks first
+// whether it is a rule's. Kept by hand: a state's bytes may hold any number, and what they hold is a rule all the same.
 pub fn deduction_of(number: u32) -> Deduction
     ensures { result ≡ deduction_of number }
 {
-    if number == 0 {
-        return Deduction::WriteFirst;
+    match number {
+        0 => Deduction::WriteFirst,
+        _ => Deduction::LoadFirst,
     }
-    Deduction::LoadFirst
 }
 
 impl Refusal {
@@ -253,86 +251,70 @@ impl Refusal {
         ensures { result ≡ refusal_number self }
     {
         match self {
-            Refusal::Malformed { line: _ } => 1,
-            Refusal::Heading { line: _ } => 2,
-            Refusal::OutOfRange { line: _ } => 3,
-            Refusal::OutOfSequence { line: _ } => 4,
-            Refusal::PlanTooLarge { line: _ } => 5,
-            Refusal::UnknownItem { line: _, item: _ } => 6,
-            Refusal::ItemTooLarge { line: _, item: _ } => 7,
-            Refusal::LogFull { line: _ } => 8,
-            Refusal::Closed { line: _ } => 9,
-            Refusal::ActOutOfOrder { line: _ } => 10,
-            Refusal::NotHeld { line: _, item: _ } => 11,
-            Refusal::AlreadyHeld { line: _, item: _ } => 12,
-            Refusal::OverCapacity { line: _ } => 13,
-            Refusal::RequestNotHeld { line: _, item: _ } => 14,
-            Refusal::ShortBuffer { line: _ } => 15,
-            Refusal::InputTooLong { line: _ } => 16,
-            Refusal::InvalidState { line: _ } => 17,
-            Refusal::UnknownRule { line: _ } => 18,
-            Refusal::NotNextNumber { line: _, item: _ } => 19,
-            Refusal::RetiredItem { line: _, item: _ } => 20,
+            Refusal::Malformed { .. } => 1,
+            Refusal::Heading { .. } => 2,
+            Refusal::OutOfRange { .. } => 3,
+            Refusal::OutOfSequence { .. } => 4,
+            Refusal::PlanTooLarge { .. } => 5,
+            Refusal::UnknownItem { .. } => 6,
+            Refusal::ItemTooLarge { .. } => 7,
+            Refusal::LogFull { .. } => 8,
+            Refusal::Closed { .. } => 9,
+            Refusal::ActOutOfOrder { .. } => 10,
+            Refusal::NotHeld { .. } => 11,
+            Refusal::AlreadyHeld { .. } => 12,
+            Refusal::OverCapacity { .. } => 13,
+            Refusal::RequestNotHeld { .. } => 14,
+            Refusal::ShortBuffer { .. } => 15,
+            Refusal::InputTooLong { .. } => 16,
+            Refusal::InvalidState { .. } => 17,
+            Refusal::UnknownRule { .. } => 18,
+            Refusal::NotNextNumber { .. } => 19,
+            Refusal::RetiredItem { .. } => 20,
         }
     }
-}
 
-impl Refusal {
     // The line of the text, counted from 1; 0 where no text was read.
     pub fn line(self) -> u32
         ensures { result ≡ refusal_line self }
     {
         match self {
-            Refusal::Malformed { line } => line,
-            Refusal::Heading { line } => line,
-            Refusal::OutOfRange { line } => line,
-            Refusal::OutOfSequence { line } => line,
-            Refusal::PlanTooLarge { line } => line,
-            Refusal::UnknownItem { line, item: _ } => line,
-            Refusal::ItemTooLarge { line, item: _ } => line,
-            Refusal::LogFull { line } => line,
-            Refusal::Closed { line } => line,
-            Refusal::ActOutOfOrder { line } => line,
-            Refusal::NotHeld { line, item: _ } => line,
-            Refusal::AlreadyHeld { line, item: _ } => line,
-            Refusal::OverCapacity { line } => line,
-            Refusal::RequestNotHeld { line, item: _ } => line,
-            Refusal::ShortBuffer { line } => line,
-            Refusal::InputTooLong { line } => line,
-            Refusal::InvalidState { line } => line,
-            Refusal::UnknownRule { line } => line,
-            Refusal::NotNextNumber { line, item: _ } => line,
-            Refusal::RetiredItem { line, item: _ } => line,
+            Refusal::Malformed { line }
+            | Refusal::Heading { line }
+            | Refusal::OutOfRange { line }
+            | Refusal::OutOfSequence { line }
+            | Refusal::PlanTooLarge { line }
+            | Refusal::UnknownItem { line, .. }
+            | Refusal::ItemTooLarge { line, .. }
+            | Refusal::LogFull { line }
+            | Refusal::Closed { line }
+            | Refusal::ActOutOfOrder { line }
+            | Refusal::NotHeld { line, .. }
+            | Refusal::AlreadyHeld { line, .. }
+            | Refusal::OverCapacity { line }
+            | Refusal::RequestNotHeld { line, .. }
+            | Refusal::ShortBuffer { line }
+            | Refusal::InputTooLong { line }
+            | Refusal::InvalidState { line }
+            | Refusal::UnknownRule { line }
+            | Refusal::NotNextNumber { line, .. }
+            | Refusal::RetiredItem { line, .. } => line,
         }
     }
-}
 
-impl Refusal {
     // The item that the refusal is about; 0 where it names none.
     pub fn item(self) -> u32
         ensures { result ≡ refusal_item self }
     {
         match self {
-            Refusal::Malformed { line: _ } => 0,
-            Refusal::Heading { line: _ } => 0,
-            Refusal::OutOfRange { line: _ } => 0,
-            Refusal::OutOfSequence { line: _ } => 0,
-            Refusal::PlanTooLarge { line: _ } => 0,
-            Refusal::UnknownItem { line: _, item } => item,
-            Refusal::ItemTooLarge { line: _, item } => item,
-            Refusal::LogFull { line: _ } => 0,
-            Refusal::Closed { line: _ } => 0,
-            Refusal::ActOutOfOrder { line: _ } => 0,
-            Refusal::NotHeld { line: _, item } => item,
-            Refusal::AlreadyHeld { line: _, item } => item,
-            Refusal::OverCapacity { line: _ } => 0,
-            Refusal::RequestNotHeld { line: _, item } => item,
-            Refusal::ShortBuffer { line: _ } => 0,
-            Refusal::InputTooLong { line: _ } => 0,
-            Refusal::InvalidState { line: _ } => 0,
-            Refusal::UnknownRule { line: _ } => 0,
-            Refusal::NotNextNumber { line: _, item } => item,
-            Refusal::RetiredItem { line: _, item } => item,
+            Refusal::UnknownItem { item, .. }
+            | Refusal::ItemTooLarge { item, .. }
+            | Refusal::NotHeld { item, .. }
+            | Refusal::AlreadyHeld { item, .. }
+            | Refusal::RequestNotHeld { item, .. }
+            | Refusal::NotNextNumber { item, .. }
+            | Refusal::RetiredItem { item, .. } => item,
+            _ => 0,
         }
     }
 }
@@ -343,46 +325,25 @@ pub fn refusal_of(number: u32, line: u32, item: u32) -> Refusal
     ensures { told result ≡ telling number line item }
 {
     match number {
-        1 => Refusal::Malformed { line: line },
-        2 => Refusal::Heading { line: line },
-        3 => Refusal::OutOfRange { line: line },
-        4 => Refusal::OutOfSequence { line: line },
-        5 => Refusal::PlanTooLarge { line: line },
-        6 => Refusal::UnknownItem {
-            line: line,
-            item: item,
-        },
-        7 => Refusal::ItemTooLarge {
-            line: line,
-            item: item,
-        },
-        8 => Refusal::LogFull { line: line },
-        9 => Refusal::Closed { line: line },
-        10 => Refusal::ActOutOfOrder { line: line },
-        11 => Refusal::NotHeld {
-            line: line,
-            item: item,
-        },
-        12 => Refusal::AlreadyHeld {
-            line: line,
-            item: item,
-        },
-        13 => Refusal::OverCapacity { line: line },
-        14 => Refusal::RequestNotHeld {
-            line: line,
-            item: item,
-        },
-        15 => Refusal::ShortBuffer { line: line },
-        16 => Refusal::InputTooLong { line: line },
-        17 => Refusal::InvalidState { line: line },
-        18 => Refusal::UnknownRule { line: line },
-        19 => Refusal::NotNextNumber {
-            line: line,
-            item: item,
-        },
-        _ => Refusal::RetiredItem {
-            line: line,
-            item: item,
-        },
+        1 => Refusal::Malformed { line },
+        2 => Refusal::Heading { line },
+        3 => Refusal::OutOfRange { line },
+        4 => Refusal::OutOfSequence { line },
+        5 => Refusal::PlanTooLarge { line },
+        6 => Refusal::UnknownItem { line, item },
+        7 => Refusal::ItemTooLarge { line, item },
+        8 => Refusal::LogFull { line },
+        9 => Refusal::Closed { line },
+        10 => Refusal::ActOutOfOrder { line },
+        11 => Refusal::NotHeld { line, item },
+        12 => Refusal::AlreadyHeld { line, item },
+        13 => Refusal::OverCapacity { line },
+        14 => Refusal::RequestNotHeld { line, item },
+        15 => Refusal::ShortBuffer { line },
+        16 => Refusal::InputTooLong { line },
+        17 => Refusal::InvalidState { line },
+        18 => Refusal::UnknownRule { line },
+        19 => Refusal::NotNextNumber { line, item },
+        _ => Refusal::RetiredItem { line, item },
     }
 }

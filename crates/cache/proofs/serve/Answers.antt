@@ -1,66 +1,73 @@
 -- `cache::serve` meets its contract: each need is a law of proofs/Steps.antt. Assumes nothing.
-use native.Mathlib.Omega.{arith}
-use Rattle.cache.proofs.Steps.{passed_steps, passed_flush, passed_values, passed_arrives, passed_arrived, passed_place, passed_leaves, passed_left, passed_wanted, passed_minutes, room_servable, read_took, write_took}
+use Rattle.std.proofs.Common.{arith}
+use Rattle.cache.proofs.Steps.{passed_steps, arrival_values, arrival_ready, arrival_took, retirement_ready, read_asked, write_asked, write_minutes, request_wanted, room_servable, read_took, write_took}
 use Rattle.cache.proofs.serve.Goals as goal
 
 pub flush_step-requires : goal.flush_step-requires
 flush_step-requires c =
-    passed_steps c.args.b.now c.args.n c.requires
+    passed_steps c.args.b.now c.args.step c.requires
 
-pub returns-then-n-eq-FLUSH : goal.returns-then-n-eq-FLUSH
-returns-then-n-eq-FLUSH c =
-    passed_flush c.args.b.now c.args.n c.requires _ c.if-n-eq-FLUSH.true c.flush_step.ensures
+pub overflow_cast-blocks : goal.overflow_cast-blocks
+overflow_cast-blocks c =
+    let a = c.in-Arrive in
+    omega (arith, (arrival_values c.args.b.now c.args.step c.requires _ _ _ _ a.is).small)
 
-pub overflow_cast-n : goal.overflow_cast-n
-overflow_cast-n c =
-    omega (arith, (passed_values c.args.b.now c.args.n c.requires c.if-n-eq-ARRIVE.true).small)
+pub overflow_cast-load : goal.overflow_cast-load
+overflow_cast-load c =
+    let a = c.in-Arrive in
+    omega (arith, (arrival_values c.args.b.now c.args.step c.requires _ _ _ _ a.is).load)
 
-pub overflow_cast-n-then-n-eq-ARRIVE : goal.overflow_cast-n-then-n-eq-ARRIVE
-overflow_cast-n-then-n-eq-ARRIVE c =
-    omega (arith, (passed_values c.args.b.now c.args.n c.requires c.if-n-eq-ARRIVE.true).load)
-
-pub overflow_cast-n-then-n-eq-ARRIVE-2 : goal.overflow_cast-n-then-n-eq-ARRIVE-2
-overflow_cast-n-then-n-eq-ARRIVE-2 c =
-    omega (arith, (passed_values c.args.b.now c.args.n c.requires c.if-n-eq-ARRIVE.true).write)
+pub overflow_cast-write : goal.overflow_cast-write
+overflow_cast-write c =
+    let a = c.in-Arrive in
+    omega (arith, (arrival_values c.args.b.now c.args.step c.requires _ _ _ _ a.is).write)
 
 pub arrive-requires : goal.arrive-requires
 arrive-requires c =
-    passed_arrives c.args.b.now c.args.n c.requires c.if-n-eq-ARRIVE.true
+    arrival_ready c.args.b.now c.args.step c.requires _ _ _ _ c.in-Arrive.is
 
-pub returns-then-n-eq-ARRIVE : goal.returns-then-n-eq-ARRIVE
-returns-then-n-eq-ARRIVE c =
-    passed_arrived c.args.b.now c.args.n c.requires _ c.if-n-eq-ARRIVE.true c.arrive.ensures
-
-pub overflow_cast-i : goal.overflow_cast-i
-overflow_cast-i c =
-    omega (arith, passed_place c.args.b.now c.args.n c.requires c.if-n-eq-FLUSH.false c.if-n-eq-ARRIVE.false)
+pub returns-in-Arrive : goal.returns-in-Arrive
+returns-in-Arrive c =
+    arrival_took c.args.b.now c.args.step c.requires _ _ _ _ c.in-Arrive.is _ c.arrive.ensures
 
 pub retire-requires : goal.retire-requires
 retire-requires c =
-    passed_leaves c.args.b.now c.args.n c.requires c.if-n-eq-FLUSH.false c.if-n-eq-ARRIVE.false
-
-pub returns-then-n-eq-RETIRE : goal.returns-then-n-eq-RETIRE
-returns-then-n-eq-RETIRE c =
-    passed_left c.args.b.now c.args.n c.requires c.if-n-eq-FLUSH.false c.if-n-eq-ARRIVE.false _ c.if-n-eq-RETIRE.true c.retire.ensures
+    retirement_ready c.args.b.now c.args.step c.requires _ c.in-Retire.is
 
 pub make_room-requires : goal.make_room-requires
 make_room-requires c =
-    passed_wanted c.args.b.now c.args.n c.requires c.if-n-eq-FLUSH.false c.if-n-eq-ARRIVE.false c.if-n-eq-RETIRE.false
+    let b = c.args.b.now in
+    let s = c.args.step in
+    request_wanted b s c.requires _ (read_asked b s c.requires _ c.in-Read.is)
 
 pub serve_read-requires : goal.serve_read-requires
 serve_read-requires c =
-    room_servable c.args.b.now c.args.n c.requires c.if-n-eq-FLUSH.false c.if-n-eq-ARRIVE.false c.if-n-eq-RETIRE.false _ c.make_room.ensures
+    let b = c.args.b.now in
+    let s = c.args.step in
+    room_servable b s c.requires _ (read_asked b s c.requires _ c.in-Read.is) _ c.make_room.ensures
 
-pub returns-then-n-eq-READ : goal.returns-then-n-eq-READ
-returns-then-n-eq-READ c =
-    read_took c.args.b.now c.args.n c.requires c.if-n-eq-FLUSH.false c.if-n-eq-ARRIVE.false c.if-n-eq-RETIRE.false _ c.make_room.ensures _ c.if-n-eq-READ.true c.serve_read.ensures
+pub returns-in-Read : goal.returns-in-Read
+returns-in-Read c =
+    let b = c.args.b.now in
+    let s = c.args.step in
+    read_took b s c.requires _ (read_asked b s c.requires _ c.in-Read.is) _ c.make_room.ensures _ c.in-Read.is c.serve_read.ensures
+
+pub make_room-requires-in-Write : goal.make_room-requires-in-Write
+make_room-requires-in-Write c =
+    let b = c.args.b.now in
+    let s = c.args.step in
+    request_wanted b s c.requires _ (write_asked b s c.requires _ _ c.in-Write.is)
 
 pub serve_write-requires : goal.serve_write-requires
-serve_write-requires c = (
-  room_servable c.args.b.now c.args.n c.requires c.if-n-eq-FLUSH.false c.if-n-eq-ARRIVE.false c.if-n-eq-RETIRE.false _ c.make_room.ensures,
-  passed_minutes c.args.b.now c.args.n c.requires c.if-n-eq-FLUSH.false c.if-n-eq-ARRIVE.false c.if-n-eq-RETIRE.false c.if-n-eq-READ.false,
-)
+serve_write-requires c =
+    let b = c.args.b.now in
+    let s = c.args.step in (
+      room_servable b s c.requires _ (write_asked b s c.requires _ _ c.in-Write.is) _ c.make_room-in-Write.ensures,
+      write_minutes b s c.requires _ _ c.in-Write.is,
+    )
 
-pub returns : goal.returns
-returns c =
-    write_took c.args.b.now c.args.n c.requires c.if-n-eq-FLUSH.false c.if-n-eq-ARRIVE.false c.if-n-eq-RETIRE.false _ c.make_room.ensures _ c.if-n-eq-READ.false c.serve_write.ensures
+pub returns-in-Write : goal.returns-in-Write
+returns-in-Write c =
+    let b = c.args.b.now in
+    let s = c.args.step in
+    write_took b s c.requires _ (write_asked b s c.requires _ _ c.in-Write.is) _ c.make_room-in-Write.ensures _ _ c.in-Write.is c.serve_write.ensures

@@ -4,7 +4,7 @@ use Rattle.landlord.specs.CallNumbers.{calls_of}
 use Rattle.cache_run.proofs.Runs.{run_taken}
 use Rattle.cache_run.proofs.run.Goals as goal
 
-pub returns : goal.returns
-returns c =
+pub returns-clause-ran : goal.returns-clause-ran
+returns-clause-ran c = let h = c.in_ok-open.ensures in
     let a = c.args in
-    run_taken a.b.now _ (opening a.k a.rule a.catalog.now) (calls_of a.calls.now) a.answers.now _ _ _ c.open-number.ensures c.if-number-ne0.false c.run_calls.ensures.ran_calls
+    run_taken a.b.now _ (opening a.k a.rule a.catalog.now) (calls_of a.calls.now) a.answers.now _ _ h.opened c.run_calls.ensures.ran_calls

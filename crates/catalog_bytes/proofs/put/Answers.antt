@@ -1,25 +1,16 @@
--- `catalog_bytes::put` meets its contract: five stores, one after another. Assumes nothing.
+-- `catalog_bytes::put` meets its contract. Assumes nothing.
+use mathlib.Core.Path.{◌≡◌, ap, ◌∙◌}
+use Prim.Native.Nat.{◌*◌, ◌/◌, ◌%◌}
 use native.Mathlib.Omega.{arith}
-use lib.ListN.{length-set}
-use Rattle.catalog_bytes.proofs.Places.{put_stores}
+use lib.ListN.{length}
+use lib.Seq.{sets}
+use Rattle.catalog_bytes.proofs.Places.{put_mid-sets}
 use Rattle.catalog_bytes.proofs.put.Goals as goal
-
-pub bounds-catalog-at-2 : goal.bounds-catalog-at-2
-bounds-catalog-at-2 c =
-    simp length-set (omega arith)
-
-pub bounds-catalog-at-3 : goal.bounds-catalog-at-3
-bounds-catalog-at-3 c =
-    simp length-set (omega arith)
-
-pub bounds-catalog-at-4 : goal.bounds-catalog-at-4
-bounds-catalog-at-4 c =
-    simp length-set (omega arith)
-
-pub bounds-catalog-at-5 : goal.bounds-catalog-at-5
-bounds-catalog-at-5 c =
-    simp length-set (omega arith)
 
 pub returns : goal.returns
 returns c =
-    put_stores c.args.catalog.now c.args.i c.args.blocks c.args.load c.args.write
+    let at = 5 * c.args.i in
+    let load : c.args.item.load / 256 % 256 ≡ c.args.item.load / 256 = omega arith in
+    let write : c.args.item.write / 256 % 256 ≡ c.args.item.write / 256 = omega arith in
+    let stored = rw (c.to_le_bytes.ensures, c.to_le_bytes-2.ensures, load, write) at c.copy_from_slice.ensures.after in
+    put_mid-sets at _ c.args.catalog.now _ (omega (arith, ap length stored)) (omega arith) ∙ ap (sets c.args.catalog.now at) stored

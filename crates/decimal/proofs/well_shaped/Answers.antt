@@ -1,42 +1,27 @@
--- `decimal::well_shaped` meets its contract. The loop's invariant: the bytes that are left are all digits just if all of
--- them are. Assumes nothing.
+-- `decimal::well_shaped` meets its contract: a zero that leads is no number's; else the digits decide. Assumes nothing.
 use mathlib.Core.Path.{◌≡◌, sym, ◌∙◌}
-use mathlib.Core.Bool.{true}
+use mathlib.Core.Bool.{false}
 use native.Mathlib.Omega.{arith}
-use Rattle.decimal.specs.Decimal.{all_digits}
-use Rattle.decimal.proofs.Laws.{all_next, all_low, all_high, all_end, no_text, no_digits, no_zero, shape_one, shape_more}
+use Rattle.std.proofs.Common.{rules, tests}
+use Rattle.std.proofs.lemmas.Iterator.{YieldsList-from_slice}
+use Rattle.std.proofs.lemmas.Iterator.Search.{all_from_yields_List}
+use Rattle.decimal.specs.Decimal.{leading_zero}
+use Rattle.decimal.specs.InnerReads.{is_digit}
+use Rattle.decimal.proofs.Laws.{no_text, no_zero, lead_none, lead_other, all_tested, shape_led}
 use Rattle.decimal.proofs.well_shaped.Goals as goal
-use Rattle.decimal.proofs.well_shaped.Goals.{then-n-gt1+else-s-eq48, else-n-gt1}
-
-pub returns-then-n-lt1 : goal.returns-then-n-lt1
-returns-then-n-lt1 c =
-    sym (no_text c.args.s.now (omega arith))
 
 pub returns-then-s-eq48 : goal.returns-then-s-eq48
 returns-then-s-eq48 c =
     sym (no_zero c.args.s.now (omega arith) c.if-s-eq48.true)
 
-pub returns-then-b-lt48 : goal.returns-then-b-lt48
-returns-then-b-lt48 c =
+pub returns-then-not-is_empty : goal.returns-then-not-is_empty
+returns-then-not-is_empty c =
     let s = c.args.s.now in
-    let at = c.loop-i in
-    sym (no_digits s (sym at.invariant.1 ∙ all_low s at.i (omega arith) (omega arith)))
+    let led : leading_zero s ≡ false = grind (arith, lead_other, lead_none) in
+    all_from_yields_List is_digit _ _ _ c.all.ensures.ran (YieldsList-from_slice s cc) (λ x b q k. search (rules, tests))
+    ∙ all_tested s
+    ∙ shape_led s (grind arith) led
 
-pub returns-then-b-gt57 : goal.returns-then-b-gt57
-returns-then-b-gt57 c =
-    let s = c.args.s.now in
-    let at = c.loop-i in
-    sym (no_digits s (sym at.invariant.1 ∙ all_high s at.i (omega arith) (omega arith)))
-
-pub loop-i-preserved : goal.loop-i-preserved
-loop-i-preserved c =
-    let s = c.args.s.now in
-    let at = c.loop-i in
-    (omega arith, sym (all_next s at.i (omega arith) (omega arith) (omega arith)) ∙ at.invariant.1)
-
-pub returns : goal.returns
-returns c =
-    let s = c.args.s.now in
-    let at = c.loop-i in
-    let digits : all_digits s ≡ true = sym at.invariant.1 ∙ all_end s at.i (omega arith) in
-    sym (elim c.if-n-gt1.branch [ then-n-gt1+else-s-eq48 w ↦ shape_more s (omega arith) w.if-s-eq48.false digits | else-n-gt1 w ↦ shape_one s (omega arith) (omega arith) digits ])
+pub returns-else-not-is_empty : goal.returns-else-not-is_empty
+returns-else-not-is_empty c =
+    grind (arith, no_text)

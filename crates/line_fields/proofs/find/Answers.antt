@@ -1,24 +1,15 @@
--- `line_fields::find` meets its contract. The loop's invariant: the bytes passed and those before the first b of the rest are
--- those before the first b of all. Assumes nothing.
-use native.Mathlib.Omega.{arith}
-use Rattle.line_fields.proofs.Laws.{before_end, before_hit, before_miss}
+-- `line_fields::find` meets its contract: the place that it finds is the first b's. Assumes nothing.
+use mathlib.Core.Path.{◌≡◌}
+use lib.Dec.{eqb}
+use Rattle.std.proofs.Common.{rules, tests}
+use Rattle.std.specs.List.{position}
+use Rattle.std.proofs.lemmas.Iterator.{YieldsList-from_slice}
+use Rattle.std.proofs.lemmas.Iterator.Search.{position_from_yields_List}
+use Rattle.line_fields.proofs.Laws.{before_first}
 use Rattle.line_fields.proofs.find.Goals as goal
-
-pub loop-i-init : goal.loop-i-init
-loop-i-init c =
-    omega arith
-
-pub returns-then-s-i : goal.returns-then-s-i
-returns-then-s-i c =
-    let a = c.args in
-    omega (arith, before_hit a.b a.s.now c.loop-i.i (omega arith) c.if-s-i.true)
-
-pub loop-i-preserved : goal.loop-i-preserved
-loop-i-preserved c =
-    let a = c.args in
-    omega (arith, before_miss a.b a.s.now c.loop-i.i (omega arith) c.if-s-i.false)
 
 pub returns : goal.returns
 returns c =
     let a = c.args in
-    omega (arith, before_end a.b a.s.now c.loop-i.i (omega arith))
+    let found : c.position.result ≡ position (λ x. eqb x a.b) a.s.now = position_from_yields_List (λ x. eqb x a.b) _ _ c.position.result c.position.ensures.ran (YieldsList-from_slice _ c.iter.ensures.rest) (λ x b q k. search (rules, tests)) in
+    rw (c.unwrap_or.ensures, found) (before_first a.b a.s.now)

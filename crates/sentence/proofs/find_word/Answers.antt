@@ -1,27 +1,11 @@
--- `sentence::find_word` meets its contract. The loop's invariant: the word's place in the rest of the table leads to its place in the table.
--- Assumes nothing.
-use mathlib.Core.Path.{sym, ◌∙◌}
-use native.Mathlib.Omega.{arith}
-use Rattle.sentence.proofs.Laws.{place_here, place_next, place_end}
+-- `sentence::find_word` meets its contract: the first word that a text is has its place. Assumes nothing.
+use Rattle.std.proofs.Common.{rules, tests}
+use Rattle.std.proofs.lemmas.Iterator.{first_from_Range}
+use Rattle.sentence.proofs.Laws.{IsWord, OtherWord, place_sought}
 use Rattle.sentence.proofs.find_word.Goals as goal
-
-pub loop-n-init : goal.loop-n-init
-loop-n-init c =
-    omega arith
-
-pub returns-then-is_word : goal.returns-then-is_word
-returns-then-is_word c =
-    let w = c.args.w.now in
-    let l = c.loop-n in
-    omega (arith, l.invariant.1, place_here l.n w (omega arith) (sym c.is_word.ensures ∙ c.if-is_word.true))
-
-pub loop-n-preserved : goal.loop-n-preserved
-loop-n-preserved c =
-    let w = c.args.w.now in
-    let l = c.loop-n in
-    omega (arith, l.invariant.1, place_next l.n w (omega arith) (sym c.is_word.ensures ∙ c.if-is_word.false))
 
 pub returns : goal.returns
 returns c =
-    let l = c.loop-n in
-    omega (arith, l.invariant.1, place_end l.n c.args.w.now (omega arith))
+    let w = c.args.w.now in
+    place_sought w c.find.result
+    (first_from_Range _ _ _ c.find.result (IsWord w) (OtherWord w) c.find.ensures.ran (λ x q k. search (rules, tests)) (λ x q k. search (rules, tests)))
