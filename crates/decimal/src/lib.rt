@@ -107,7 +107,7 @@ fn put_three(v: u32, page: &mut [u8], at: usize)
     put_two(v % 100, page, at + 1);
 }
 
-// How many digits a number below 10,000 has.
+// How many digits a number below 10,000 has. Kept by hand: by `width` the log's writer took a third longer.
 #[tactic(auto, using(crate::proofs::Shorts::short_count))]
 pub fn short_width(v: u32) -> usize
     requires { v < 10000 }

@@ -38,6 +38,18 @@ blank false may false x y z f e = absurd (false≢true (sym e))
 must_may : (upto table k : ℕ) → must_end table k ≡ true → may_end upto table k ≡ true
 must_may upto table k e = grind arith
 
+-- a line with values leads where its fields say
+pub leads_values :
+    (upto : ℕ) (v : Sofar) (l : List ℕ) (n heading : ℕ) →
+    v.stage.heading ≡ Some heading →
+    wants_values upto v.stage v.read.k (length l) ≡ true →
+    read_line upto v l n
+    ≡ goes_on (line_in v.stage.table heading (fields_of l) n) (λ line. goes_on (takes v.read line n) (λ t. Ok (record { stage = v.stage; read = t })))
+unfolding read_line read_under wants_values
+leads_values upto v l n heading e due =
+    ap (λ (o : Option ℕ). read_under o upto v l n) e
+    ∙ valued (eqb (length l) 0 && may_end upto v.stage.table v.read.k) (must_end v.stage.table v.read.k) _ _ _ (rw e at due)
+
 -- a line says what it may here
 pub line_sayable :
     (p : Stage) (q : Seen) (heading : ℕ) (fs : List Field) (n : ℕ) (line : Line) →
@@ -97,28 +109,26 @@ module _ (upto : ℕ) (p : Stage) (q : Seen) (catalog calls acts l : List ℕ) (
       moving false = refl
 
   module _ (heading : ℕ) (fs : List Field) (e : p.heading ≡ Some heading) (due : wants_values upto p q.k (length l) ≡ true) (looked : Looked upto p q.k l fs) where
-    -- its fields are judged
-    leads_values :
+    -- its fields are judged as they are held
+    judged :
         (v : Tables) →
         Holds q catalog calls acts v →
         read_line upto (record { stage = p; read = v }) l n
         ≡ goes_on (line_in p.table heading fs n) (λ line. goes_on (takes v line n) (λ t. Ok (record { stage = p; read = t })))
-    unfolding read_line read_under wants_values
-    leads_values v h =
-        ap (λ (o : Option ℕ). read_under o upto (record { stage = p; read = v }) l n) e
-        ∙ valued (eqb (length l) 0 && may_end upto p.table v.k) (must_end p.table v.k) _ _ _ (rw e at (wanted true v h due))
+    judged v h =
+        leads_values upto (record { stage = p; read = v }) l n heading e (wanted true v h due)
         ∙ ap (λ (x : Result Line Refusal). goes_on x (λ line. goes_on (takes v line n) (λ t. Ok (record { stage = p; read = t }))))
         (sym (ap (λ (z : List Field). line_in p.table heading z n) (looked due) ∙ held_line p.table heading (fields_of l) n))
 
     pub lead_refused : (y : Refusal) → Err y ≡ line_in p.table heading fs n → ReadsLine upto p q catalog calls acts l n (Err y) p q catalog calls acts
-    lead_refused y f v h = rw (leads_values v h, ← f)
+    lead_refused y f v h = rw (judged v h, ← f)
 
     pub lead_values :
         (line : Line) (r : Result (Unit {0}) Refusal) (q_then : Seen) (catalog_then calls_then acts_then : List ℕ) →
         Ok line ≡ line_in p.table heading fs n →
         LeadsFrom q catalog calls acts (λ v. takes v line n) r q_then catalog_then calls_then acts_then →
         ReadsLine upto p q catalog calls acts l n r p q_then catalog_then calls_then acts_then
-    lead_values line r q_then catalog_then calls_then acts_then f led v h = rw (leads_values v h, ← f) (go (takes v line n) (led v h))
+    lead_values line r q_then catalog_then calls_then acts_then f led v h = rw (judged v h, ← f) (go (takes v line n) (led v h))
       where
         go :
             (x : Result Tables Refusal) →
