@@ -5,37 +5,25 @@
 use mathlib.Core.Path.{◌≡◌, refl, sym, ap, ◌∙◌}
 use mathlib.Core.Bool.{Bool, true, false, not, ◌&&◌, and-eq-true_iff, false≢true}
 use mathlib.Core.List.{List, [], ◌∷◌, ◌++◌, append_assoc, append-nil}
-use mathlib.Core.Logic.{◌⊎◌, inl, inr, ⊎_elim}
+use mathlib.Core.Logic.{◌⊎◌, ⊎_elim}
 use Prim.Native.Nat.{ℕ, zero, suc, ◌+◌, ◌*◌, ◌-◌, ◌^◌, ◌/◌, ◌%◌, ◌≤◌, ◌<◌}
 use native.Mathlib.Nat.{pow-suc, one-le-pow, mul-le-mul_left, mod-eq_of_lt, zero-mul, zero-add}
 use native.Mathlib.Numerals.{add-one}
 use native.Mathlib.Omega.{arith}
-use borrow.Author.Tests.{ltb-true, ltb-false, leb-true, lt-ltb, le-ltb, le-leb, lt-leb, eq-eqb, ne_eqb, not-true}
+use borrow.Author.Tests.{leb-true, lt-ltb, le-ltb, le-leb, lt-leb, eq-eqb, ne_eqb, not-true}
 use lib.Dec.{leb, ltb}
 use lib.ListN.{length, get_or, drop, set, length-append, length-drop, get_or-append, drop_of_length-le}
 use lib.Seq.{drop-cons, get_or-set_same, drop-set-lt, lt-length-set}
+use Rattle.std.proofs.Math.Bool.{and-true, and-false}
+use Rattle.std.proofs.lemmas.Bool.{cases_lt}
 use Rattle.std.specs.List.{list_all}
 use Rattle.std.specs.Prelude.{Ok, Err}
 use Rattle.decimal.specs.declared.NumberError.TheVariants.{Malformed, OutOfRange}
 use Rattle.decimal.specs.Decimal.{all_digits, leading_zero, shaped, value_of, digits_in, digits_of, wrote_of, page_of}
 use Rattle.decimal.specs.InnerReads.{is_digit, read_of}
 
--- ## Tests
-
 pub less_or_not : (x n : ℕ) → (x < n) ⊎ (n ≤ x)
-less_or_not x n = go (ltb x n) refl
-  where
-    go : (t : Bool) → ltb x n ≡ t → (x < n) ⊎ (n ≤ x)
-    go true e = inl (ltb-true x n e)
-    go false e = inr (ltb-false x n e)
-
-pub and_false : (t : Bool) → (t && false) ≡ false
-and_false true = refl
-and_false false = refl
-
-and_true : (t : Bool) → (t && true) ≡ t
-and_true true = refl
-and_true false = refl
+less_or_not = cases_lt
 
 -- ## The digits of a number
 
@@ -54,7 +42,7 @@ any_bound zero g x h k = in_small zero x (omega arith) ∙ sym (in_small g x (om
 any_bound (suc f) zero x h k = in_small (suc f) x (omega arith) ∙ sym (in_small zero x (omega arith))
 any_bound (suc f) (suc g) x h k =
     ⊎_elim (λ s. in_small (suc f) x s ∙ sym (in_small (suc g) x s))
-    (λ b. rw (in_big f x b, in_big g x b, any_bound f g (x / 10) (omega arith) (omega arith))) (less_or_not x 10)
+    (λ b. rw (in_big f x b, in_big g x b, any_bound f g (x / 10) (omega arith) (omega arith))) (cases_lt x 10)
 
 -- the two laws by which all others know the text of a number
 pub digits_small : (x : ℕ) → x < 10 → digits_of x ≡ (48 + x) ∷ []
@@ -74,7 +62,7 @@ by_digits P small big x = go x x (omega arith)
   where
     go : (f y : ℕ) → y ≤ f → P y
     go zero y h = small y (omega arith)
-    go (suc f) y h = ⊎_elim (λ k. small y k) (λ k. big y k (go f (y / 10) (omega arith))) (less_or_not y 10)
+    go (suc f) y h = ⊎_elim (λ k. small y k) (λ k. big y k (go f (y / 10) (omega arith))) (cases_lt y 10)
 
 pub length_small : (x : ℕ) → x < 10 → length (digits_of x) ≡ 1
 length_small x h = rw (digits_small x h)
@@ -86,6 +74,14 @@ pub digits_some : (x : ℕ) → 1 ≤ length (digits_of x)
 digits_some =
     by_digits (λ x. 1 ≤ length (digits_of x)) (λ x h. omega (arith, length_small x h)) (λ x h p. omega (arith, length_big x h))
 
+-- a number has one digit more than the power of ten that it reaches
+pub digits_count : (n k : ℕ) → 10 ^ k ≤ n → n < 10 * 10 ^ k → length (digits_of n) ≡ k + 1
+digits_count n zero low high = length_small n (omega arith)
+digits_count n (suc k) low high =
+    let e : 10 ^ suc k ≡ 10 ^ k * 10 = pow-suc 10 k in
+    let p : 1 ≤ 10 ^ k = one-le-pow k 10 (omega arith) in
+    omega (arith, length_big n (omega (arith, e, p, low)), digits_count (n / 10) k (omega (arith, e, low)) (omega (arith, e, high)))
+
 -- w digits are enough for a number below the w-th power of ten
 pub digits_length : (n w : ℕ) → n < 10 ^ w → 1 ≤ w → length (digits_of n) ≤ w
 digits_length n zero h k = absurd (omega arith)
@@ -93,7 +89,7 @@ digits_length n (suc zero) h k = omega (arith, length_small n h)
 digits_length n (suc (suc w)) h k =
     ⊎_elim (λ s. omega (arith, length_small n s))
     (λ b. omega (arith, length_big n b, digits_length (n / 10) (suc w) (omega arith) (omega arith)))
-    (less_or_not n 10)
+    (cases_lt n 10)
 
 -- a u64 has at most 20 digits
 pub digits_twenty : (n : ℕ) → n < 2 ^ 64 → length (digits_of n) ≤ 20
@@ -211,7 +207,7 @@ lead_none s h = rw (le-ltb 1 (length s) h)
 
 pub lead_other : (s : List ℕ) → (get_or s 0 0 ≡ 48 → ⊥) → leading_zero s ≡ false
 unfolding leading_zero
-lead_other s h = rw (ne_eqb (get_or s 0 0) 48 h) (and_false (ltb 1 (length s)))
+lead_other s h = rw (ne_eqb (get_or s 0 0) 48 h) (and-false (ltb 1 (length s)))
 
 lead_zero : (s : List ℕ) → 1 < length s → get_or s 0 0 ≡ 48 → leading_zero s ≡ true
 unfolding leading_zero
@@ -231,7 +227,7 @@ shape_parts s h =
 
 -- the text of a number is well shaped
 pub shaped_digits : (n : ℕ) → shaped (digits_of n) ≡ true
-shaped_digits n = shape (digits_of n) (digits_some n) (digits_all n) (⊎_elim small big (less_or_not n 10))
+shaped_digits n = shape (digits_of n) (digits_some n) (digits_all n) (⊎_elim small big (cases_lt n 10))
   where
     small : n < 10 → leading_zero (digits_of n) ≡ false
     small h = lead_none (digits_of n) (omega (arith, length_small n h))
@@ -279,12 +275,12 @@ no_text s h = rw (lt-leb 1 (length s) h)
 
 pub no_zero : (s : List ℕ) → 1 < length s → get_or s 0 0 ≡ 48 → shaped s ≡ false
 unfolding shaped
-no_zero s h k = rw (lead_zero s h k) (and_false (leb 1 (length s) && all_digits s))
+no_zero s h k = rw (lead_zero s h k) (and-false (leb 1 (length s) && all_digits s))
 
 -- with no zero in front it is the digits that decide
 pub shape_led : (s : List ℕ) → 1 ≤ length s → leading_zero s ≡ false → all_digits s ≡ shaped s
 unfolding shaped
-shape_led s h l = rw (le-leb 1 (length s) h, l) (sym (and_true (all_digits s)))
+shape_led s h l = rw (le-leb 1 (length s) h, l) (sym (and-true (all_digits s)))
 
 -- a digit alone, or digits of which the first is no zero
 pub shape_one : (s : List ℕ) → 1 ≤ length s → length s ≤ 1 → all_digits s ≡ true → shaped s ≡ true
@@ -323,7 +319,7 @@ read_value s limit n h = go (shaped s) refl
         let m = read_within s limit e k in
         let u : value_of s ≡ n = cc in
         (sym (digits_value s e) ∙ ap digits_of u, omega arith))
-        (less_or_not limit (value_of s))
+        (cases_lt limit (value_of s))
 
 -- a byte of a number's text is no less than the digit 0
 pub shaped_at : (s : List ℕ) (i : ℕ) → shaped s ≡ true → i < length s → 48 ≤ get_or s i 0
@@ -391,10 +387,10 @@ go_all x page h = rw (page_all (digits_of x) page h, low_all x)
 -- what is written has room on the page, and the page keeps its length
 pub wrote_fits : (t page : List ℕ) → wrote_of t page ≤ length page
 wrote_fits t page =
-    ⊎_elim (λ h. omega (arith, wrote_none t page h)) (λ h. omega (arith, wrote_all t page h)) (less_or_not (length page) (length t))
+    ⊎_elim (λ h. omega (arith, wrote_none t page h)) (λ h. omega (arith, wrote_all t page h)) (cases_lt (length page) (length t))
 
 pub page_length : (t page : List ℕ) → length (page_of t page) ≡ length page
-page_length t page = ⊎_elim none all (less_or_not (length page) (length t))
+page_length t page = ⊎_elim none all (cases_lt (length page) (length t))
   where
     none : length page < length t → length (page_of t page) ≡ length page
     none h = rw (page_none t page h)

@@ -7,7 +7,7 @@ use Prim.Native.Nat.{ℕ, zero, suc, ◌≤◌, ◌<◌}
 use native.Mathlib.Omega.{arith}
 use lib.ListN.{length}
 use lib.Dec.{leb, eqb}
-use borrow.Author.Tests.{leb-true, ne_eqb, le-leb, lt-leb}
+use borrow.Author.Tests.{not-true, leb-true, ne_eqb, le-leb, lt-leb}
 use Rattle.types.specs.declared.Numbers.{Numbers}
 use Rattle.types.specs.Types.{is_deduction}
 use Rattle.landlord.specs.Fold.{tab}
@@ -76,16 +76,12 @@ catalog_ok cat f = rw (le-leb (length cat) 256 f.few, all_ok cat f.each)
 
 -- ## A catalog of which no item has left
 
-not_true : (t : Bool) → not t ≡ true → t ≡ false
-not_true true e = absurd (false≢true e)
-not_true false e = refl
-
 -- none has left, and nothing past the end has
 pub none_left_at : (cat : Catalog) → none_left cat ≡ true → (i : ℕ) → (item_at cat i).left ≡ false
 unfolding none_left
 none_left_at [] e zero = refl
 none_left_at [] e (suc i) = refl
-none_left_at (x ∷ items) e zero = not_true x.left (and_left (not x.left) (none_left items) e)
+none_left_at (x ∷ items) e zero = not-true x.left (and_left (not x.left) (none_left items) e)
 none_left_at (x ∷ items) e (suc i) = none_left_at items (and_right (not x.left) (none_left items) e) i
 
 pub none_left_ok : (cat : Catalog) → ((i : ℕ) → i < length cat → (item_at cat i).left ≡ false) → none_left cat ≡ true

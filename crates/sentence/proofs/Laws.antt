@@ -11,11 +11,12 @@ use borrow.Author.Tests.{leb-true, eqb-true, eqb-false, le-leb, eq-eqb, ne_eqb, 
 use lib.Dec.{leb, ltb, eqb}
 use lib.ListN.{length, get_or, take, drop, length-append, take-append-drop, get_or-eq_default}
 use Rattle.std.specs.List.{position_or_len}
+use Rattle.std.proofs.lemmas.Bool.{cases_lt}
 use Rattle.std.proofs.lemmas.Bool.Decides.{nat_tests}
 use Rattle.std.proofs.Common.{drop-cons, Option, Some, None, MatchOption, SomeIff, unwrap_or}
 use Rattle.decimal.specs.Decimal.{text_of, same_text, digits_of, all_digits}
 use Rattle.decimal.specs.InnerPages.{text_over, labelled}
-use Rattle.decimal.proofs.Laws.{less_or_not, digits_all, digits_length}
+use Rattle.decimal.proofs.Laws.{digits_all, digits_length}
 use Rattle.decimal.proofs.Texts.{same_true}
 use Rattle.decimal.proofs.Pages.{TextGoing, go_first}
 use Rattle.types.specs.Types.{names_item}
@@ -42,11 +43,11 @@ no_row n h = rw (word_none n h)
 
 -- a number of the table is below 28
 row_below : (n : ℕ) → in_table n ≡ true → n < 28
-row_below n t = ⊎_elim (λ l. l) (λ l. absurd (false≢true (sym (no_row n l) ∙ t))) (less_or_not n 28)
+row_below n t = ⊎_elim (λ l. l) (λ l. absurd (false≢true (sym (no_row n l) ∙ t))) (cases_lt n 28)
 
 -- a test that passes at each number below 28, by computing it, and past them, where there is no word, passes for every number
 in_rows : (f : ℕ → Bool) → every f 28 ≡ true → ((n : ℕ) → 28 ≤ n → f n ≡ true) → (n : ℕ) → f n ≡ true
-in_rows f t past n = ⊎_elim (every_at f 28 t n) (past n) (less_or_not n 28)
+in_rows f t past n = ⊎_elim (every_at f 28 t n) (past n) (cases_lt n 28)
 
 -- the letters of each word of the table, and that there are none past it
 abbrev pub Spelled : List String → ℕ → Type 0
