@@ -1,17 +1,13 @@
 -- The laws of short numbers: the digits of a number below 10,000, each known at once (two_digits ..), how many they are (short_count), and
 -- what the stores of them leave on a page. Assumes nothing.
 use mathlib.Core.Path.{◌≡◌, refl, ap, ◌∙◌}
-use mathlib.Core.Logic.{⊎_elim}
 use mathlib.Core.List.{List, ◌∷◌}
 use Prim.Native.Nat.{ℕ, ◌+◌, ◌/◌, ◌%◌, ◌≤◌, ◌<◌}
 use native.Mathlib.Nat.{zero-add}
 use native.Mathlib.Omega.{arith}
-use borrow.Author.Tests.{lt-ltb, le-ltb}
-use lib.Dec.{ltb}
 use lib.ListN.{length, set, length-set}
 use lib.Seq.{sets, sets-eq}
-use mir.Val.{bool_byte}
-use Rattle.std.proofs.lemmas.Bool.{cases_lt}
+use Rattle.std.proofs.lemmas.Bool.Decides.{nat_tests}
 use Rattle.decimal.specs.Decimal.{digits_of}
 use Rattle.decimal.specs.InnerPages.{text_over, two_digits, three_digits}
 use Rattle.decimal.proofs.Laws.{digits_small, digits_big, digits_some, length_small}
@@ -47,24 +43,8 @@ count_three v a b = ap length (three_digits_lem v a b)
 pub count_four : (v : ℕ) → 1000 ≤ v → v < 10000 → length (digits_of v) ≡ 4
 count_four v a b = ap length (four_digits v a b)
 
--- one, and one more for each of three bounds that the number is above
-abbrev count_of : ℕ → ℕ
-count_of v = 1 + bool_byte (ltb 9 v) + bool_byte (ltb 99 v) + bool_byte (ltb 999 v)
-
-pub short_count : (v : ℕ) → v < 10000 → count_of v ≡ length (digits_of v)
-short_count v h = ⊎_elim one (λ a. ⊎_elim (two a) (λ b. ⊎_elim (three b) four (cases_lt v 1000)) (cases_lt v 100)) (cases_lt v 10)
-  where
-    one : v < 10 → count_of v ≡ length (digits_of v)
-    one a = rw (le-ltb 9 v (omega arith), le-ltb 99 v (omega arith), le-ltb 999 v (omega arith), length_small v a)
-
-    two : 10 ≤ v → v < 100 → count_of v ≡ length (digits_of v)
-    two a b = rw (lt-ltb 9 v a, le-ltb 99 v (omega arith), le-ltb 999 v (omega arith), count_two v a b)
-
-    three : 100 ≤ v → v < 1000 → count_of v ≡ length (digits_of v)
-    three a b = rw (lt-ltb 9 v (omega arith), lt-ltb 99 v a, le-ltb 999 v (omega arith), count_three v a b)
-
-    four : 1000 ≤ v → count_of v ≡ length (digits_of v)
-    four a = rw (lt-ltb 9 v (omega arith), lt-ltb 99 v (omega arith), lt-ltb 999 v a, count_four v a h)
+-- what one needs of them
+pub ruleset counts = (nat_tests, length_small, count_two, count_three, count_four)
 
 -- ## The stores of them
 

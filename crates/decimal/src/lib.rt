@@ -108,7 +108,7 @@ fn put_three(v: u32, page: &mut [u8], at: usize)
 }
 
 // How many digits a number below 10,000 has. Kept by hand: by `width` the log's writer took a third longer.
-#[tactic(auto, using(crate::proofs::Shorts::short_count))]
+#[tactic(auto, using(crate::proofs::Shorts::counts))]
 pub fn short_width(v: u32) -> usize
     requires { v < 10000 }
     ensures { result ≡ length (digits_of v) }

@@ -7,7 +7,7 @@ use mathlib.Core.Logic.{⊎_elim}
 use Prim.Native.Nat.{ℕ, zero, suc, ◌+◌, ◌≤◌, ◌<◌}
 use Prim.Native.String.{String}
 use native.Mathlib.Omega.{arith}
-use borrow.Author.Tests.{leb-true, eqb-true, eqb-false, le-leb, eq-eqb, ne_eqb, not-true}
+use borrow.Author.Tests.{leb-true, eqb-true, le-leb, eq-eqb, ne_eqb, not-true}
 use lib.Dec.{leb, ltb, eqb}
 use lib.ListN.{length, get_or, take, drop, length-append, take-append-drop, get_or-eq_default}
 use Rattle.std.specs.List.{position_or_len}
@@ -121,23 +121,11 @@ pub digits_ten : (v : ℕ) → v ≤ 4294967295 → length (digits_of v) ≤ 10
 digits_ten v h = digits_length v 10 (omega arith) (omega arith)
 
 pub line_size : (line : ℕ) → line ≤ 4294967295 → length (line_part line) ≤ 17
-line_size line h = go (eqb line 0) refl
-  where
-    go : (t : Bool) → eqb line 0 ≡ t → length (line_part line) ≤ 17
-    go true e = rw (line_none line (eqb-true line 0 e)) (omega arith)
-    go false e = omega (arith, line_count line (eqb-false line 0 e), digits_ten line h)
+line_size line h = grind (arith, line_none line, line_count line, digits_ten line)
 
 -- word and sail together
 word_item_size : (n i : ℕ) → i ≤ 4294967295 → length (word_of n) + length (item_part n i) ≤ 28
-word_item_size n i h = go (names_item n) refl
-  where
-    go : (t : Bool) → names_item n ≡ t → length (word_of n) + length (item_part n i) ≤ 28
-    go true e =
-        let w : length (word_of n) ≤ 11 = rw e at (word_size n) in
-        omega (arith, item_count_lem n i e, digits_ten i h)
-    go false e =
-        let w : length (word_of n) ≤ 28 = rw e at (word_size n) in
-        rw (item_none n i e) (omega arith)
+word_item_size n i h = grind (arith, word_size, item_none, item_count_lem, digits_ten)
 
 -- the bytes of a sentence, part by part
 pub sentence_count :
