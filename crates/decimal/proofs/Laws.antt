@@ -3,17 +3,17 @@
 -- digits that it needs (digits_length, digits_twenty, digits_bytes). The others say what one turn of a loop does.
 -- Assumes nothing.
 use mathlib.Core.Path.{◌≡◌, refl, sym, ap, ◌∙◌}
-use mathlib.Core.Bool.{Bool, true, false, not, ◌&&◌, and-eq-true_iff, false≢true}
+use mathlib.Core.Bool.{Bool, true, false, ◌&&◌, and-eq-true_iff, false≢true}
 use mathlib.Core.List.{List, [], ◌∷◌, ◌++◌, append_assoc, append-nil}
 use mathlib.Core.Logic.{◌⊎◌, ⊎_elim}
 use Prim.Native.Nat.{ℕ, zero, suc, ◌+◌, ◌*◌, ◌-◌, ◌^◌, ◌/◌, ◌%◌, ◌≤◌, ◌<◌}
 use native.Mathlib.Nat.{pow-suc, one-le-pow, mul-le-mul_left, mod-eq_of_lt, zero-mul, zero-add}
 use native.Mathlib.Numerals.{add-one}
 use native.Mathlib.Omega.{arith}
-use borrow.Author.Tests.{leb-true, lt-ltb, le-ltb, le-leb, lt-leb, eq-eqb, ne_eqb, not-true}
+use borrow.Author.Tests.{lt-ltb, le-ltb, le-leb, lt-leb, eq-eqb, ne_eqb}
 use lib.Dec.{leb, ltb}
 use lib.ListN.{length, get_or, drop, set, length-append, length-drop, get_or-append, drop_of_length-le}
-use lib.Seq.{drop-cons, get_or-set_same, drop-set-lt, lt-length-set}
+use lib.Seq.{drop-cons}
 use Rattle.std.proofs.Math.Bool.{and-true, and-false}
 use Rattle.std.proofs.lemmas.Bool.{cases_lt}
 use Rattle.std.specs.List.{list_all}
@@ -21,6 +21,7 @@ use Rattle.std.specs.Prelude.{Ok, Err}
 use Rattle.decimal.specs.declared.NumberError.TheVariants.{Malformed, OutOfRange}
 use Rattle.decimal.specs.Decimal.{all_digits, leading_zero, shaped, value_of, digits_in, digits_of, wrote_of, page_of}
 use Rattle.decimal.specs.InnerReads.{is_digit, read_of}
+use Rattle.std.proofs.lemmas.Grind.{common_steps}
 
 pub less_or_not : (x n : ℕ) → (x < n) ⊎ (n ≤ x)
 less_or_not = cases_lt
@@ -157,9 +158,7 @@ is_digit_lem b h k = rw (le-leb 48 b h) (le-leb b 57 k)
 
 -- the two bounds of a digit
 digit_range : (b : ℕ) → is_digit b ≡ true → (48 ≤ b) × (b ≤ 57)
-digit_range b h =
-    let p = (and-eq-true_iff (leb 48 b) (leb b 57)).0 h in
-    (leb-true 48 b p.0, leb-true b 57 p.1)
+digit_range b h = grind (arith, common_steps)
 
 all_cons : (b : ℕ) (s : List ℕ) → all_digits (b ∷ s) ≡ true → (is_digit b ≡ true) × (all_digits s ≡ true)
 unfolding all_digits
@@ -220,10 +219,7 @@ shape s h k l = rw (le-leb 1 (length s) h, k, l)
 -- what a shaped text has: a digit, only digits, and a zero in front only alone
 pub shape_parts : (s : List ℕ) → shaped s ≡ true → (1 ≤ length s) × (all_digits s ≡ true) × (leading_zero s ≡ false)
 unfolding shaped
-shape_parts s h =
-    let p = (and-eq-true_iff (leb 1 (length s) && all_digits s) (not (leading_zero s))).0 h in
-    let q = (and-eq-true_iff (leb 1 (length s)) (all_digits s)).0 p.0 in
-    (leb-true 1 (length s) q.0, q.1, not-true (leading_zero s) p.1)
+shape_parts s h = grind (arith, common_steps)
 
 -- the text of a number is well shaped
 pub shaped_digits : (n : ℕ) → shaped (digits_of n) ≡ true
@@ -347,18 +343,14 @@ abbrev pub to_go : ℕ → ℕ → List ℕ → List ℕ
 to_go i x page = low_digits i x ++ drop i page
 
 put_here : (l : List ℕ) (j b : ℕ) → j < length l → drop j (set l j b) ≡ b ∷ drop (suc j) l
-put_here l j b h =
-    rw (drop-cons (set l j b) j 0 (lt-length-set l j b h), get_or-set_same l j b 0 h, drop-set-lt (suc j) l j b (omega arith))
+put_here l j b h = grind (arith, common_steps)
 
 -- one digit written, at the end of those to go
 pub go_next :
     (i x : ℕ) (page : List ℕ) → 0 < i → i ≤ length page →
     to_go i x page ≡ to_go (i - 1) (x / 10) (set page (i - 1) (48 + x % 10))
 unfolding low_digits
-go_next zero x page h k = absurd (omega arith)
-go_next (suc j) x page h k =
-    let e : suc j - 1 ≡ j = omega arith in
-    rw (e, put_here page j (48 + x % 10) k) (append_assoc (low_digits j (x / 10)) ((48 + x % 10) ∷ []) (drop (suc j) page))
+go_next i x page h k = grind (arith, common_steps)
 
 pub go_end : (x : ℕ) (page : List ℕ) → to_go 0 x page ≡ page
 unfolding low_digits

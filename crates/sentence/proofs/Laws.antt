@@ -23,13 +23,13 @@ use Rattle.types.specs.Types.{names_item}
 use Rattle.basis.proofs.Tables.{every, every_at}
 use Rattle.sentence.specs.Sentences.{words, word_of, in_table, line_part, item_part, sentence_of, longest_sentence}
 use Rattle.sentence.specs.InnerSentences.{is_stop, piece_of, place_of}
+use Rattle.std.proofs.lemmas.Grind.{common_steps}
 
 -- ## Tests
 
 -- one of two tests passes, and it is not the first
 the_other : (a b : Bool) → (a || b) ≡ true → a ≡ false → b ≡ true
-the_other true b h e = absurd (false≢true (sym e))
-the_other false b h e = h
+the_other a b h e = grind (arith, common_steps)
 
 -- ## The table
 
@@ -143,24 +143,14 @@ word_item_size n i h = go (names_item n) refl
 pub sentence_count :
     (n l i : ℕ) → length (sentence_of n l i) ≡ length (word_of n) + length (line_part l) + length (item_part n i) + 2
 unfolding sentence_of
-sentence_count n l i =
-    omega (
-      arith,
-      length-append (word_of n) (line_part l ++ (item_part n i ++ text_of ".\n")),
-      length-append (line_part l) (item_part n i ++ text_of ".\n"),
-      length-append (item_part n i) (text_of ".\n"),
-    )
+sentence_count n l i = grind (arith, common_steps)
 
 pub parts_size :
     (n l i : ℕ) → l ≤ 4294967295 → i ≤ 4294967295 → length (word_of n) + length (line_part l) + length (item_part n i) + 2 ≤ longest_sentence
 parts_size n l i h k = omega (arith, line_size l h, word_item_size n i k)
 
 pub word_few : (n : ℕ) → length (word_of n) ≤ 28
-word_few n = go (names_item n) (word_size n)
-  where
-    go : (t : Bool) → length (word_of n) ≤ cond t 11 28 → length (word_of n) ≤ 28
-    go true h = omega (arith, h)
-    go false h = h
+word_few n = grind (arith, word_size n)
 
 pub item_size : (n i : ℕ) → i ≤ 4294967295 → length (item_part n i) ≤ 28
 item_size n i h = omega (arith, word_item_size n i h)
