@@ -342,9 +342,6 @@ low_all =
 abbrev pub to_go : ℕ → ℕ → List ℕ → List ℕ
 to_go i x page = low_digits i x ++ drop i page
 
-put_here : (l : List ℕ) (j b : ℕ) → j < length l → drop j (set l j b) ≡ b ∷ drop (suc j) l
-put_here l j b h = grind (arith, common_steps)
-
 -- one digit written, at the end of those to go
 pub go_next :
     (i x : ℕ) (page : List ℕ) → 0 < i → i ≤ length page →

@@ -6,8 +6,8 @@ use Prim.Native.Nat.{ℕ, suc, ◌+◌, ◌-◌, ◌≤◌, ◌<◌}
 use native.Mathlib.Nat.{zero-add}
 use native.Mathlib.Numerals.{add-one}
 use native.Mathlib.Omega.{arith}
-use lib.ListN.{length, get_or, take, drop, set, length-append, length-drop}
-use lib.Seq.{drop-cons, drop-drop, take_at, drop_at, length-take-le, set_split}
+use lib.ListN.{length, take, drop, set, length-append, length-drop}
+use lib.Seq.{drop-drop, take_at, drop_at, length-take-le, set_split}
 use borrow.Rule.Slice.PartMut.{mid_of, put_mid, mid_len}
 use Rattle.decimal.specs.Decimal.{digits_of, wrote_of, page_of}
 use Rattle.decimal.specs.InnerPages.{text_over, labelled}
@@ -148,11 +148,6 @@ go_end {all} {before} {a} {page} g = (omega (arith, g.count), sym (over_none a p
 -- the same text in another form is left
 pub go_as : {all before : List ℕ} {a : ℕ} {t u page : List ℕ} → t ≡ u → TextGoing all before a t page → TextGoing all before a u page
 go_as e g = rw e at g
-
--- ## What is left of a text
-
-pub text_next : (t : List ℕ) (i : ℕ) → i < length t → drop i t ≡ get_or t i 0 ∷ drop (i + 1) t
-text_next t i h = rw (drop-cons t i 0 h, add-one)
 
 -- ## A number behind its label
 
