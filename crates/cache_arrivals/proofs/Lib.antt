@@ -1,4 +1,3 @@
-pub mod Counts
 pub mod Arrivals
 pub mod Retirements
 pub mod InPlace

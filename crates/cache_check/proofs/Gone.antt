@@ -47,6 +47,3 @@ module _ (c : Cache) where
 
   pub passed_held : (i : ℕ) → c.n ≤ 256 → Passed i → i < c.n → get_or c.held i false ≡ true → Decided (LeftOk c) false
   passed_held i few p l h = decides.no (λ o. decides.clash (get_or c.held i false) h (o.each i l (p.here (omega arith))))
-
-  pub passed_all : (i : ℕ) → Passed i → c.n ≤ i → Decided (LeftOk c) true
-  passed_all i p l = decides.sure (record { each = λ j b f. p.before j (omega arith) f })

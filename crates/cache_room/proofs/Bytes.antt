@@ -2,7 +2,7 @@
 use mathlib.Core.Path.{◌≡◌, refl, sym, ap, subst, ◌∙◌}
 use mathlib.Core.Bool.{Bool, true, false, cond, false≢true}
 use mathlib.Core.List.{List, [], ◌∷◌}
-use Prim.Native.Nat.{ℕ, ◌+◌, ◌-◌, ◌≤◌, ◌<◌}
+use Prim.Native.Nat.{ℕ, ◌-◌, ◌≤◌, ◌<◌}
 use native.Mathlib.Decide.{dec_lt}
 use native.Mathlib.Omega.{arith}
 use lib.ListN.{length, get_or, set, get_or-eq_default}
@@ -23,87 +23,18 @@ use Rattle.heap.proofs.Uses.{root_key, root_number, root_member}
 use Rattle.cache_state.specs.Cache.{Cache, dirty_at, held_at, held_items, heap_at, catalog_of, slots_of, keys_of, uses_of, lazy, view, Normal, Valid}
 use Rattle.cache_state.specs.InnerView.{queue_of, state_of}
 use Rattle.cache_state.specs.InnerBecomes.{Becomes}
-use Rattle.cache_state.specs.InnerWith.{with_held, with_load_credit, with_write_credit, with_dirty, with_evictions, with_dirty_evictions, with_level, with_key, with_used, with_arrangement}
+use Rattle.cache_state.specs.InnerWith.{with_level, with_key, with_used, with_arrangement}
 use Rattle.cache_state.proofs.Views.{size_is, use_is, key_is, count_is, stored_held}
 use Rattle.cache_state.proofs.Stored.{dirty_here}
 use Rattle.cache_state.proofs.Normals.{level_normal}
 use Rattle.layout.specs.Layout.{cache_of}
 use Rattle.layout.specs.Inner.{Stands, BecomesAt}
 use Rattle.layout.proofs.Rounds.{whole}
-use Rattle.layout.proofs.Places.{readable, stands_as, valid_reads}
+use Rattle.layout.proofs.Places.{readable, valid_reads}
 use Rattle.cache_heap.specs.Inner.{FilledAt, RemovedAt}
-use Rattle.cache_counts.specs.Inner.{writeback_counted, Payable, PayableAt}
 use Rattle.cache_room.specs.Inner.{requeued, dropped_of, gone_of, counted_of, DroppedAt, CountableAt, HoldsAt, LetGoAt, CrowdedAt}
 use Rattle.cache_room.proofs.Gone.{RoomSizes, gone_becomes, used_enough, heap_filled}
 use Rattle.cache_room.proofs.Counts.{counted_normal, counted_lazy}
-
--- ---- the drop and the count
-
--- the four stores of a drop
-pub dropped_at :
-    (b b1 b2 b3 after : List ℕ) (v : ℕ) (ds ws : List ℕ) →
-    ds ≡ (cache_of b).dirty →
-    Stands b1 (with_held (cache_of b) v false) →
-    Stands b2 (with_load_credit (cache_of b1) v 0) →
-    Stands b3 (with_write_credit (cache_of b2) v 0) →
-    marks ws ≡ set (marks ds) v false →
-    Stands after (with_dirty (cache_of b3) ws) →
-    DroppedAt b v after
-dropped_at b b1 b2 b3 after v ds ws e s1 s2 s3 un s4 =
-    record {
-      reads = readable s4;
-      cache =
-          record {
-            fields = all ∙ ap (dropped_of (cache_of b) v) (sym (ap (λ (q : Cache). q.dirty) all));
-            unmarked = ap (λ (q : Cache). marks q.dirty) all ∙ un ∙ ap (λ (d : List ℕ). set (marks d) v false) e;
-          };
-    }
-  where
-    all : cache_of after ≡ dropped_of (cache_of b) v ws
-    all =
-        s4.cache
-        ∙ ap (λ (q : Cache). with_dirty q ws)
-        (s3.cache ∙ ap (λ (q : Cache). with_write_credit q v 0) (s2.cache ∙ ap (λ (q : Cache). with_load_credit q v 0) s1.cache))
-
--- the stores that count a dirty eviction, and its writeback
-pub payable_at :
-    {b b1 b2 : List ℕ} {v x y : ℕ} →
-    CountableAt b v →
-    Stands b1 (with_evictions (cache_of b) x) →
-    Stands b2 (with_dirty_evictions (cache_of b1) y) →
-    PayableAt b2 v
-payable_at {v = v} {y = y} p s1 s2 =
-    record {
-      reads = readable s2;
-      counts =
-          subst (λ (q : Cache). Payable v q.writebacks (get_or q.itemwritebacks v 0) q.writecost)
-          (sym (s2.cache ∙ ap (λ (q : Cache). with_dirty_evictions q y) s1.cache)) p.counts.writeback;
-    }
-
-pub counted_dirty :
-    (b b1 b2 after : List ℕ) (v : ℕ) {e de : ℕ} {d : Bool} →
-    e ≡ (cache_of b).evictions →
-    de ≡ (cache_of b).dirtyevictions →
-    Stands b1 (with_evictions (cache_of b) (e + 1)) →
-    d ≡ true →
-    Stands b2 (with_dirty_evictions (cache_of b1) (de + 1)) →
-    Stands after (writeback_counted (cache_of b2) v) →
-    Stands after (counted_of (cache_of b) v d)
-counted_dirty b b1 b2 after v {e} {de} ee ed s1 was s2 s3 =
-    stands_as s3
-    (ap (λ (q : Cache). writeback_counted q v) (s2.cache ∙ ap (λ (q : Cache). with_dirty_evictions q (de + 1)) s1.cache)
-    ∙ (λ z. writeback_counted (with_dirty_evictions (with_evictions (cache_of b) (ee z + 1)) (ed z + 1)) v)
-    ∙ ap (counted_of (cache_of b) v) (sym was))
-
--- the one that counts another
-pub counted_clean :
-    (b after : List ℕ) (v : ℕ) {e : ℕ} {d : Bool} →
-    e ≡ (cache_of b).evictions →
-    Stands after (with_evictions (cache_of b) (e + 1)) →
-    d ≡ false →
-    Stands after (counted_of (cache_of b) v d)
-counted_clean b after v ee s was =
-    stands_as s (ap (λ (x : ℕ). with_evictions (cache_of b) (x + 1)) ee ∙ ap (counted_of (cache_of b) v) (sym was))
 
 -- ---- an item that goes
 

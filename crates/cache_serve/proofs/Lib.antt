@@ -1,7 +1,6 @@
 pub mod Shares
 pub mod Bounds
 pub mod Losses
-pub mod Counts
 pub mod Changes
 pub mod Enters
 pub mod Queues

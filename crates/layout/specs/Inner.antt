@@ -4,7 +4,7 @@ use Rattle.std.specs.Prelude.{ℕ, length, replicate}
 use Rattle.types.specs.declared.Deduction.TheVariants.{WriteFirst}
 use Rattle.queue.specs.Machine.{LazyStanding}
 use Rattle.cache_state.specs.{Cache.Cache, InnerBecomes.Becomes}
-use Rattle.layout.specs.Layout.{state_bytes, cache_of, AllowedBytes, ValidBytes}
+use Rattle.layout.specs.Layout.{state_bytes, cache_of, AllowedBytes}
 
 -- the bytes are those of the cache c
 pub record Stands (b : List ℕ) (c : Cache) : Type 0 where
@@ -20,11 +20,6 @@ Readable b = Stands b (cache_of b)
 pub record BecomesAt (v : LazyStanding) (b : List ℕ) : Type 0 where
   pub reads : Readable b
   pub cache : Becomes v (cache_of b)
-
--- valid bytes of n items
-pub record ValidAt (b : List ℕ) (n : ℕ) : Type 0 where
-  pub valid : ValidBytes b
-  pub count : n ≡ (cache_of b).n
 
 -- the cache of which every number is 0 and every flag false; the rule of number 0 is write-first
 abbrev pub cleared : Cache

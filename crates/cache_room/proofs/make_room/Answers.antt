@@ -15,11 +15,6 @@ use Rattle.cache_room.proofs.Rooms.{Gone, going_starts, going_on, room_hit, room
 use Rattle.landlord.proofs.Ranges.{capacity_facts}
 use Rattle.cache_room.proofs.make_room.Goals as goal
 
-pub held-requires : goal.held-requires
-held-requires c =
-    let place : c.args.i < 256 = omega (arith, c.requires.known, c.requires.valid.cache.fields.few) in
-    (c.requires.valid.size, place)
-
 pub returns-then-held : goal.returns-then-held
 returns-then-held c =
     record {
@@ -28,19 +23,6 @@ returns-then-held c =
           room_hit (cache_of c.args.b.now) c.args.i c.requires.valid.cache.fields c.requires.known
           (sym c.held.ensures ∙ c.if-held.true);
     }
-
-pub capacity-k-requires : goal.capacity-k-requires
-capacity-k-requires c =
-    c.requires.valid.size
-
-pub blocks-blocks-requires : goal.blocks-blocks-requires
-blocks-blocks-requires c =
-    let place : c.args.i < 256 = omega (arith, c.requires.known, c.requires.valid.cache.fields.few) in
-    (c.requires.valid.size, place)
-
-pub used-used-requires : goal.used-used-requires
-used-used-requires c =
-    c.requires.valid.size
 
 pub loop-used-init : goal.loop-used-init
 loop-used-init c =
@@ -58,16 +40,6 @@ overflow_add-used c =
       used_is (split_of q.rule) (deduction_ok q.rule) (deduction_adds q.rule) (queue_of q) (sound (lazy q) so.valid.lazy),
       (capacity_facts (cache_of c.loop-used.b).k so.valid.standing.capacity).high,
     )
-
-pub evict-requires : goal.evict-requires
-evict-requires c =
-    let fits : c.blocks-blocks.result ≤ c.capacity-k.result = omega (arith, c.blocks-blocks.ensures, c.capacity-k.ensures, c.requires.fits) in
-    let wanting : c.capacity-k.result < c.loop-used.used + c.blocks-blocks.result = omega arith in
-    let inv = c.loop-used.invariant in
-    record {
-      valid = record { size = inv.0.size; allowed = inv.0.allowed; cache = inv.1.valid };
-      some = omega (arith, fits, wanting, inv.1.taken);
-    }
 
 pub overflow_sub-used : goal.overflow_sub-used
 overflow_sub-used c =
@@ -110,10 +82,6 @@ loop-used-preserved c =
     fits wanting c.evict.ensures.value
     c.evict.ensures.becomes_at.cache in
     (c.evict.ensures.becomes_at.reads, gone.going)
-
-pub shape_of-b : goal.shape_of-b
-shape_of-b c =
-    omega (arith, c.loop-used.invariant.0.size, c.requires.valid.size)
 
 pub returns : goal.returns
 returns c =

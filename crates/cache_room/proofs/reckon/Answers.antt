@@ -1,13 +1,7 @@
 -- `cache_room::reckon` meets its contract: both credits are stored, and the key is theirs. Assumes nothing.
 use Rattle.cache_room.proofs.Reckons.{reckon_holds, reckoned_at}
-use native.Mathlib.Omega.{arith}
-use native.Mathlib.Nat.{div-le_self}
 use Prim.Native.Nat.{◌+◌, ◌/◌}
 use Rattle.cache_room.proofs.reckon.Goals as goal
-
-pub overflow_add-key-2 : goal.overflow_add-key-2
-overflow_add-key-2 c =
-    omega (arith, c.level.ensures, c.requires.fits, div-le_self (c.args.load + c.args.write) c.blocks-blocks.result)
 
 pub rekey-requires : goal.rekey-requires
 rekey-requires c =

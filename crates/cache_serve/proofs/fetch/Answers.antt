@@ -1,14 +1,6 @@
 -- `cache_serve::fetch` meets its contract: a law for each of its two ways. Assumes nothing.
-use Rattle.cache_serve.proofs.Serves.{serve_place, fetch_ready, fetch_hit, load_enterable, load_ready, fetch_load}
+use Rattle.cache_serve.proofs.Serves.{fetch_hit, load_enterable, load_ready, fetch_load}
 use Rattle.cache_serve.proofs.fetch.Goals as goal
-
-pub held-requires : goal.held-requires
-held-requires c =
-    (c.requires.0.valid.size, serve_place c.args.b.now c.args.i c.requires.0)
-
-pub count_step-requires : goal.count_step-requires
-count_step-requires c =
-    fetch_ready c.args.b.now c.args.i c.requires.0
 
 pub returns-then-held : goal.returns-then-held
 returns-then-held c =

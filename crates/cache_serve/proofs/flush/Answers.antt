@@ -1,25 +1,11 @@
 -- `cache_serve::flush` meets its contract. What is left to do leads where the whole leads; the measure is what is left of the
 -- marks. Assumes nothing.
-use mathlib.Core.Path.{sym, ◌∙◌}
-use native.Mathlib.Omega.{arith}
 use Rattle.cache_serve.proofs.Writebacks.{flush_starts, flush_ends, flush_keyed, flush_reckonable, flushable, flush_turn}
 use Rattle.cache_serve.proofs.flush.Goals as goal
 
 pub loop-at-init : goal.loop-at-init
 loop-at-init c =
     flush_starts c.args.b.now c.requires
-
-pub dirty-requires : goal.dirty-requires
-dirty-requires c =
-    c.loop-at.invariant.reads.size
-
-pub next-i-requires : goal.next-i-requires
-next-i-requires c =
-    tt
-
-pub shape_of-b-then-i-ge256 : goal.shape_of-b-then-i-ge256
-shape_of-b-then-i-ge256 c =
-    c.loop-at.invariant.reads.size ∙ sym c.requires.size
 
 pub returns-then-i-ge256 : goal.returns-then-i-ge256
 returns-then-i-ge256 c =
@@ -38,14 +24,6 @@ pub write_back-requires : goal.write_back-requires
 write_back-requires c =
     flushable c.args.b.now c.loop-at.b c.loop-at.at _ _ c.loop-at.invariant c.dirty.ensures c.next-i.ensures c.if-i-ge256.false _
     c.load_now-load.ensures _ c.reckon.ensures
-
-pub overflow_add-at : goal.overflow_add-at
-overflow_add-at c =
-    omega arith
-
-pub loop-at-smaller : goal.loop-at-smaller
-loop-at-smaller c =
-    omega arith
 
 pub loop-at-preserved : goal.loop-at-preserved
 loop-at-preserved c =

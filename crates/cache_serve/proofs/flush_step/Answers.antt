@@ -1,11 +1,6 @@
 -- `cache_serve::flush_step` meets its contract: the flush's law after the count's. Assumes nothing.
-use Rattle.cache_counts.proofs.Counts.{valid_ready}
 use Rattle.cache_serve.proofs.Writebacks.{flushed_valid_at, flush_step_at}
 use Rattle.cache_serve.proofs.flush_step.Goals as goal
-
-pub count_step-requires : goal.count_step-requires
-count_step-requires c =
-    valid_ready c.requires.valid
 
 pub flush-requires : goal.flush-requires
 flush-requires c =

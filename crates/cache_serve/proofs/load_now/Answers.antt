@@ -5,15 +5,6 @@ use native.Mathlib.Omega.{arith}
 use Rattle.cache_serve.proofs.Losses.{keyed_losing, keyed_borne}
 use Rattle.cache_serve.proofs.load_now.Goals as goal
 
-pub overflow_sub-result : goal.overflow_sub-result
-overflow_sub-result c =
-    omega (
-      arith,
-      c.loss-lost.ensures,
-      keyed_borne c.args.b.now c.args.i c.requires c.loss-lost.ensures c.borne.ensures,
-      (keyed_losing c.args.b.now c.args.i c.requires).bears.part,
-    )
-
 pub overflow_sub-result-2 : goal.overflow_sub-result-2
 overflow_sub-result-2 c =
     omega (

@@ -1,5 +1,5 @@
 -- `cache_serve::serve_read` meets its contract: a law for each of its two ways. Assumes nothing.
-use Rattle.cache_serve.proofs.Serves.{serve_facts, serve_keyed, hit_reckonable, hit_ready, hit_becomes, load_enterable, load_ready, load_becomes}
+use Rattle.cache_serve.proofs.Serves.{serve_facts, hit_reckonable, hit_becomes, load_enterable, load_ready, load_becomes}
 use Rattle.cache_serve.proofs.Shares.{blocks_read}
 use Rattle.landlord.specs.Catalog.{full}
 use mathlib.Core.Path.{◌∙◌, ap}
@@ -10,20 +10,10 @@ full_credit-credit-requires c =
     blocks_read (serve_facts c.args.b.now c.args.i c.requires).some (serve_facts c.args.b.now c.args.i c.requires).small
     c.blocks-2.ensures
 
-pub write_now-write-requires : goal.write_now-write-requires
-write_now-write-requires c =
-    serve_keyed c.args.b.now c.args.i c.requires c.held.ensures c.if-held.true
-
 pub reckon-requires : goal.reckon-requires
 reckon-requires c =
     hit_reckonable c.args.b.now c.args.i c.requires c.held.ensures c.if-held.true
     (c.full_credit-credit.ensures ∙ ap full c.item_load_cost.ensures) c.write_now-write.ensures
-
-pub count_step-requires : goal.count_step-requires
-count_step-requires c =
-    hit_ready c.args.b.now c.args.i c.requires c.held.ensures c.if-held.true
-    (c.full_credit-credit.ensures ∙ ap full c.item_load_cost.ensures) c.write_now-write.ensures _
-    c.reckon.ensures
 
 pub returns-then-held : goal.returns-then-held
 returns-then-held c =

@@ -15,10 +15,6 @@ full_credit-write-requires c =
     blocks_read (serve_facts c.args.b.now c.args.i c.requires.0).some (serve_facts c.args.b.now c.args.i c.requires.0).small
     c.blocks-blocks.ensures
 
-pub fetch-requires : goal.fetch-requires
-fetch-requires c =
-    (c.requires.0, c.full_credit-load.ensures ∙ ap full c.item_load_cost.ensures)
-
 pub count_write-requires : goal.count_write-requires
 count_write-requires c =
     write_ready c.args.b.now c.args.i c.requires.0 _ _ c.fetch.ensures c.args.minutes c.requires.1

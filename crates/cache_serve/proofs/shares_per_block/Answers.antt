@@ -3,27 +3,15 @@
 use mathlib.Core.Path.{◌≡◌, refl}
 use mathlib.Core.List.{List, [], ◌∷◌}
 use Prim.Native.Nat.{ℕ, ◌-◌, ◌*◌, ◌/◌}
-use native.Mathlib.Nat.{div-le_self}
-use native.Mathlib.Omega.{arith}
 use lib.ListN.{get_or}
 use Rattle.landlord.specs.Catalog.{unit}
-use Rattle.cache_serve.proofs.Shares.{shares_small, quotient_at}
+use Rattle.cache_serve.proofs.Shares.{quotient_at}
 use Rattle.cache_serve.proofs.shares_per_block.Goals as goal
 
 -- the table, as the code has it
 abbrev quotients : List ℕ
 quotients =
     720720 ∷ 360360 ∷ 240240 ∷ 180180 ∷ 144144 ∷ 120120 ∷ 102960 ∷ 90090 ∷ 80080 ∷ 72072 ∷ 65520 ∷ 60060 ∷ 55440 ∷ 51480 ∷ 48048 ∷ 45045 ∷ []
-
-pub overflow_cast-result-2 : goal.overflow_cast-result-2
-overflow_cast-result-2 c =
-    let read : get_or quotients (c.args.blocks - 1) 0 ≡ unit / c.args.blocks = quotient_at quotients refl c.args.blocks c.requires.0 c.requires.1 in
-    omega (arith, read, div-le_self unit c.args.blocks)
-
-pub overflow_mul-result : goal.overflow_mul-result
-overflow_mul-result c =
-    let read : get_or quotients (c.args.blocks - 1) 0 ≡ unit / c.args.blocks = quotient_at quotients refl c.args.blocks c.requires.0 c.requires.1 in
-    rw read (omega (arith, shares_small c.cost.result c.args.blocks c.cost.ensures.1))
 
 pub returns : goal.returns
 returns c =
