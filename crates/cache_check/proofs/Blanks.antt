@@ -1,62 +1,46 @@
--- Bytes that are 0: the loop that looks for another, and the numbers and flags that they stand for. Assumes nothing.
+-- Bytes that are 0: how they are looked for, and the numbers and flags that they stand for. Assumes nothing.
 use mathlib.Core.Path.{◌≡◌, refl, sym, ap, subst, ◌∙◌}
-use mathlib.Core.Bool.{Bool, false, not}
+use mathlib.Core.Bool.{false, not}
 use mathlib.Core.List.{List, [], ◌∷◌}
-use Prim.Native.Nat.{ℕ, zero, suc, ◌+◌, ◌*◌, ◌-◌, ◌≤◌, ◌<◌}
+use Prim.Native.Nat.{ℕ, zero, suc, ◌+◌, ◌*◌, ◌-◌, ◌^◌, ◌≤◌, ◌<◌}
+use Rattle.std.proofs.Common.{◌↔◌, EachIndex}
 use native.Mathlib.Nat.{mul-le-mul_right, le_refl}
 use native.Mathlib.Decide.{dec_lt, ℕ_discrete}
 use native.Mathlib.Omega.{arith}
-use lib.Bits.{bit_or, or_zero_l, or_add_and, and_le_l, and_le_r}
+use lib.Bits.{bit_or, or_add_and, and_le_l, and_le_r}
 use lib.Dec.{eqb}
-use lib.ListN.{take, drop, get_or}
+use lib.ListN.{length, take, drop, get_or}
 use lib.Seq.{get_or-drop}
 use borrow.Author.Tests.{eq-eqb, eqb-true, not-false}
-use Rattle.fields.specs.LittleEndian.{from_bytes, number_at, run_from_bytes}
+use Rattle.fields.specs.LittleEndian.{from_bytes, number_at, run_from_bytes, flags_from_bytes}
 use Rattle.basis.specs.InnerDecided.{Decided}
 use Rattle.layout.specs.Layout.{numbers_at}
 use Rattle.layout.proofs.Places.{number_at_lem, flag_at}
-use Rattle.cache_check.specs.Inner.{Zeros, ZerosThree, BlankRun, BlankFlags}
+use Rattle.layout.proofs.Tests.{part_below}
+use Rattle.cache_check.specs.Inner.{Zeros, ZerosThree}
 
--- ---- the loop: `all` is 0 exactly if every byte passed is
+-- ---- bits joined by |
 
 or_none : (a x : ℕ) → bit_or a x ≡ 0 → (a ≡ 0) × (x ≡ 0)
 or_none a x e = (omega (arith, or_add_and a x, and_le_l a x, and_le_r a x), omega (arith, or_add_and a x, and_le_l a x, and_le_r a x))
 
-pub record PassedOver (b : List ℕ) (from i all : ℕ) : Type 0 where
-  pub after : from ≤ i
-  pub yes : all ≡ 0 → Zeros b from i
-  pub only : Zeros b from i → all ≡ 0
-
-pub passed_none : (b : List ℕ) (from : ℕ) → PassedOver b from from 0
-passed_none b from =
+-- the bits of every byte of a part tell whether each is 0
+pub zeros_so :
+    (b : List ℕ) (from to bits : ℕ) →
+    (from ≤ to) × (to ≤ length b) →
+    ((k : ℕ) → (bits < 2 ^ k) ↔ EachIndex (take (to - from) (drop from b)) (λ i. get_or (take (to - from) (drop from b)) i 0 < 2 ^ k)) →
+    Decided (Zeros b from to) (eqb bits 0)
+zeros_so b from to bits l each =
+    let part = part_below b from (to - from) 1 (omega (arith, l.0, l.1)) in
     record {
-      after = le_refl from;
-      yes = λ e. record { each = λ j l m. absurd (let x : from ≤ j = l in let y : j < from = m in omega arith) };
-      only = λ z. refl;
-    }
-
-pub passed_more : (b : List ℕ) (from i all : ℕ) → PassedOver b from i all → PassedOver b from (i + 1) (bit_or all (get_or b i 0))
-passed_more b from i all p =
-    record {
-      after = omega (arith, p.after);
-      yes = λ e.
-          let o = or_none all (get_or b i 0) e in
-          record { each = λ j l m. more o.0 o.1 j l m (ℕ_discrete j i) };
-      only = λ z.
-          let e : all ≡ 0 = p.only (record { each = λ j l m. z.each j l (omega arith) }) in
-          ap (λ (x : ℕ). bit_or x (get_or b i 0)) e ∙ or_zero_l (get_or b i 0) ∙ z.each i p.after (omega arith);
+      yes = λ t. record { each = λ j a m. zero j a ((part.0 ((each 0).0 (omega (arith, eqb-true bits 0 t)))) (j - from) (omega arith)) };
+      only = λ z. eq-eqb bits 0 (let low = (each 0).1 (part.1 (λ i m. omega (arith, z.each (from + i) (omega arith) (omega arith)))) in omega (arith, low));
     }
   where
-    more : all ≡ 0 → get_or b i 0 ≡ 0 → (j : ℕ) → from ≤ j → j < i + 1 → Dec (j ≡ i) → get_or b j 0 ≡ 0
-    more e f j l m (yes s) = ap (λ (x : ℕ). get_or b x 0) s ∙ f
-    more e f j l m (no s) = (p.yes e).each j l (omega arith)
-
-pub passed_all : (b : List ℕ) (from to i all : ℕ) → i ≡ to → PassedOver b from i all → Decided (Zeros b from to) (eqb all 0)
-passed_all b from to i all e p =
-    record {
-      yes = λ t. subst (Zeros b from) e (p.yes (eqb-true all 0 t));
-      only = λ z. eq-eqb all 0 (p.only (subst (Zeros b from) (sym e) z));
-    }
+    zero : (j : ℕ) → from ≤ j → get_or b (from + (j - from)) 0 < 1 → get_or b j 0 ≡ 0
+    zero j a h =
+        let e : from + (j - from) ≡ j = omega arith in
+        rw e at (let z : get_or b (from + (j - from)) 0 ≡ 0 = omega arith in z)
 
 -- ---- three stretches at once
 
@@ -91,17 +75,17 @@ module _ (b : List ℕ) (x y z from : ℕ) where
         only = λ o. refl;
       }
 
-  pub three_more : (i all : ℕ) → PassedThree b x y z from i all → PassedThree b x y z from (i + 1) (bit_or (bit_or (bit_or all (get_or b (x + i) 0)) (get_or b (y + i) 0)) (get_or b (z + i) 0))
+  pub three_more : (i all : ℕ) → PassedThree b x y z from i all → PassedThree b x y z from (i + 1) (bit_or all (bit_or (bit_or (get_or b (x + i) 0) (get_or b (y + i) 0)) (get_or b (z + i) 0)))
   three_more i all p =
       record {
         after = omega (arith, p.after);
         yes = λ e.
-            let o = or_none (bit_or (bit_or all (get_or b (x + i) 0)) (get_or b (y + i) 0)) (get_or b (z + i) 0) e in
-            let q = or_none (bit_or all (get_or b (x + i) 0)) (get_or b (y + i) 0) o.0 in
-            let r = or_none all (get_or b (x + i) 0) q.0 in
+            let r = or_none all (bit_or (bit_or (get_or b (x + i) 0) (get_or b (y + i) 0)) (get_or b (z + i) 0)) e in
+            let o = or_none (bit_or (get_or b (x + i) 0) (get_or b (y + i) 0)) (get_or b (z + i) 0) r.1 in
+            let q = or_none (get_or b (x + i) 0) (get_or b (y + i) 0) o.0 in
             let s = p.yes r.0 in
             record {
-              first = zeros_more b x from i s.first r.1;
+              first = zeros_more b x from i s.first q.0;
               second = zeros_more b y from i s.second q.1;
               third = zeros_more b z from i s.third o.1;
             };
@@ -112,10 +96,7 @@ module _ (b : List ℕ) (x y z from : ℕ) where
             let u : get_or b (x + i) 0 ≡ 0 = zeros_last b x from i p.after o.first in
             let v : get_or b (y + i) 0 ≡ 0 = zeros_last b y from i p.after o.second in
             let w : get_or b (z + i) 0 ≡ 0 = zeros_last b z from i p.after o.third in
-            (λ t. bit_or (bit_or (bit_or (e t) (u t)) (v t)) (w t))
-            ∙ ap (λ (k : ℕ). bit_or (bit_or k 0) 0) (or_zero_l 0)
-            ∙ ap (λ (k : ℕ). bit_or k 0) (or_zero_l 0)
-            ∙ or_zero_l 0;
+            (λ t. bit_or (e t) (bit_or (bit_or (u t) (v t)) (w t)));
       }
 
   pub three_all : (to i all : ℕ) → i ≡ to → PassedThree b x y z from i all → Decided (ZerosThree b x y z from to) (eqb all 0)
@@ -126,6 +107,14 @@ module _ (b : List ℕ) (x y z from : ℕ) where
       }
 
 -- ---- numbers of bytes 0
+
+-- of the 256 numbers of w bytes at a place, those from n on are 0
+pub record BlankRun (b : List ℕ) (at w n : ℕ) : Type 0 where
+  pub each : (i : ℕ) → n ≤ i → i < 256 → get_or (numbers_at b at 256 w) i 0 ≡ 0
+
+-- of the 256 flags at a place, those from n on are not set
+pub record BlankFlags (b : List ℕ) (at n : ℕ) : Type 0 where
+  pub each : (i : ℕ) → n ≤ i → i < 256 → get_or (flags_from_bytes 256 (drop at b)) i false ≡ false
 
 from_zero : (w : ℕ) (bs : List ℕ) → ((j : ℕ) → j < w → get_or bs j 0 ≡ 0) → from_bytes (take w bs) ≡ 0
 unfolding from_bytes
@@ -183,9 +172,6 @@ zero_run b at w n few r =
         ∙ ap (λ (x : ℕ). number_at b x w) e
         ∙ number_at_lem w 256 at b (n + i) _ (omega arith) refl
         ∙ r.each (n + i) (omega arith) (omega arith)
-
-pub decided_run : (b : List ℕ) (at w n : ℕ) {r : Bool} → n ≤ 256 → Decided (Zeros b (at + n * w) (at + 256 * w)) r → Decided (BlankRun b at w n) r
-decided_run b at w n few d = record { yes = λ t. run_zero b at w n (d.yes t); only = λ x. d.only (zero_run b at w n few x) }
 
 -- ---- flags of bytes 0
 

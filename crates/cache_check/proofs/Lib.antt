@@ -1,5 +1,6 @@
+mod Adding
 mod Blanks
 mod Gone
+mod Items
 mod Past
-mod Sums
 mod Whole

@@ -1,141 +1,93 @@
--- The places past the catalog: the tests of them find `PastBlank`, no less and no more. Assumes nothing.
+-- The places past the catalog: the tests of their bytes find that they are blank, no less and no more. Assumes nothing.
 use mathlib.Core.Path.{◌≡◌, sym, subst}
-use mathlib.Core.Bool.{Bool, true}
+use mathlib.Core.Bool.{true}
 use mathlib.Core.List.{List}
 use Prim.Native.Nat.{ℕ, ◌+◌, ◌*◌, ◌≤◌, ◌<◌}
 use native.Mathlib.Decide.{dec_lt}
 use native.Mathlib.Omega.{arith}
 use lib.Dec.{leb}
-use lib.ListN.{drop}
+use lib.ListN.{drop, get_or}
 use borrow.Author.Tests.{leb-true, le-leb}
 use Rattle.marks.specs.Marks.{marked}
 use Rattle.marks.specs.Inner.{marks, first_set}
 use Rattle.marks.proofs.Laws.{NextMark, next_is}
-use Rattle.cache_state.specs.Cache.{Blank}
+use Rattle.cache_state.specs.Cache.{Cache, Blank}
+use Rattle.cache_state.specs.InnerParts.{PastOk}
 use Rattle.basis.specs.InnerDecided.{Decided}
 use Rattle.basis.proofs.Decides.{clash}
 use Rattle.layout.specs.Layout.{cache_of, numbers_at}
-use Rattle.layout.specs.InnerRows.{at_load_credits, at_write_credits, at_minutes, at_item_loads, at_item_writebacks, at_item_load_costs, at_item_write_costs, at_blocks, at_held, at_keys, at_places}
-use Rattle.cache_check.specs.Inner.{Zeros, ZerosThree, BlankRun, BlankFlags, BlankMarks, PastBlank}
+use Rattle.layout.specs.InnerRows.{at_blocks, at_held, at_places}
+use Rattle.cache_check.specs.Inner.{Zeros, BlankMarks, PastTests}
 use Rattle.cache_check.proofs.Blanks.{run_zero, zero_run, flags_zero, zero_flags}
 
--- what there is to find but the marks of the items that have left
-pub record RunsBlank (b : List ℕ) (n : ℕ) : Type 0 where
-  pub load_credit : BlankRun b at_load_credits 8 n
-  pub write_credit : BlankRun b at_write_credits 8 n
-  pub minutes : BlankRun b at_minutes 4 n
-  pub loads : BlankRun b at_item_loads 4 n
-  pub writebacks : BlankRun b at_item_writebacks 4 n
-  pub load : BlankRun b at_item_load_costs 2 n
-  pub write : BlankRun b at_item_write_costs 2 n
-  pub blocks : BlankRun b at_blocks 1 n
-  pub key : BlankRun b at_keys 8 n
-  pub places : BlankRun b at_places 1 n
-  pub held : BlankFlags b at_held n
-  pub dirty : BlankMarks (cache_of b).dirty n
+-- every place past the catalog is blank, and has no place in the heap
+pub record PastBlank (c : Cache) : Type 0 where
+  pub past : PastOk c
+  pub places : (i : ℕ) → c.n ≤ i → i < 256 → get_or c.places i 0 ≡ 0
 
 module _ (b : List ℕ) (n : ℕ) (e : n ≡ (cache_of b).n) where
-  runs_blank : PastBlank (cache_of b) → RunsBlank b n
+  times_one : n * 1 ≡ n
+  times_one = omega arith
+
+  from_one : (at : ℕ) → Zeros b (at + n * 1) (at + 256 * 1) → Zeros b (at + n) (at + 256)
+  from_one at = subst (λ (k : ℕ). Zeros b (at + k) (at + 256)) times_one
+
+  by_one : (at : ℕ) → Zeros b (at + n) (at + 256) → Zeros b (at + n * 1) (at + 256 * 1)
+  by_one at = subst (λ (k : ℕ). Zeros b (at + k) (at + 256)) (sym times_one)
+
+  pub blank_tests : n ≤ 256 → PastBlank (cache_of b) → PastTests b n
   unfolding numbers_at
-  runs_blank p =
+  blank_tests few p =
       record {
-        load_credit = record { each = λ i l m. (here i l m).place.slot.load_credit };
-        write_credit = record { each = λ i l m. (here i l m).place.slot.write_credit };
-        minutes = record { each = λ i l m. (here i l m).place.minutes };
-        loads = record { each = λ i l m. (here i l m).place.loads };
-        writebacks = record { each = λ i l m. (here i l m).place.writebacks };
-        load = record { each = λ i l m. (here i l m).load };
-        write = record { each = λ i l m. (here i l m).write };
-        blocks = record { each = λ i l m. (here i l m).blocks };
-        key = record { each = λ i l m. (here i l m).place.slot.key };
-        places = record { each = λ i l m. p.places i (omega arith) m };
-        held = record { each = λ i l m. (here i l m).place.held };
+        eights = record { first = run 8 _ (λ i h. h.place.slot.load_credit); second = run 8 _ (λ i h. h.place.slot.write_credit); third = run 8 _ (λ i h. h.place.slot.key) };
+        fours = record { first = run 4 _ (λ i h. h.place.minutes); second = run 4 _ (λ i h. h.place.loads); third = run 4 _ (λ i h. h.place.writebacks) };
+        twos = record { first = run 2 _ (λ i h. h.load); second = run 2 _ (λ i h. h.write); third = run 2 _ (λ i h. h.write) };
+        ones =
+            record {
+              first = from_one at_blocks (run 1 _ (λ i h. h.blocks));
+              second = zero_flags b at_held n (record { each = λ i l m. (here i l m).place.held });
+              third = from_one at_places (zero_run b _ 1 n few (record { each = λ i l m. p.places i (omega arith) m }));
+            };
         dirty = record { each = λ i l m. (here i l m).place.slot.dirty };
+        left = record { each = λ i l m. (here i l m).left };
       }
     where
       here : (i : ℕ) → n ≤ i → i < 256 → Blank (cache_of b) i
       here i l m = p.past.each i (omega arith) m
 
-  past_so : {r : Bool} → RunsBlank b n → Decided (BlankMarks (cache_of b).left n) r → Decided (PastBlank (cache_of b)) r
+      run : (w at : ℕ) → ((i : ℕ) → Blank (cache_of b) i → get_or (numbers_at b at 256 w) i 0 ≡ 0) → Zeros b (at + n * w) (at + 256 * w)
+      run w at f = zero_run b at w n few (record { each = λ i l m. f i (here i l m) })
+
+  pub tests_blank : PastTests b n → PastBlank (cache_of b)
   unfolding numbers_at
-  past_so a d =
+  tests_blank t =
       record {
-        yes = λ t.
-            record {
-              past = record {
-                each = λ i l m.
-                    let k : n ≤ i = omega arith in
+        past = record {
+          each = λ i l m.
+              let k : n ≤ i = omega arith in
+              record {
+                place =
                     record {
-                      place =
+                      held = (flags_zero b at_held n t.ones.second).each i k m;
+                      slot =
                           record {
-                            held = a.held.each i k m;
-                            slot =
-                                record {
-                                  dirty = a.dirty.each i k m;
-                                  load_credit = a.load_credit.each i k m;
-                                  write_credit = a.write_credit.each i k m;
-                                  key = a.key.each i k m;
-                                };
-                            minutes = a.minutes.each i k m;
-                            loads = a.loads.each i k m;
-                            writebacks = a.writebacks.each i k m;
+                            dirty = t.dirty.each i k m;
+                            load_credit = (run_zero b _ 8 n t.eights.first).each i k m;
+                            write_credit = (run_zero b _ 8 n t.eights.second).each i k m;
+                            key = (run_zero b _ 8 n t.eights.third).each i k m;
                           };
-                      blocks = a.blocks.each i k m;
-                      load = a.load.each i k m;
-                      write = a.write.each i k m;
-                      left = (d.yes t).each i k m;
+                      minutes = (run_zero b _ 4 n t.fours.first).each i k m;
+                      loads = (run_zero b _ 4 n t.fours.second).each i k m;
+                      writebacks = (run_zero b _ 4 n t.fours.third).each i k m;
                     };
+                blocks = (run_zero b _ 1 n (by_one at_blocks t.ones.first)).each i k m;
+                load = (run_zero b _ 2 n t.twos.first).each i k m;
+                write = (run_zero b _ 2 n t.twos.second).each i k m;
+                left = t.left.each i k m;
               };
-              places = λ i l m. a.places.each i (omega arith) m;
-            };
-        only = λ p. d.only (record { each = λ i l m. (p.past.each i (omega arith) m).left });
+        };
+        places = λ i l m. (run_zero b _ 1 n (by_one at_places t.ones.third)).each i (omega arith) m;
       }
-
-  -- what the tests of bytes find
-  pub record ThreesBlank : Type 0 where
-    pub eights : ZerosThree b at_load_credits at_write_credits at_keys (n * 8) 2048
-    pub fours : ZerosThree b at_minutes at_item_loads at_item_writebacks (n * 4) 1024
-    pub twos : ZerosThree b at_item_load_costs at_item_write_costs at_item_write_costs (n * 2) 512
-    pub ones : ZerosThree b at_blocks at_held at_places n 256
-    pub dirty : BlankMarks (cache_of b).dirty n
-
-  times_one : n * 1 ≡ n
-  times_one = omega arith
-
-  pub threes_blank : n ≤ 256 → PastBlank (cache_of b) → ThreesBlank
-  threes_blank few p =
-      let r : RunsBlank b n = runs_blank p in
-      record {
-        eights = record { first = zero_run b _ 8 n few r.load_credit; second = zero_run b _ 8 n few r.write_credit; third = zero_run b _ 8 n few r.key };
-        fours = record { first = zero_run b _ 4 n few r.minutes; second = zero_run b _ 4 n few r.loads; third = zero_run b _ 4 n few r.writebacks };
-        twos = record { first = zero_run b _ 2 n few r.load; second = zero_run b _ 2 n few r.write; third = zero_run b _ 2 n few r.write };
-        ones =
-            record {
-              first = subst (λ (k : ℕ). Zeros b (at_blocks + k) (at_blocks + 256)) times_one (zero_run b _ 1 n few r.blocks);
-              second = zero_flags b at_held n r.held;
-              third = subst (λ (k : ℕ). Zeros b (at_places + k) (at_places + 256)) times_one (zero_run b _ 1 n few r.places);
-            };
-        dirty = r.dirty;
-      }
-
-  pub threes_so : {r : Bool} → ThreesBlank → Decided (BlankMarks (cache_of b).left n) r → Decided (PastBlank (cache_of b)) r
-  threes_so a d =
-      past_so
-      record {
-        load_credit = run_zero b _ 8 n a.eights.first;
-        write_credit = run_zero b _ 8 n a.eights.second;
-        minutes = run_zero b _ 4 n a.fours.first;
-        loads = run_zero b _ 4 n a.fours.second;
-        writebacks = run_zero b _ 4 n a.fours.third;
-        load = run_zero b _ 2 n a.twos.first;
-        write = run_zero b _ 2 n a.twos.second;
-        blocks = run_zero b _ 1 n (subst (λ (k : ℕ). Zeros b (at_blocks + k) (at_blocks + 256)) (sym times_one) a.ones.first);
-        key = run_zero b _ 8 n a.eights.third;
-        places = run_zero b _ 1 n (subst (λ (k : ℕ). Zeros b (at_places + k) (at_places + 256)) (sym times_one) a.ones.third);
-        held = flags_zero b at_held n a.ones.second;
-        dirty = a.dirty;
-      }
-      d
 
 -- marks are not set from n on exactly if the next one that is set is none
 pub marks_so : (ws : List ℕ) (n r : ℕ) → n ≤ 256 → r ≡ n + first_set (drop n (marks ws)) → Decided (BlankMarks ws n) (leb 256 r)

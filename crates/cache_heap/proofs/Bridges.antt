@@ -4,11 +4,14 @@ use mathlib.Core.Path.{◌≡◌, refl, sym, ap, subst, ◌∙◌}
 use mathlib.Core.List.{List, [], ◌∷◌, ◌++◌, append_assoc}
 use Prim.Native.Nat.{ℕ, zero, suc, ◌+◌, ◌*◌, ◌-◌, ◌%◌, ◌≤◌}
 use native.Mathlib.Omega.{arith}
-use lib.ListN.{length, take, drop, length-drop, take-append-drop}
+use lib.ListN.{length, get_or, take, drop, length-drop, take-append-drop}
 use lib.Seq.{sets, sets-eq, length-take-le, take-take, take_at, drop_at, drop-drop, take-add, take_all}
 use Rattle.fields.specs.LittleEndian.{from_bytes, to_bytes, run_from_bytes}
 use Rattle.fields.specs.Inner.{Below, run_of}
-use Rattle.fields.proofs.Laws.{below_drop, below_take, below_append, sets_append}
+use mir.Syntax.{w8}
+use mir.Val.{Fits}
+use Rattle.std.proofs.Math.Facts.{Fits-of_lt}
+use Rattle.fields.proofs.Laws.{byte_fits, below_drop, below_take, below_append, sets_append}
 use Rattle.heap.specs.Heap.{Heap, heap_of}
 use Rattle.heap.specs.InnerPart.{part_bytes, keys_in, items_in, places_in, heap_in, Kept}
 use Rattle.heap.specs.InnerMoves.{Filled, FilledIn, RemovedIn, Roomy, RoomyIn, InsertedIn, UnsettledIn, SiftedIn, Removed, Inserted, Sifted, Unsettled}
@@ -18,7 +21,7 @@ use Rattle.cache_state.specs.InnerWith.{with_arrangement}
 use Rattle.layout.specs.Layout.{state_bytes, cache_of, numbers_at}
 use Rattle.layout.specs.InnerRows.{at_keys, at_heap, at_places}
 use Rattle.layout.specs.Inner.{Stands, Readable}
-use Rattle.layout.proofs.Stores.{coded, heap_stored, places_stored}
+use Rattle.layout.proofs.Stores.{heap_stored, places_stored}
 use Rattle.layout.proofs.Places.{readable, stands_as}
 use Rattle.cache_heap.specs.Inner.{heap_with, Rearranged, FilledAt, RemovedAt, RoomyAt, InsertedAt, UnsettledAt, SiftedAt}
 
@@ -77,7 +80,10 @@ module _ (b : List ℕ) (size : length b ≡ state_bytes) where
 
 -- ---- what comes back
 
-module _ (b next ys : List ℕ) (bytes : Below 256 b) (after : Below 256 next) (s : Readable b) (kept : Kept (part_of b) ys) (is : next ≡ take at_keys b ++ (ys ++ drop 2560 (drop at_keys b))) where
+module _ (b next ys : List ℕ) (bytes : (j : ℕ) → Fits w8 (get_or b j 0)) (after : Below 256 next) (s : Readable b) (kept : Kept (part_of b) ys) (is : next ≡ take at_keys b ++ (ys ++ drop 2560 (drop at_keys b))) where
+  low : Below 256 b
+  low j = byte_fits (bytes j)
+
   ys_below : Below 256 ys
   ys_below =
       subst (Below 256)
@@ -128,7 +134,7 @@ module _ (b next ys : List ℕ) (bytes : Below 256 b) (after : Below 256 next) (
   pub part_back : Stands next (with_arrangement (cache_of b) (items_in ys) (places_in ys))
   part_back =
       stands_as
-      (places_stored (coded mid mid_below (readable first)) (places_in ys) (places_long ys kept.size) places_below
+      (places_stored (λ j. Fits-of_lt (mid_below j)) (readable first) (places_in ys) (places_long ys kept.size) places_below
       (stored ∙ ap (sets mid at_places) (sym (run_one (places_in ys) places_below))))
       (ap (λ (q : Cache). with_arrangement q q.heap (places_in ys)) first.cache)
     where
@@ -137,13 +143,13 @@ module _ (b next ys : List ℕ) (bytes : Below 256 b) (after : Below 256 next) (
 
       first : Stands mid (with_arrangement (cache_of b) (items_in ys) (cache_of b).places)
       first =
-          heap_stored (coded b bytes s) (items_in ys) (items_long ys kept.size) items_below (ap (sets b at_heap) (sym (run_one (items_in ys) items_below)))
+          heap_stored bytes s (items_in ys) (items_long ys kept.size) items_below (ap (sets b at_heap) (sym (run_one (items_in ys) items_below)))
 
       mid_below : Below 256 mid
       mid_below =
           subst (Below 256) (sym (sets-eq (items_in ys) b at_heap (omega (arith, s.size, items_long ys kept.size)) ∙ append_assoc (take at_heap b) (items_in ys) (drop (at_heap + length (items_in ys)) b)))
-          (below_append 256 (take at_heap b) (items_in ys ++ drop (at_heap + length (items_in ys)) b) (below_take 256 at_heap b bytes)
-          (below_append 256 (items_in ys) (drop (at_heap + length (items_in ys)) b) items_below (below_drop 256 (at_heap + length (items_in ys)) b bytes)))
+          (below_append 256 (take at_heap b) (items_in ys ++ drop (at_heap + length (items_in ys)) b) (below_take 256 at_heap b low)
+          (below_append 256 (items_in ys) (drop (at_heap + length (items_in ys)) b) items_below (below_drop 256 (at_heap + length (items_in ys)) b low)))
 
   pub rearranged : Rearranged b next
   rearranged =

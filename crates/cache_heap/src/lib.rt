@@ -11,9 +11,7 @@ pub fn root(b: &[u8]) -> usize
     requires { length b.now ≡ state_bytes }
     ensures { (result ≡ get_or (cache_of b.now).heap 0 0) × (result < 256) }
 {
-    let from: usize = layout::AT_KEYS;
-    let to: usize = layout::STATE_BYTES;
-    heap::item(&b[from..to], 0)
+    heap::item(&b[layout::AT_KEYS..layout::STATE_BYTES], 0)
 }
 
 // The place of a held item.
@@ -21,9 +19,7 @@ pub fn place(b: &[u8], i: usize) -> usize
     requires { (length b.now ≡ state_bytes) × (i < 256) }
     ensures { (result ≡ get_or (cache_of b.now).places i 0) × (result < 256) }
 {
-    let from: usize = layout::AT_KEYS;
-    let to: usize = layout::STATE_BYTES;
-    heap::place(&b[from..to], i)
+    heap::place(&b[layout::AT_KEYS..layout::STATE_BYTES], i)
 }
 
 // Takes out the item at a place of the heap of `n`.
@@ -31,9 +27,7 @@ pub fn remove(b: &mut [u8], n: usize, at: usize)
     requires { FilledAt b.old n at }
     ensures { RemovedAt b.old n at b.new }
 {
-    let from: usize = layout::AT_KEYS;
-    let to: usize = layout::STATE_BYTES;
-    heap::remove(&mut b[from..to], n, at);
+    heap::remove(&mut b[layout::AT_KEYS..layout::STATE_BYTES], n, at);
 }
 
 // Puts in an item that is not among the `n` of the heap.
@@ -41,9 +35,7 @@ pub fn insert(b: &mut [u8], n: usize, i: usize)
     requires { RoomyAt b.old n i }
     ensures { InsertedAt b.old n i b.new }
 {
-    let from: usize = layout::AT_KEYS;
-    let to: usize = layout::STATE_BYTES;
-    heap::insert(&mut b[from..to], n, i);
+    heap::insert(&mut b[layout::AT_KEYS..layout::STATE_BYTES], n, i);
 }
 
 // Puts the heap in order where only the item at a place may be out of order.
@@ -51,9 +43,7 @@ pub fn fix(b: &mut [u8], n: usize, at: usize)
     requires { UnsettledAt b.old n at }
     ensures { SiftedAt b.old n b.new }
 {
-    let from: usize = layout::AT_KEYS;
-    let to: usize = layout::STATE_BYTES;
-    heap::fix(&mut b[from..to], n, at);
+    heap::fix(&mut b[layout::AT_KEYS..layout::STATE_BYTES], n, at);
 }
 
 // Whether the first `n` places of the heap are as they should be, in one pass.
@@ -61,9 +51,7 @@ pub fn spots_ok(b: &[u8], n: usize) -> bool
     requires { (length b.now ≡ state_bytes) × (n ≤ 256) }
     ensures { Decided (SpotsAt (cache_of b.now) n) result }
 {
-    let from: usize = layout::AT_KEYS;
-    let to: usize = layout::STATE_BYTES;
-    let first: usize = layout::AT_HELD;
-    let last: usize = layout::AT_RULE;
-    heap::spots_ok(&b[from..to], &b[first..last], n)
+    let part = &b[layout::AT_KEYS..layout::STATE_BYTES];
+    let held = &b[layout::AT_HELD..layout::AT_RULE];
+    heap::spots_ok(part, held, n)
 }

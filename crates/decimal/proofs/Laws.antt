@@ -3,39 +3,28 @@
 -- digits that it needs (digits_length, digits_twenty, digits_bytes). The others say what one turn of a loop does.
 -- Assumes nothing.
 use mathlib.Core.Path.{◌≡◌, refl, sym, ap, ◌∙◌}
-use mathlib.Core.Bool.{Bool, true, false, not, ◌&&◌, and-eq-true_iff, false≢true}
+use mathlib.Core.Bool.{Bool, true, false, ◌&&◌, and-eq-true_iff, false≢true}
 use mathlib.Core.List.{List, [], ◌∷◌, ◌++◌, append_assoc, append-nil}
-use mathlib.Core.Logic.{◌⊎◌, inl, inr, ⊎_elim}
+use mathlib.Core.Logic.{◌⊎◌, ⊎_elim}
 use Prim.Native.Nat.{ℕ, zero, suc, ◌+◌, ◌*◌, ◌-◌, ◌^◌, ◌/◌, ◌%◌, ◌≤◌, ◌<◌}
 use native.Mathlib.Nat.{pow-suc, one-le-pow, mul-le-mul_left, mod-eq_of_lt, zero-mul, zero-add}
 use native.Mathlib.Numerals.{add-one}
 use native.Mathlib.Omega.{arith}
-use borrow.Author.Tests.{ltb-true, ltb-false, leb-true, lt-ltb, le-ltb, le-leb, lt-leb, eq-eqb, ne_eqb, not-true}
+use borrow.Author.Tests.{lt-ltb, le-ltb, le-leb, lt-leb, eq-eqb, ne_eqb}
 use lib.Dec.{leb, ltb}
 use lib.ListN.{length, get_or, drop, set, length-append, length-drop, get_or-append, drop_of_length-le}
-use lib.Seq.{drop-cons, get_or-set_same, drop-set-lt, lt-length-set}
+use lib.Seq.{drop-cons}
+use Rattle.std.proofs.Math.Bool.{and-true, and-false}
+use Rattle.std.proofs.lemmas.Bool.{cases_lt}
 use Rattle.std.specs.List.{list_all}
 use Rattle.std.specs.Prelude.{Ok, Err}
 use Rattle.decimal.specs.declared.NumberError.TheVariants.{Malformed, OutOfRange}
 use Rattle.decimal.specs.Decimal.{all_digits, leading_zero, shaped, value_of, digits_in, digits_of, wrote_of, page_of}
 use Rattle.decimal.specs.InnerReads.{is_digit, read_of}
-
--- ## Tests
+use Rattle.std.proofs.lemmas.Grind.{common_steps}
 
 pub less_or_not : (x n : ℕ) → (x < n) ⊎ (n ≤ x)
-less_or_not x n = go (ltb x n) refl
-  where
-    go : (t : Bool) → ltb x n ≡ t → (x < n) ⊎ (n ≤ x)
-    go true e = inl (ltb-true x n e)
-    go false e = inr (ltb-false x n e)
-
-pub and_false : (t : Bool) → (t && false) ≡ false
-and_false true = refl
-and_false false = refl
-
-and_true : (t : Bool) → (t && true) ≡ t
-and_true true = refl
-and_true false = refl
+less_or_not = cases_lt
 
 -- ## The digits of a number
 
@@ -54,7 +43,7 @@ any_bound zero g x h k = in_small zero x (omega arith) ∙ sym (in_small g x (om
 any_bound (suc f) zero x h k = in_small (suc f) x (omega arith) ∙ sym (in_small zero x (omega arith))
 any_bound (suc f) (suc g) x h k =
     ⊎_elim (λ s. in_small (suc f) x s ∙ sym (in_small (suc g) x s))
-    (λ b. rw (in_big f x b, in_big g x b, any_bound f g (x / 10) (omega arith) (omega arith))) (less_or_not x 10)
+    (λ b. rw (in_big f x b, in_big g x b, any_bound f g (x / 10) (omega arith) (omega arith))) (cases_lt x 10)
 
 -- the two laws by which all others know the text of a number
 pub digits_small : (x : ℕ) → x < 10 → digits_of x ≡ (48 + x) ∷ []
@@ -74,7 +63,7 @@ by_digits P small big x = go x x (omega arith)
   where
     go : (f y : ℕ) → y ≤ f → P y
     go zero y h = small y (omega arith)
-    go (suc f) y h = ⊎_elim (λ k. small y k) (λ k. big y k (go f (y / 10) (omega arith))) (less_or_not y 10)
+    go (suc f) y h = ⊎_elim (λ k. small y k) (λ k. big y k (go f (y / 10) (omega arith))) (cases_lt y 10)
 
 pub length_small : (x : ℕ) → x < 10 → length (digits_of x) ≡ 1
 length_small x h = rw (digits_small x h)
@@ -86,6 +75,14 @@ pub digits_some : (x : ℕ) → 1 ≤ length (digits_of x)
 digits_some =
     by_digits (λ x. 1 ≤ length (digits_of x)) (λ x h. omega (arith, length_small x h)) (λ x h p. omega (arith, length_big x h))
 
+-- a number has one digit more than the power of ten that it reaches
+pub digits_count : (n k : ℕ) → 10 ^ k ≤ n → n < 10 * 10 ^ k → length (digits_of n) ≡ k + 1
+digits_count n zero low high = length_small n (omega arith)
+digits_count n (suc k) low high =
+    let e : 10 ^ suc k ≡ 10 ^ k * 10 = pow-suc 10 k in
+    let p : 1 ≤ 10 ^ k = one-le-pow k 10 (omega arith) in
+    omega (arith, length_big n (omega (arith, e, p, low)), digits_count (n / 10) k (omega (arith, e, low)) (omega (arith, e, high)))
+
 -- w digits are enough for a number below the w-th power of ten
 pub digits_length : (n w : ℕ) → n < 10 ^ w → 1 ≤ w → length (digits_of n) ≤ w
 digits_length n zero h k = absurd (omega arith)
@@ -93,7 +90,7 @@ digits_length n (suc zero) h k = omega (arith, length_small n h)
 digits_length n (suc (suc w)) h k =
     ⊎_elim (λ s. omega (arith, length_small n s))
     (λ b. omega (arith, length_big n b, digits_length (n / 10) (suc w) (omega arith) (omega arith)))
-    (less_or_not n 10)
+    (cases_lt n 10)
 
 -- a u64 has at most 20 digits
 pub digits_twenty : (n : ℕ) → n < 2 ^ 64 → length (digits_of n) ≤ 20
@@ -161,9 +158,7 @@ is_digit_lem b h k = rw (le-leb 48 b h) (le-leb b 57 k)
 
 -- the two bounds of a digit
 digit_range : (b : ℕ) → is_digit b ≡ true → (48 ≤ b) × (b ≤ 57)
-digit_range b h =
-    let p = (and-eq-true_iff (leb 48 b) (leb b 57)).0 h in
-    (leb-true 48 b p.0, leb-true b 57 p.1)
+digit_range b h = grind (arith, common_steps)
 
 all_cons : (b : ℕ) (s : List ℕ) → all_digits (b ∷ s) ≡ true → (is_digit b ≡ true) × (all_digits s ≡ true)
 unfolding all_digits
@@ -211,7 +206,7 @@ lead_none s h = rw (le-ltb 1 (length s) h)
 
 pub lead_other : (s : List ℕ) → (get_or s 0 0 ≡ 48 → ⊥) → leading_zero s ≡ false
 unfolding leading_zero
-lead_other s h = rw (ne_eqb (get_or s 0 0) 48 h) (and_false (ltb 1 (length s)))
+lead_other s h = rw (ne_eqb (get_or s 0 0) 48 h) (and-false (ltb 1 (length s)))
 
 lead_zero : (s : List ℕ) → 1 < length s → get_or s 0 0 ≡ 48 → leading_zero s ≡ true
 unfolding leading_zero
@@ -224,14 +219,11 @@ shape s h k l = rw (le-leb 1 (length s) h, k, l)
 -- what a shaped text has: a digit, only digits, and a zero in front only alone
 pub shape_parts : (s : List ℕ) → shaped s ≡ true → (1 ≤ length s) × (all_digits s ≡ true) × (leading_zero s ≡ false)
 unfolding shaped
-shape_parts s h =
-    let p = (and-eq-true_iff (leb 1 (length s) && all_digits s) (not (leading_zero s))).0 h in
-    let q = (and-eq-true_iff (leb 1 (length s)) (all_digits s)).0 p.0 in
-    (leb-true 1 (length s) q.0, q.1, not-true (leading_zero s) p.1)
+shape_parts s h = grind (arith, common_steps)
 
 -- the text of a number is well shaped
 pub shaped_digits : (n : ℕ) → shaped (digits_of n) ≡ true
-shaped_digits n = shape (digits_of n) (digits_some n) (digits_all n) (⊎_elim small big (less_or_not n 10))
+shaped_digits n = shape (digits_of n) (digits_some n) (digits_all n) (⊎_elim small big (cases_lt n 10))
   where
     small : n < 10 → leading_zero (digits_of n) ≡ false
     small h = lead_none (digits_of n) (omega (arith, length_small n h))
@@ -279,12 +271,12 @@ no_text s h = rw (lt-leb 1 (length s) h)
 
 pub no_zero : (s : List ℕ) → 1 < length s → get_or s 0 0 ≡ 48 → shaped s ≡ false
 unfolding shaped
-no_zero s h k = rw (lead_zero s h k) (and_false (leb 1 (length s) && all_digits s))
+no_zero s h k = rw (lead_zero s h k) (and-false (leb 1 (length s) && all_digits s))
 
 -- with no zero in front it is the digits that decide
 pub shape_led : (s : List ℕ) → 1 ≤ length s → leading_zero s ≡ false → all_digits s ≡ shaped s
 unfolding shaped
-shape_led s h l = rw (le-leb 1 (length s) h, l) (sym (and_true (all_digits s)))
+shape_led s h l = rw (le-leb 1 (length s) h, l) (sym (and-true (all_digits s)))
 
 -- a digit alone, or digits of which the first is no zero
 pub shape_one : (s : List ℕ) → 1 ≤ length s → length s ≤ 1 → all_digits s ≡ true → shaped s ≡ true
@@ -323,7 +315,7 @@ read_value s limit n h = go (shaped s) refl
         let m = read_within s limit e k in
         let u : value_of s ≡ n = cc in
         (sym (digits_value s e) ∙ ap digits_of u, omega arith))
-        (less_or_not limit (value_of s))
+        (cases_lt limit (value_of s))
 
 -- a byte of a number's text is no less than the digit 0
 pub shaped_at : (s : List ℕ) (i : ℕ) → shaped s ≡ true → i < length s → 48 ≤ get_or s i 0
@@ -351,18 +343,14 @@ abbrev pub to_go : ℕ → ℕ → List ℕ → List ℕ
 to_go i x page = low_digits i x ++ drop i page
 
 put_here : (l : List ℕ) (j b : ℕ) → j < length l → drop j (set l j b) ≡ b ∷ drop (suc j) l
-put_here l j b h =
-    rw (drop-cons (set l j b) j 0 (lt-length-set l j b h), get_or-set_same l j b 0 h, drop-set-lt (suc j) l j b (omega arith))
+put_here l j b h = grind (arith, common_steps)
 
 -- one digit written, at the end of those to go
 pub go_next :
     (i x : ℕ) (page : List ℕ) → 0 < i → i ≤ length page →
     to_go i x page ≡ to_go (i - 1) (x / 10) (set page (i - 1) (48 + x % 10))
 unfolding low_digits
-go_next zero x page h k = absurd (omega arith)
-go_next (suc j) x page h k =
-    let e : suc j - 1 ≡ j = omega arith in
-    rw (e, put_here page j (48 + x % 10) k) (append_assoc (low_digits j (x / 10)) ((48 + x % 10) ∷ []) (drop (suc j) page))
+go_next i x page h k = grind (arith, common_steps)
 
 pub go_end : (x : ℕ) (page : List ℕ) → to_go 0 x page ≡ page
 unfolding low_digits
@@ -391,10 +379,10 @@ go_all x page h = rw (page_all (digits_of x) page h, low_all x)
 -- what is written has room on the page, and the page keeps its length
 pub wrote_fits : (t page : List ℕ) → wrote_of t page ≤ length page
 wrote_fits t page =
-    ⊎_elim (λ h. omega (arith, wrote_none t page h)) (λ h. omega (arith, wrote_all t page h)) (less_or_not (length page) (length t))
+    ⊎_elim (λ h. omega (arith, wrote_none t page h)) (λ h. omega (arith, wrote_all t page h)) (cases_lt (length page) (length t))
 
 pub page_length : (t page : List ℕ) → length (page_of t page) ≡ length page
-page_length t page = ⊎_elim none all (less_or_not (length page) (length t))
+page_length t page = ⊎_elim none all (cases_lt (length page) (length t))
   where
     none : length page < length t → length (page_of t page) ≡ length page
     none h = rw (page_none t page h)

@@ -6,12 +6,13 @@ use Prim.Native.Nat.{ℕ, suc, ◌+◌, ◌-◌, ◌≤◌, ◌<◌}
 use native.Mathlib.Nat.{zero-add}
 use native.Mathlib.Numerals.{add-one}
 use native.Mathlib.Omega.{arith}
-use lib.ListN.{length, get_or, take, drop, set, length-append, length-drop, take-append-drop, drop_of_length-le}
-use lib.Seq.{drop-cons, drop-drop, take_at, drop_at, length-take-le, take_all, set_split}
+use lib.ListN.{length, get_or, take, drop, set, length-append, length-drop}
+use lib.Seq.{drop-cons, drop-drop, take_at, drop_at, length-take-le, set_split}
 use borrow.Rule.Slice.PartMut.{mid_of, put_mid, mid_len}
 use Rattle.decimal.specs.Decimal.{digits_of, wrote_of, page_of}
 use Rattle.decimal.specs.InnerPages.{text_over, labelled}
 use Rattle.decimal.proofs.Laws.{wrote_all, page_all}
+use Rattle.std.proofs.lemmas.Grind.{common_steps}
 
 -- ## A text at a place of a page
 
@@ -25,9 +26,7 @@ over_start t page = rw zero-add
 
 pub over_none : (a : ℕ) (page : List ℕ) → over_at a [] page ≡ page
 unfolding over_at
-over_none a page =
-    let e : a + 0 ≡ a = omega arith in
-    rw e (take-append-drop a page)
+over_none a page = grind (arith, common_steps)
 
 over_front : (a : ℕ) (t page : List ℕ) → a ≤ length page → length (take a page ++ t) ≡ a + length t
 over_front a t page h = rw (length-append, length-take-le a page h)
@@ -60,14 +59,7 @@ pub tail_over :
     (a : ℕ) (t page ys : List ℕ) → a ≤ length page → ys ≡ text_over t (mid_of a (length page - a) page) →
     put_mid a (length page - a) page ys ≡ over_at a t page
 unfolding over_at
-tail_over a t page ys h e =
-    let lent : mid_of a (length page - a) page ≡ drop a page = take_all (length page - a) (drop a page) (omega (arith, length-drop a page)) in
-    let past : drop (length page - a) (drop a page) ≡ [] =
-    drop_of_length-le (drop a page) {i = length page - a} (omega (arith, length-drop a page)) in
-    let got : ys ≡ t ++ drop (a + length t) page =
-    e ∙ ap (text_over t) lent ∙ ap (λ (l : List ℕ). t ++ l) (drop-drop (length t) a page) in
-    ap (λ (l : List ℕ). take a page ++ (ys ++ l)) past
-    ∙ ap (λ (l : List ℕ). take a page ++ l) (append-nil ys ∙ got)
+tail_over a t page ys h e = grind (arith, common_steps)
 
 set_over : (a b : ℕ) (page : List ℕ) → a < length page → set page a b ≡ over_at a (b ∷ []) page
 unfolding over_at

@@ -11,9 +11,10 @@ use lib.Dec.{ltb}
 use lib.ListN.{length, set, length-set}
 use lib.Seq.{sets, sets-eq}
 use mir.Val.{bool_byte}
+use Rattle.std.proofs.lemmas.Bool.{cases_lt}
 use Rattle.decimal.specs.Decimal.{digits_of}
 use Rattle.decimal.specs.InnerPages.{text_over, two_digits, three_digits}
-use Rattle.decimal.proofs.Laws.{less_or_not, digits_small, digits_big, digits_some, length_small}
+use Rattle.decimal.proofs.Laws.{digits_small, digits_big, digits_some, length_small}
 
 -- ## The digits
 
@@ -51,7 +52,7 @@ abbrev count_of : ℕ → ℕ
 count_of v = 1 + bool_byte (ltb 9 v) + bool_byte (ltb 99 v) + bool_byte (ltb 999 v)
 
 pub short_count : (v : ℕ) → v < 10000 → count_of v ≡ length (digits_of v)
-short_count v h = ⊎_elim one (λ a. ⊎_elim (two a) (λ b. ⊎_elim (three b) four (less_or_not v 1000)) (less_or_not v 100)) (less_or_not v 10)
+short_count v h = ⊎_elim one (λ a. ⊎_elim (two a) (λ b. ⊎_elim (three b) four (cases_lt v 1000)) (cases_lt v 100)) (cases_lt v 10)
   where
     one : v < 10 → count_of v ≡ length (digits_of v)
     one a = rw (le-ltb 9 v (omega arith), le-ltb 99 v (omega arith), le-ltb 999 v (omega arith), length_small v a)

@@ -9,9 +9,9 @@ use lib.Dec.{eqb}
 use lib.ListN.{length}
 use native.Mathlib.Omega.{arith}
 use Rattle.std.proofs.lemmas.Bool.Decides.{nat_tests}
+use Rattle.std.proofs.Math.Bool.{and-false}
 use Rattle.std.specs.Cmp.Lexicographic.{pointwise}
 use Rattle.decimal.specs.Decimal.{same_text}
-use Rattle.decimal.proofs.Laws.{and_false}
 
 -- a text is one with itself
 pub same_refl : (s : List ℕ) → same_text s s ≡ true
@@ -57,4 +57,4 @@ same_lengths [] [] h = absurd (h refl)
 same_lengths [] (y ∷ t) h = refl
 same_lengths (x ∷ s) [] h = refl
 same_lengths (x ∷ s) (y ∷ t) h =
-    sym (and_false (eqb x y)) ∙ ap (λ (b : Bool). eqb x y && b) (same_lengths s t (λ e. h (ap suc e)))
+    sym (and-false (eqb x y)) ∙ ap (λ (b : Bool). eqb x y && b) (same_lengths s t (λ e. h (ap suc e)))

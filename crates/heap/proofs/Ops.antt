@@ -1,64 +1,38 @@
--- What the operations need: the stores of a new last place and of its going, an insertion, a removal, and the test of the
--- order. Assumes nothing.
-use mathlib.Core.Path.{◌≡◌, refl, sym, ap, ◌∙◌}
+-- What the operations need: the stores of an exchange, of a new last place and of its going, an insertion, a removal. Assumes nothing.
+use mathlib.Core.Path.{◌≡◌, sym, ap, ◌∙◌}
 use mathlib.Core.Logic.{◌≢◌}
 use mathlib.Core.List.{List}
-use Prim.Native.Nat.{ℕ, suc, ◌+◌, ◌-◌, ◌<◌}
+use Prim.Native.Nat.{ℕ, suc, ◌-◌, ◌<◌}
 use native.Mathlib.Omega.{arith}
-use lib.ListN.{length, get_or, set}
-use lib.Seq.{get_or-set_same, get_or-set_other}
-use Rattle.heap.specs.Heap.{Heap}
-use Rattle.heap.specs.Heap.{item_at, weight, weight_at, above}
+use Rattle.std.proofs.lemmas.Grind.{common_steps}
+use lib.ListN.{length, set}
+use Rattle.heap.specs.Heap.{Heap, item_at}
 use Rattle.heap.specs.InnerMoves.{Exchanged, Climbing, Unsettled, Sifted, Appended, Cut, Roomy, Inserted, Filled, Removed}
-use Rattle.heap.proofs.Orders.{changed, grown, fewer}
 use Rattle.heap.proofs.Contents.{appended, cut_contains, exchanged_same}
 
-pub append_stores :
-    (h : Heap) (item at : ℕ) →
+-- the stores of an exchange
+pub exchange :
+    (h : Heap) (i j a b : ℕ) →
     length h.items ≡ 256 →
     length h.place ≡ 256 →
-    h.size < 256 →
-    at ≡ item →
-    at < 256 →
-    Appended h item (record { items = set h.items h.size item; place = set h.place at h.size; size = h.size + 1 })
-append_stores h item at li lp l e al =
-    record {
-      size = omega arith;
-      here = get_or-set_same h.items h.size item 0 (omega arith);
-      rest = λ j ne. get_or-set_other h.items h.size j item 0 ne;
-      at =
-          ap (λ (z : ℕ). get_or (set h.place at h.size) z 0) (sym e) ∙ get_or-set_same h.place at h.size 0 (omega arith);
-      rest_at = λ x ne. get_or-set_other h.place at x h.size 0 (λ q. ne (q ∙ e));
-    }
-
-pub cut_stores :
-    (h : Heap) (last at : ℕ) →
-    length h.items ≡ 256 →
-    length h.place ≡ 256 →
-    last < 256 →
-    at ≡ item_at h last →
-    at < 256 →
-    Cut h last (record { items = set h.items last 0; place = set h.place at 0; size = last })
-cut_stores h last at li lp l e al =
-    record {
-      size = refl;
-      here = get_or-set_same h.items last 0 0 (omega arith);
-      rest = λ j ne. get_or-set_other h.items last j 0 0 ne;
-      at = ap (λ (z : ℕ). get_or (set h.place at 0) z 0) (sym e) ∙ get_or-set_same h.place at 0 0 (omega arith);
-      rest_at = λ x ne. get_or-set_other h.place at x 0 0 (λ q. ne (q ∙ e));
-    }
+    i < 256 →
+    j < 256 →
+    a ≡ item_at h i →
+    b ≡ item_at h j →
+    a < 256 →
+    b < 256 →
+    Exchanged h i j
+    (record {
+      items = set (set h.items i (item_at h j)) j (item_at h i);
+      place = set (set h.place b i) a j;
+      size = h.size;
+    })
+exchange h i j a b li lp il jl ea eb al bl = grind (arith, common_steps)
 
 -- an insertion
 module _ (keys : List ℕ) (h : Heap) (item : ℕ) (q : Heap) (x : Appended h item q) (pre : Roomy keys h) where
   pub insert_climbs : Climbing keys q h.size
-  insert_climbs =
-      record {
-        here = omega (arith, x.size);
-        small = omega (arith, x.size, pre.room);
-        up =
-            rw x.size
-            (grown (weight_at keys h) (weight_at keys q) h.size h.size pre.ordered (λ j l. ap (weight keys) (x.rest j (omega arith))));
-      }
+  insert_climbs = grind arith
 
   pub insert_done : (r : Heap) → Sifted keys q r → Inserted keys h item r
   insert_done r s =
@@ -71,40 +45,15 @@ module _ (keys : List ℕ) (h : Heap) (item : ℕ) (q : Heap) (x : Appended h it
 -- a removal: of the last place
 module _ (keys : List ℕ) (h : Heap) (at : ℕ) (pre : Filled keys h at) where
   pub remove_last : (r : Heap) → at ≡ h.size - 1 → Cut h (h.size - 1) r → Removed keys h at r
-  remove_last r e x =
-      let z : suc (h.size - 1) ≡ h.size = omega (arith, pre.here) in
-      record {
-        size = ap suc x.size ∙ z;
-        ordered =
-            rw x.size
-            (record {
-              each =
-                  λ j a b.
-                  rw (ap (weight keys) (x.rest j (omega arith)), ap (weight keys) (x.rest (above j) (omega arith))) (pre.ordered.each j a (omega arith));
-            });
-        contains = λ m s c p. cut_contains h (h.size - 1) r x z m s c (rw e at p);
-      }
+  remove_last r e x = grind arith
 
   -- of another: the last item stands at its place, and may be out of order there
   module _ (q r : Heap) (ne : at ≢ h.size - 1) (x : Exchanged h at (h.size - 1) q) (y : Cut q (q.size - 1) r) where
     last_is : q.size - 1 ≡ h.size - 1
     last_is = ap (λ (z : ℕ). z - 1) x.size
 
-    same_item : (j : ℕ) → j < h.size - 1 → j ≢ at → item_at r j ≡ item_at h j
-    same_item j l n =
-        y.rest j (let e : q.size - 1 ≡ h.size - 1 = last_is in omega arith) ∙ x.rest j n (omega arith)
-
     pub remove_moves : Unsettled keys r at
-    remove_moves =
-        let e : r.size ≡ h.size - 1 = y.size ∙ last_is in
-        record {
-          here = omega (arith, pre.here);
-          small = omega (arith, pre.small);
-          but =
-              rw e
-              (changed (weight_at keys h) (weight_at keys r) (h.size - 1) at (fewer (weight_at keys h) h.size (h.size - 1) pre.ordered (omega arith))
-              (λ j l n. ap (weight keys) (same_item j l n)));
-        }
+    remove_moves = grind arith
 
     pub remove_done : (t : Heap) → Sifted keys r t → Removed keys h at t
     remove_done t s =

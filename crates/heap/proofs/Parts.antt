@@ -89,8 +89,5 @@ key_at_lem s i r l e = e ∙ sym (run_at 256 s i l)
 
 -- ---- what is left
 
-pub kept_refl : (s : List ℕ) → length s ≡ part_bytes → Kept s s
-kept_refl s e = record { size = e; head = refl }
-
 pub kept_on : {s r t : List ℕ} → Kept s r → Kept r t → Kept s t
 kept_on a b = record { size = b.size; head = b.head ∙ a.head }

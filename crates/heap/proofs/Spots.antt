@@ -1,95 +1,29 @@
--- The test of the places in use, and what it comes to: where as many items are held as places are in use, each held item is there
--- once. Assumes nothing.
+-- What the test of the places in use comes to: where as many items are held as places are in use, each held item is there once.
+-- Assumes nothing.
 use mathlib.Core.Path.{◌≡◌, refl, sym, ap, ◌∙◌}
 use mathlib.Core.Logic.{◌≢◌}
-use mathlib.Core.Bool.{Bool, true, false, cond, not, false≢true}
+use mathlib.Core.Bool.{Bool, true, false, cond}
 use mathlib.Core.List.{List}
 use Prim.Native.Nat.{ℕ, zero, suc, ◌+◌, ◌≤◌, ◌<◌}
 use native.Mathlib.Decide.{ℕ_discrete, dec_lt}
 use native.Mathlib.Omega.{arith}
-use lib.Dec.{eqb, ltb}
-use borrow.Author.Tests.{eq-eqb, ne_eqb, eqb-true, ltb-true, ltb-false}
+use lib.Dec.{eqb}
+use borrow.Author.Tests.{eq-eqb, ne_eqb}
 use lib.ListN.{length, get_or, get_or-eq_default}
 use Rattle.landlord.specs.Fold.{sum_to}
 use Rattle.landlord.proofs.Sums.{sum_change}
-use Rattle.heap.specs.Heap.{Heap, heap_of, item_at, place_of, weight_of, above}
-use Rattle.heap.specs.InnerPart.{keys_in, items_in, places_in}
-use Rattle.heap.specs.InnerMoves.{Decided, RootOk, SpotOk, SpotsOk, SpotsOn, HeapOk, flagged}
-
--- ---- the test of one place
-
-pub root_out : (m : ℕ → Bool) (s : List ℕ) → m (get_or (items_in s) 0 0) ≡ false → Decided (RootOk m s) false
-root_out m s e = record { yes = λ t. absurd (false≢true t); only = λ ok. absurd (false≢true (sym e ∙ ok.is_held)) }
-
-pub root_placed : (m : ℕ → Bool) (s : List ℕ) (r : Bool) → m (get_or (items_in s) 0 0) ≡ true → r ≡ eqb (get_or (places_in s) (get_or (items_in s) 0 0) 0) 0 → Decided (RootOk m s) r
-root_placed m s r h e =
-    record {
-      yes = λ t. record { is_held = h; placed = eqb-true (get_or (places_in s) (get_or (items_in s) 0 0) 0) 0 (sym e ∙ t) };
-      only = λ ok. e ∙ eq-eqb (get_or (places_in s) (get_or (items_in s) 0 0) 0) 0 ok.placed;
-    }
-
-pub spot_elsewhere : (s : List ℕ) (j : ℕ) → get_or (places_in s) (get_or (items_in s) j 0) 0 ≢ j → Decided (SpotOk s j) false
-spot_elsewhere s j ne = record { yes = λ t. absurd (false≢true t); only = λ ok. absurd (ne ok.placed) }
-
-pub spot_goes :
-    (s : List ℕ) (j : ℕ) (r : Bool) →
-    get_or (places_in s) (get_or (items_in s) j 0) 0 ≡ j →
-    r ≡ ltb (weight_of (keys_in s) (items_in s) j) (weight_of (keys_in s) (items_in s) (above j)) →
-    Decided (SpotOk s j) (not r)
-spot_goes s j true placed e =
-    record {
-      yes = λ t. absurd (false≢true t);
-      only = λ ok. absurd (omega (arith, ltb-true (weight_of (keys_in s) (items_in s) j) (weight_of (keys_in s) (items_in s) (above j)) (sym e), ok.order));
-    }
-spot_goes s j false placed e =
-    record {
-      yes = λ t. record { placed = placed; order = ltb-false (weight_of (keys_in s) (items_in s) j) (weight_of (keys_in s) (items_in s) (above j)) (sym e) };
-      only = λ ok. refl;
-    }
-
--- ---- of all places
-
--- the root and the places below j are as they should be
-pub record Spotted (m : ℕ → Bool) (s : List ℕ) (n j : ℕ) : Type 0 where
-  pub few : j ≤ n
-  pub root : RootOk m s
-  pub each : (i : ℕ) → 1 ≤ i → i < j → SpotOk s i
-
-module _ (m : ℕ → Bool) (s : List ℕ) (n : ℕ) where
-  pub no_spots : n ≡ 0 → Decided (SpotsOk m s n) true
-  no_spots e = record { yes = λ t. record { root = λ l. absurd (omega arith); each = λ i a l. absurd (omega arith) }; only = λ ok. refl }
-
-  pub not_rooted : (r : Bool) → n ≢ 0 → r ≡ false → Decided (RootOk m s) r → Decided (SpotsOk m s n) false
-  not_rooted r some e d =
-      record { yes = λ t. absurd (false≢true t); only = λ ok. absurd (false≢true (sym e ∙ d.only (ok.root (omega arith)))) }
-
-  pub spotted_root : n ≢ 0 → RootOk m s → Spotted m s n 1
-  spotted_root some ok = record { few = omega arith; root = ok; each = λ i a l. absurd (omega arith) }
-
-  pub spotted_more : (j : ℕ) → Spotted m s n j → j < n → SpotOk s j → Spotted m s n (j + 1)
-  spotted_more j so l ok = record { few = omega arith; root = so.root; each = λ i a b. at i a b (ℕ_discrete i j) }
-    where
-      at : (i : ℕ) → 1 ≤ i → i < j + 1 → Dec (i ≡ j) → SpotOk s i
-      at i a b (yes e) = rw e ok
-      at i a b (no e) = so.each i a (omega arith)
-
-  pub spotted_all : (j : ℕ) → Spotted m s n j → n ≤ j → Decided (SpotsOk m s n) true
-  spotted_all j so l = record { yes = λ t. record { root = λ some. so.root; each = λ i a b. so.each i a (omega arith) }; only = λ ok. refl }
-
-  pub not_spotted : (j : ℕ) (r : Bool) → 1 ≤ j → j < n → r ≡ false → Decided (SpotOk s j) r → Decided (SpotsOk m s n) false
-  not_spotted j r a l e d = record { yes = λ t. absurd (false≢true t); only = λ ok. absurd (false≢true (sym e ∙ d.only (ok.each j a l))) }
-
--- ---- what it comes to
+use Rattle.heap.specs.Heap.{Heap, heap_of, item_at, place_of}
+use Rattle.heap.specs.InnerMoves.{SpotsOn, HeapOk}
 
 -- how many numbers below k are in a set
 abbrev pub count_of : (ℕ → Bool) → ℕ → ℕ
 count_of m k = sum_to k (λ i. cond (m i) 1 0)
 
 -- a set without one number
-abbrev without : (ℕ → Bool) → ℕ → ℕ → Bool
+abbrev pub without : (ℕ → Bool) → ℕ → ℕ → Bool
 without m x i = cond (eqb i x) false (m i)
 
-without_count : (m : ℕ → Bool) (k x : ℕ) → x < k → m x ≡ true → suc (count_of (without m x) k) ≡ count_of m k
+pub without_count : (m : ℕ → Bool) (k x : ℕ) → x < k → m x ≡ true → suc (count_of (without m x) k) ≡ count_of m k
 without_count m k x l e =
     let c : count_of (without m x) k + cond (m x) 1 0 ≡ count_of m k + cond (without m x x) 1 0 =
     sum_change k x (λ i. cond (without m x i) 1 0) (λ i. cond (m i) 1 0) l (λ i b ne. ap (λ (t : Bool). cond (cond t false (m i)) 1 0) (ne_eqb i x ne))
@@ -98,11 +32,11 @@ without_count m k x l e =
     let b : ◌≡◌ {A = ℕ} (cond (without m x x) 1 0) 0 = ap {B = ℕ} (λ (t : Bool). cond (cond t false (m x)) 1 0) (eq-eqb x x refl) in
     omega arith
 
-without_other : (m : ℕ → Bool) (x i : ℕ) → i ≢ x → without m x i ≡ m i
-without_other m x i ne = ap (λ (t : Bool). cond t false (m i)) (ne_eqb i x ne)
+pub without_other : (m : ℕ → Bool) (x i : ℕ) → i ≢ x → without m x i ≡ m i
+without_other m x i ne = grind arith
 
 -- numbers of a set that differ are at most as many as the set has
-differ :
+pub differ :
     (k n : ℕ) (f : ℕ → ℕ) (m : ℕ → Bool) →
     ((j : ℕ) → j < n → f j < k) →
     ((j : ℕ) → j < n → m (f j) ≡ true) →
@@ -140,7 +74,7 @@ module _
       go false e = absurd (let z : 0 ≡ suc j = sym (others (item_at h (suc j)) (bytes (suc j)) e) ∙ placed (suc j) l in omega arith)
 
   apart : (a b : ℕ) → a < n → b < n → item_at h a ≡ item_at h b → a ≡ b
-  apart a b x y e = sym (placed a x) ∙ ap (place_of h) e ∙ placed b y
+  apart a b x y e = grind arith
 
   -- where as many are held, each of them has its place
   found : n ≡ count_of m 256 → (i : ℕ) → i < 256 → m i ≡ true → (place_of h i < n) × (item_at h (place_of h i) ≡ i)
@@ -171,37 +105,8 @@ module _
       length items ≡ 256 →
       ((j : ℕ) → n ≤ j → j < 256 → get_or items j 0 ≡ 0) →
       HeapOk m keys h
-  heap_ok few e size unused =
-      record {
-        contains =
-            record {
-              small = few;
-              placed = placed;
-              only = only;
-              low = λ i l t. (found e i l t).0;
-              all = λ i l t. (found e i l t).1;
-              past = λ j l. past j l (dec_lt j 256);
-              none = others;
-            };
-        ordered = record { each = λ j a l. (ok.each j a l).order };
-      }
-    where
-      past : (j : ℕ) → n ≤ j → Dec (j < 256) → item_at h j ≡ 0
-      past j l (yes b) = unused j l b
-      past j l (no b) = get_or-eq_default items 0 (omega arith)
+  heap_ok few e size unused = grind (arith, placed, only, found e, get_or-eq_default items 0)
 
 -- and so the test decides it
 pub heap_spots : (m : ℕ → Bool) (keys items places : List ℕ) (n : ℕ) → HeapOk m keys (heap_of items places n) → SpotsOn m keys items places n
-heap_spots m keys items places n ok =
-    record {
-      root = λ some. record { is_held = ok.contains.only 0 (omega arith); placed = ok.contains.placed 0 (omega arith) };
-      each = λ j a l. record { placed = ok.contains.placed j l; order = ok.ordered.each j a l };
-    }
-
--- ---- the flags, as the code reads them
-
-pub flag_off : (held : List ℕ) (i j : ℕ) → i ≡ j → get_or held i 0 ≡ 0 → flagged held j ≡ false
-flag_off held i j e z = ap (λ (k : ℕ). not (eqb (get_or held k 0) 0)) (sym e) ∙ ap not (eq-eqb (get_or held i 0) 0 z)
-
-pub flag_on : (held : List ℕ) (i j : ℕ) → i ≡ j → get_or held i 0 ≢ 0 → flagged held j ≡ true
-flag_on held i j e z = ap (λ (k : ℕ). not (eqb (get_or held k 0) 0)) (sym e) ∙ ap not (ne_eqb (get_or held i 0) 0 z)
+heap_spots m keys items places n ok = grind arith

@@ -1,17 +1,16 @@
 -- What a caller has of a heap: the root goes before every other item, and an item whose key changes is the only one that may be
 -- out of order. Assumes nothing.
-use mathlib.Core.Path.{◌≡◌, sym, ap, ◌∙◌}
+use mathlib.Core.Path.{◌≡◌}
 use mathlib.Core.Logic.{◌≢◌}
 use mathlib.Core.Bool.{Bool, true}
 use mathlib.Core.List.{List}
-use Prim.Native.Nat.{ℕ, ◌+◌, ◌*◌, ◌≤◌, ◌<◌}
+use Prim.Native.Nat.{ℕ, ◌≤◌, ◌<◌}
 use native.Mathlib.Omega.{arith}
 use lib.ListN.{get_or, set}
 use lib.Seq.{get_or-set_other}
-use Rattle.heap.specs.Heap.{Heap}
-use Rattle.heap.specs.Heap.{item_at, place_of, weight, weight_at, above, Ordered, Contains}
+use Rattle.heap.specs.Heap.{Heap, item_at, place_of, weight, weight_at, Ordered, Contains}
 use Rattle.heap.specs.InnerMoves.{Unsettled}
-use Rattle.heap.proofs.Orders.{root_least, changed}
+use Rattle.heap.proofs.Orders.{root_least}
 
 module _ (keys : List ℕ) (m : ℕ → Bool) (h : Heap) (c : Contains m h) (ok : Ordered (weight_at keys h) h.size) where
   -- no item of the set goes before the root
@@ -30,18 +29,11 @@ module _ (keys : List ℕ) (m : ℕ → Bool) (h : Heap) (c : Contains m h) (ok 
 
   -- a set that is not empty has a heap that is not empty, and its root is in the set
   pub root_member : (i : ℕ) → i < 256 → m i ≡ true → m (item_at h 0) ≡ true
-  root_member i l e = c.only 0 (omega (arith, c.low i l e))
+  root_member i l e = grind arith
 
   -- the key of one item of the set changes
   pub rekeyed : (other : List ℕ) (i : ℕ) → i < 256 → m i ≡ true → ((j : ℕ) → j ≢ i → get_or other j 0 ≡ get_or keys j 0) → Unsettled other h (place_of h i)
-  rekeyed other i l e rest =
-      record {
-        here = c.low i l e;
-        small = c.small;
-        but =
-            changed (weight_at keys h) (weight_at other h) h.size (place_of h i) ok
-            (λ j b n. ap (λ (z : ℕ). z * 256 + item_at h j) (rest (item_at h j) (λ q. n (sym (c.placed j b) ∙ ap (place_of h) q))));
-      }
+  rekeyed other i l e rest = grind arith
 
   pub rekeyed_set : (i key : ℕ) → i < 256 → m i ≡ true → Unsettled (set keys i key) h (place_of h i)
   rekeyed_set i key l e = rekeyed (set keys i key) i l e (λ j ne. get_or-set_other keys i j key 0 ne)
@@ -53,26 +45,4 @@ pub other_key :
     ((j : ℕ) → m j ≡ true → get_or other j 0 ≡ get_or keys j 0) →
     Ordered (weight_at keys h) h.size →
     Ordered (weight_at other h) h.size
-other_key keys other m h c same ok =
-    record {
-      each =
-          λ j a b.
-          rw (
-            ap (λ (z : ℕ). z * 256 + item_at h j) (same (item_at h j) (c.only j b)),
-            ap (λ (z : ℕ). z * 256 + item_at h (above j)) (same (item_at h (above j)) (c.only (above j) (omega arith))),
-          )
-          (ok.each j a b);
-    }
-
--- two descriptions of one set
-pub same_set : (m s : ℕ → Bool) (h : Heap) → ((i : ℕ) → s i ≡ m i) → Contains m h → Contains s h
-same_set m s h e c =
-    record {
-      small = c.small;
-      placed = c.placed;
-      only = λ j l. e (item_at h j) ∙ c.only j l;
-      low = λ i l t. c.low i l (sym (e i) ∙ t);
-      all = λ i l t. c.all i l (sym (e i) ∙ t);
-      past = c.past;
-      none = λ i l t. c.none i l (sym (e i) ∙ t);
-    }
+other_key keys other m h c same ok = grind arith

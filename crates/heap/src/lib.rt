@@ -2,6 +2,9 @@
 // stands the place of each item, so that an item whose key changes is found without a search.
 //
 // The bytes are 2,560: the key of each item, 8 bytes each; the items by their places; the place of each item. No function stores a key.
+//
+// Kept by hand: the bytes and the count of places in use are two parameters. A struct of both would hold the loan, and each function would
+// have to promise that it still holds the same one.
 #![tactic(auto)]
 
 ghost use Rattle.std.specs.Prelude.{◌+◌, ◌*◌, ◌-◌, ◌<◌, ◌≤◌, ◌≡◌, ltb, length, get_or};
@@ -40,14 +43,15 @@ pub fn key(s: &[u8], i: usize) -> u64
 }
 
 // Whether one item goes before another: by its key, then by its number.
-fn before(key: u64, item: usize, otherkey: u64, other: usize) -> bool
+// Kept by hand: as an order of pairs, `(key, item) < (other_key, other)`, a step of 256 items takes 3 of 100 instructions more.
+fn before(key: u64, item: usize, other_key: u64, other: usize) -> bool
     requires { (item < 256) × (other < 256) }
-    ensures { result ≡ ltb (key * 256 + item) (otherkey * 256 + other) }
+    ensures { result ≡ ltb (key * 256 + item) (other_key * 256 + other) }
 {
-    if key < otherkey {
+    if key < other_key {
         return true;
     }
-    if otherkey < key {
+    if other_key < key {
         return false;
     }
     item < other
@@ -81,10 +85,7 @@ fn rises(s: &[u8], at: usize) -> bool
     requires { (length s.now ≡ part_bytes) × (at < 256) }
     ensures { Rises (weight_of (keys_in s.now) (items_in s.now)) at result }
 {
-    if at == 0 {
-        return false;
-    }
-    goes(s, at, (at - 1) / 2)
+    at != 0 && goes(s, at, (at - 1) / 2)
 }
 
 // Of the places `i` and `j`, the one whose item goes first; `i` where the heap ends before `j`.
@@ -92,13 +93,7 @@ fn lower(s: &[u8], n: usize, i: usize, j: usize) -> usize
     requires { (length s.now ≡ part_bytes) × (i < n) × (n ≤ 256) }
     ensures { Lower (weight_of (keys_in s.now) (items_in s.now)) n i j result }
 {
-    if j >= n {
-        return i;
-    }
-    if goes(s, j, i) {
-        return j;
-    }
-    i
+    if j < n && goes(s, j, i) { j } else { i }
 }
 
 // The place among `at` and the two below it whose item goes first.
@@ -198,10 +193,7 @@ fn root_ok(s: &[u8], held: &[u8]) -> bool
     ensures { Decided (RootOk (flagged held.now) s.now) result }
 {
     let i = item(s, 0);
-    if held[i] == 0 {
-        return false;
-    }
-    place(s, i) == 0
+    held[i] != 0 && place(s, i) == 0
 }
 
 // Whether place `j` below the root is: it has an item whose place it is, and which does not go before the one above.
@@ -209,11 +201,7 @@ fn spot_ok(s: &[u8], j: usize) -> bool
     requires { Spot s.now j }
     ensures { Decided (SpotOk s.now j) result }
 {
-    let i = item(s, j);
-    if place(s, i) != j {
-        return false;
-    }
-    !goes(s, j, (j - 1) / 2)
+    place(s, item(s, j)) == j && !goes(s, j, (j - 1) / 2)
 }
 
 // Whether all `n` places are: the heap's part in what a valid state is, in one pass over the held items. Where so many are held, and what
@@ -229,12 +217,10 @@ pub fn spots_ok(s: &[u8], held: &[u8], n: usize) -> bool
     if !root_ok(s, held) {
         return false;
     }
-    let mut j = 1;
-    while j < n {
+    for j in 1..n {
         if !spot_ok(s, j) {
             return false;
         }
-        j += 1;
     }
     true
 }

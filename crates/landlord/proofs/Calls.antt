@@ -5,7 +5,6 @@ use mathlib.Core.Bool.{Bool, true, false, cond}
 use mathlib.Core.List.{List, [], ◌∷◌, ◌++◌, append-nil, map}
 use Prim.Native.Nat.{ℕ, zero, suc, ◌≤◌, ◌<◌}
 use native.Mathlib.Omega.{arith}
-use native.Mathlib.Decide.{ℕ_discrete}
 use lib.ListN.{length, get_or, drop, length-append, get_or-append}
 use lib.Seq.{get_or-append_seam, append_snoc, split_at}
 use lib.Dec.{eqb}
@@ -21,23 +20,20 @@ use Rattle.landlord.specs.Figures.{Standing, Start, opened, took, ran, season}
 use Rattle.landlord.specs.Steps.{step_refusal}
 use Rattle.landlord.specs.Calls.{Call, step_call, close, Log, no_log, call_of, refusal_at, refusal_in, refusal, refusal_now, logged, joins, log_of, rule_over, accepted, after}
 use Rattle.landlord.specs.Claims.{SplitOk, AllowedLog}
-use Rattle.landlord.proofs.Folds.{either, fold_append, fold_more}
+use Rattle.landlord.proofs.Folds.{fold_append, fold_more}
 use Rattle.landlord.proofs.Steps.{means}
 use Rattle.landlord.proofs.Logs.{StandsAfter, all_served, ran_stands, closes_stands}
+use Rattle.std.proofs.lemmas.Grind.{common_steps}
 
 -- an open log: a refused step on a closed one is refused with 9
 pub open_log : (k : ℕ) (cat : Catalog) (t : ℕ) (c : Bool) (call : Call) → refusal_at k cat t c call ≡ 0 → c ≡ false
 unfolding refusal_at
-open_log k cat t true (step_call n) e = absurd (omega arith)
-open_log k cat t false (step_call n) e = refl
-open_log k cat t true close e = absurd (omega arith)
-open_log k cat t false close e = refl
+open_log k cat t c call h = grind arith
 
 -- and what the table says to a step then
 pub open_step : (k : ℕ) (cat : Catalog) (t : ℕ) (c : Bool) (n : Numbers) → refusal_at k cat t c (step_call n) ≡ 0 → step_refusal k cat t n ≡ 0
 unfolding refusal_at
-open_step k cat t true n e = absurd (omega arith)
-open_step k cat t false n e = e
+open_step k cat t c n e = grind arith
 
 -- the first i of two lists joined, where the first list has so many
 take-front {ℓ} : {A : Type ℓ} (xs ys : List A) (i : ℕ) → i ≤ length xs → lib.ListN.take i (xs ++ ys) ≡ lib.ListN.take i xs
@@ -56,23 +52,12 @@ allowed_more :
     AllowedLog k cat steps →
     step_refusal k (catalog_after cat steps) (length steps) (numbers_of s) ≡ 0 →
     AllowedLog k cat (steps ++ (s ∷ []))
-allowed_more k cat steps s a e = record { each = λ i l. at i l (ℕ_discrete i (length steps)) }
-  where
-    at :
-        (i : ℕ) →
-        i < length (steps ++ (s ∷ [])) →
-        Dec (i ≡ length steps) →
-        step_refusal k (catalog_after cat (lib.ListN.take i (steps ++ (s ∷ [])))) i (numbers_of (get_or (steps ++ (s ∷ [])) i Flush)) ≡ 0
-    at i l (yes q) = rw (q, get_or-append_seam steps s [] Flush, take-front steps (s ∷ []) (length steps) (omega arith), take_all steps) e
-    at i l (no q) =
-        let b : i < length steps = omega (arith, length-append steps (s ∷ [])) in
-        rw (get_or-append steps (s ∷ []) Flush i b, take-front steps (s ∷ []) i (omega arith)) (a.each i b)
+allowed_more k cat steps s a e = grind (arith, common_steps)
 
 -- a call that is refused leaves the log, and one that is not joins it
 pub joins_either : (k : ℕ) (cat : Catalog) (l : Log) (call : Call) (P : Log → Type 0) → (refusal_in k cat l call ≡ 0 → P (logged l call)) → P l → P (joins k cat l call)
 unfolding joins
-joins_either k cat l call P taken kept =
-    either P (eqb (refusal_in k cat l call) 0) (logged l call) l (λ e. taken (eqb-true (refusal_in k cat l call) 0 e)) (λ e. kept)
+joins_either k cat l call P taken kept = grind arith
 
 pub logged_allowed : (k : ℕ) (cat : Catalog) (l : Log) (call : Call) → AllowedLog k cat l.steps → refusal_in k cat l call ≡ 0 → AllowedLog k cat (logged l call).steps
 logged_allowed k cat l (step_call n) a e =

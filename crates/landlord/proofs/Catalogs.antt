@@ -1,12 +1,11 @@
 -- Laws of a catalog that grows and marks what has left (specs/Catalog.antt): how long it is after a step, what its items are, how many
 -- have left, and that it stays in range. Assumes nothing.
-use mathlib.Core.Path.{◌≡◌, refl, sym, ap, ◌∙◌}
+use mathlib.Core.Path.{◌≡◌, refl, ap, ◌∙◌}
 use mathlib.Core.Logic.{◌≢◌}
 use mathlib.Core.Bool.{Bool, true, false, cond}
 use mathlib.Core.List.{List, [], ◌∷◌, ◌++◌}
 use Prim.Native.Nat.{ℕ, zero, suc, ◌+◌, ◌≤◌, ◌<◌}
 use native.Mathlib.Omega.{arith}
-use native.Mathlib.Decide.{ℕ_discrete}
 use lib.ListN.{length, get_or, length-append, length-set, get_or-append}
 use lib.Seq.{get_or-append_seam, get_or-set_same, get_or-set_other}
 use Rattle.types.specs.declared.Step.{Step}
@@ -18,6 +17,7 @@ use Rattle.landlord.specs.Valid.{left_count}
 use Rattle.landlord.proofs.Sums.{sum_zero, sum_eq, sum_change}
 use Rattle.landlord.proofs.Folds.{fold_append}
 use Rattle.landlord.proofs.Ranges.{catalog_facts, catalog_ok, none_left_at}
+use Rattle.std.proofs.lemmas.Grind.{common_steps}
 
 -- ## A list with one element more
 
@@ -33,11 +33,7 @@ one_longer xs x = omega (arith, length-append xs (x ∷ []))
 
 -- a number below the length of a list with one element more: in the list, or the new one
 pub below_more : (n i : ℕ) (P : Type 0) → i < suc n → (i < n → P) → (i ≡ n → P) → P
-below_more n i P l before last = go (ℕ_discrete i n)
-  where
-    go : Dec (i ≡ n) → P
-    go (yes e) = last e
-    go (no e) = before (omega arith)
+below_more n i P l before last = grind arith
 
 -- ## An arrival
 
@@ -72,31 +68,10 @@ pub alike : (x y : Item) → x ≡ y → Alike x y
 alike x y e = record { blocks = ap (λ (z : Item). z.blocks) e; load = ap (λ (z : Item). z.load) e; write = ap (λ (z : Item). z.write) e }
 
 pub facts_alike : (x y : Item) → Alike x y → ItemFacts y → ItemFacts x
-facts_alike x y a ok =
-    record {
-      some = omega (arith, a.blocks, ok.some);
-      small = omega (arith, a.blocks, ok.small);
-      load = omega (arith, a.load, ok.load);
-      write = omega (arith, a.write, ok.write);
-    }
+facts_alike x y a ok = grind arith
 
 pub retired_alike : (cat : Catalog) (i j : ℕ) → i < length cat → Alike (item_at (catalog_next cat (Retire i)) j) (item_at cat j)
-retired_alike cat i j l = go (ℕ_discrete j i)
-  where
-    new : Catalog
-    new = catalog_next cat (Retire i)
-
-    here : item_at new i ≡ departed (item_at cat i)
-    here = retired_here cat i l
-
-    go : Dec (j ≡ i) → Alike (item_at new j) (item_at cat j)
-    go (yes e) =
-        record {
-          blocks = ap (λ (z : ℕ). (item_at new z).blocks) e ∙ ap (λ (z : Item). z.blocks) here ∙ ap (λ (z : ℕ). (item_at cat z).blocks) (sym e);
-          load = ap (λ (z : ℕ). (item_at new z).load) e ∙ ap (λ (z : Item). z.load) here ∙ ap (λ (z : ℕ). (item_at cat z).load) (sym e);
-          write = ap (λ (z : ℕ). (item_at new z).write) e ∙ ap (λ (z : Item). z.write) here ∙ ap (λ (z : ℕ). (item_at cat z).write) (sym e);
-        }
-    go (no e) = alike (item_at new j) (item_at cat j) (retired_other cat i j e)
+retired_alike cat i j l = grind (arith, common_steps)
 
 -- ## The catalog stays in range
 
@@ -132,11 +107,7 @@ is_arrival (Arrive i b l w) = 1
 is_arrival (Retire i) = 0
 
 pub next_length : (cat : Catalog) (s : Step) → length (catalog_next cat s) ≡ length cat + is_arrival s
-next_length cat (Read i) = omega arith
-next_length cat (Write i minutes) = omega arith
-next_length cat Flush = omega arith
-next_length cat (Arrive i b l w) = omega (arith, one_longer cat (listed b l w))
-next_length cat (Retire i) = omega (arith, retired_length cat i)
+next_length cat s = grind (arith, common_steps)
 
 -- ## The items after a step, and after steps
 
@@ -150,43 +121,10 @@ pub keeps_same : (cat : Catalog) → KeepsItems cat cat
 keeps_same cat = record { longer = omega arith; each = λ i l. alike (item_at cat i) (item_at cat i) refl; left = λ i l e. e }
 
 pub next_keeps : (cat : Catalog) (s : Step) → KeepsItems cat (catalog_next cat s)
-next_keeps cat (Read i) = keeps_same cat
-next_keeps cat (Write i minutes) = keeps_same cat
-next_keeps cat Flush = keeps_same cat
-next_keeps cat (Arrive i b l w) =
-    record {
-      longer = omega (arith, one_longer cat (listed b l w));
-      each = λ j q. alike (item_at (cat ++ (listed b l w ∷ [])) j) (item_at cat j) (arrived_other cat (listed b l w) j q);
-      left = λ j q e. ap (λ (x : Item). x.left) (arrived_other cat (listed b l w) j q) ∙ e;
-    }
-next_keeps cat (Retire i) =
-    record {
-      longer = omega (arith, retired_length cat i);
-      each = λ j q. same j q (ℕ_discrete j i);
-      left = λ j q e. gone j q e (ℕ_discrete j i);
-    }
-  where
-    next : Catalog
-    next = catalog_next cat (Retire i)
-
-    same : (j : ℕ) → j < length cat → Dec (j ≡ i) → Alike (item_at next j) (item_at cat j)
-    same j q (yes e) = retired_alike cat i j (omega arith)
-    same j q (no e) = alike (item_at next j) (item_at cat j) (retired_other cat i j e)
-
-    gone : (j : ℕ) → j < length cat → (item_at cat j).left ≡ true → Dec (j ≡ i) → (item_at next j).left ≡ true
-    gone j q e (yes f) = ap (λ (z : ℕ). (item_at next z).left) f ∙ ap (λ (x : Item). x.left) (retired_here cat i (omega arith))
-    gone j q e (no f) = ap (λ (x : Item). x.left) (retired_other cat i j f) ∙ e
+next_keeps cat s = grind (arith, common_steps)
 
 pub keeps_on : (a b c : Catalog) → KeepsItems a b → KeepsItems b c → KeepsItems a c
-keeps_on a b c f g =
-    record {
-      longer = omega (arith, f.longer, g.longer);
-      each = λ i l. let m : i < length b = omega (arith, f.longer) in alike_on (g.each i m) (f.each i l);
-      left = λ i l e. g.left i (omega (arith, f.longer)) (f.left i l e);
-    }
-  where
-    alike_on : {x y z : Item} → Alike x y → Alike y z → Alike x z
-    alike_on u v = record { blocks = u.blocks ∙ v.blocks; load = u.load ∙ v.load; write = u.write ∙ v.write }
+keeps_on a b c f g = grind arith
 
 pub after_keeps : (cat : Catalog) (steps : List Step) → KeepsItems cat (catalog_after cat steps)
 unfolding fold

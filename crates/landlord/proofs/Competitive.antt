@@ -43,9 +43,7 @@ abbrev position : ℕ → ℕ → State → List Copy → Position
 position a b x q = record { paid = a; plan_paid = b; items = λ i. joint (slot_at x i) (copy_at q i) }
 
 copy_clean : (c : Copy) → is_changed (cleaned c) ≡ false
-copy_clean no_copy = refl
-copy_clean clean_copy = refl
-copy_clean dirty_copy = refl
+copy_clean c = grind arith
 
 -- what an event costs the cache
 abbrev cost_added : Catalog → Event → ℕ

@@ -4,7 +4,6 @@ use mathlib.Core.Path.{◌≡◌, refl, ap, ◌∙◌}
 use mathlib.Core.Bool.{Bool, true, false, cond}
 use mathlib.Core.List.{[], ◌∷◌}
 use Prim.Native.Nat.{ℕ, zero, suc, ◌+◌, ◌*◌, ◌≤◌, ◌<◌}
-use native.Mathlib.Nat.{add-zero}
 use native.Mathlib.Numerals.{add-one}
 use native.Mathlib.Omega.{arith}
 use native.Mathlib.Decide.{ℕ_discrete}
@@ -33,15 +32,7 @@ Names n (retired i) = i < n
 
 -- such an event adds no line
 lines_same : (cat : Catalog) (e : Event) → Names (length cat) e → lines_after cat e ≡ length cat
-lines_same cat (hit i) l = add-zero (length cat)
-lines_same cat (loaded i) l = add-zero (length cat)
-lines_same cat (evicted i false) l = add-zero (length cat)
-lines_same cat (evicted i true) l = add-zero (length cat)
-lines_same cat (wrote_back i) l = add-zero (length cat)
-lines_same cat (wrote i m) l = add-zero (length cat)
-lines_same cat flush_step l = add-zero (length cat)
-lines_same cat (arrived i) l = absurd l
-lines_same cat (retired i) l = add-zero (length cat)
+lines_same cat e h = grind arith
 
 -- a sum with a term at one number only
 sum_one : (n v w : ℕ) → v < n → sum_to n (λ i. cond (eqb i v) w 0) ≡ w

@@ -16,8 +16,7 @@ use Rattle.landlord.specs.Fold.{tab, tab_from, best_to, fold}
 
 -- what holds of both branches of a test, of each where the test comes out so, holds of the choice
 pub either : {A : Type 0} (P : A → Type 0) (t : Bool) (x y : A) → (t ≡ true → P x) → (t ≡ false → P y) → P (cond t x y)
-either P true x y f g = f refl
-either P false x y f g = g refl
+either P t x y f g = grind arith
 
 module _ {ℓ} {A : Type ℓ} where
   tab_from_length : (n : ℕ) (f : ℕ → A) (i : ℕ) → length (tab_from n f i) ≡ n

@@ -16,7 +16,7 @@ use Rattle.types.proofs.Steps.{same_step}
 use Rattle.landlord.specs.Fold.{fold, sum_to}
 use Rattle.landlord.specs.Catalog.{Catalog, CatalogOk, item_at, listed, item_in_range, catalog_next, catalog_after}
 use Rattle.landlord.specs.Slot.{Split, held, is_dirty}
-use Rattle.landlord.specs.Rule.{State, Event, hit, loaded, evicted, wrote_back, wrote, retired, Moved, drop_item, evict, victim, make_room, found, slot_at, write_backs, flush, step, size, blocks_at}
+use Rattle.landlord.specs.Rule.{State, Event, evicted, wrote_back, wrote, retired, Moved, drop_item, evict, victim, make_room, found, slot_at, write_backs, flush, step, size, blocks_at}
 use Rattle.landlord.specs.Figures.{Totals, Figures, Standing, Start, totals_of, plus_totals, adds, tally, opened, took, closes, ran}
 use Rattle.landlord.specs.Steps.{in_range, item_refusal, step_refusal}
 use Rattle.landlord.specs.Claims.{SplitOk, Kept, AllowedLog}
@@ -31,18 +31,14 @@ known :
     (k : ℕ) (cat : Catalog) (i : ℕ) →
     (ltb i (length cat) ≡ true) × ((item_at cat i).left ≡ false) × (leb (item_at cat i).blocks k ≡ true) →
     (i < length cat) × ((item_at cat i).blocks ≤ k) × ((item_at cat i).left ≡ false)
-known k cat i f = (ltb-true i (length cat) f.0, leb-true (item_at cat i).blocks k f.2, f.1)
+known k cat i f = grind arith
 
 -- the tests of an item that an answer of 0 has passed
 clear : (c g d : Bool) → ◌≡◌ {A = ℕ} (cond c (cond g 20 (cond d 0 7)) 6) 0 → (c ≡ true) × (g ≡ false) × (d ≡ true)
-clear true true d e = absurd (omega arith)
-clear true false true e = (refl, refl, refl)
-clear true false false e = absurd (omega arith)
-clear false g d e = absurd (omega arith)
+clear c g d e = grind arith
 
 clear_arrival : (c : Bool) → ◌≡◌ {A = ℕ} (cond c 0 19) 0 → c ≡ true
-clear_arrival true e = refl
-clear_arrival false e = absurd (omega arith)
+clear_arrival c e = grind arith
 
 pub allowed_served : (k : ℕ) (cat : Catalog) (t : ℕ) (s : Step) → step_refusal k cat t (numbers_of s) ≡ 0 → Served k cat s
 allowed_served k cat t s e =
@@ -183,15 +179,10 @@ abbrev pub steps_added : Catalog → Event → ℕ
 steps_added cat e = (adds cat e).steps
 
 pub no_step : (cat : Catalog) (i : ℕ) (d : Bool) → steps_added cat (evicted i d) ≡ 0
-no_step cat i true = refl
-no_step cat i false = refl
+no_step cat i d = grind arith
 
 found_step : (cat : Catalog) (x : State) (i : ℕ) → steps_added cat (found x i) ≡ 1
-found_step cat x i = go (held (slot_at x i))
-  where
-    go : (t : Bool) → steps_added cat (cond t (hit i) (loaded i)) ≡ 1
-    go true = refl
-    go false = refl
+found_step cat x i = grind arith
 
 -- a step counts as one step, and a flush by itself as none
 flush_steps : (cat : Catalog) (x : State) → event_sum (steps_added cat) (flush x).events ≡ 0

@@ -2,11 +2,11 @@
 -- is evicted and however a loss is split between an item's credits. From it follows what the cache pays at most.
 -- Assumes nothing.
 use mathlib.Core.Bool.{true, false}
-use mathlib.Core.Path.{◌≡◌, sym, subst}
+use mathlib.Core.Path.{◌≡◌}
 use mathlib.Core.Logic.{◌≢◌}
 use Prim.Native.Nat.{ℕ, suc, ◌+◌, ◌*◌, ◌-◌, ◌≤◌, ◌<◌}
 use native.Mathlib.Nat.{le_of_mul-le-mul_left, mul-le-mul_left}
-use native.Mathlib.Decide.{ℕ_discrete, dec_lt}
+use native.Mathlib.Decide.{dec_lt}
 use native.Mathlib.Omega.{arith}
 use Rattle.landlord.specs.Fold.{sum_to}
 use Rattle.landlord.proofs.Sums.{sum_le, sum_add, sum_plus, sum_zero, sum_but_with, sum_longer}
@@ -159,11 +159,7 @@ carried {T} {s} {t} w h v =
 
 -- what holds of every number below n, shown for i and for the others
 at_each : (n i : ℕ) (P : ℕ → Type 0) → P i → ((j : ℕ) → j < n → j ≢ i → P j) → (j : ℕ) → j < n → P j
-at_each n i P here others j l = go (ℕ_discrete j i)
-  where
-    go : Dec (j ≡ i) → P j
-    go (yes e) = subst P (sym e) here
-    go (no e) = others j l e
+at_each n i P here others j l = grind arith
 
 -- an allowed change of one item
 one :

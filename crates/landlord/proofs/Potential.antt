@@ -2,7 +2,7 @@
 -- The potential itself, a sum over all items, stands in Moves.
 -- Assumes nothing.
 use mathlib.Core.Bool.{Bool, true, false, cond}
-use mathlib.Core.Path.{◌≡◌, refl, sym, subst}
+use mathlib.Core.Path.{◌≡◌}
 use Prim.Native.Nat.{ℕ, zero, suc, ◌+◌, ◌*◌, ◌≤◌, ◌<◌}
 use native.Mathlib.Nat.{mul-le-mul_left}
 use native.Mathlib.Omega.{arith}
@@ -119,22 +119,16 @@ was_flushed x = both x.held false x.plan_held false x.load 0
 
 -- What `pick` keeps of an inequality.
 pick_most : (t : Bool) (x : ℕ) → pick t x ≤ x
-pick_most true x = omega arith
-pick_most false x = omega arith
+pick_most t x = grind arith
 
 pick_le : (t : Bool) (x y : ℕ) → x ≤ y → pick t x ≤ pick t y
-pick_le true x y h = h
-pick_le false x y h = omega arith
+pick_le t x y h = grind arith
 
 pick_within : (t u : Bool) (x : ℕ) → pick t 1 ≤ pick u 1 → pick t x ≤ pick u x
-pick_within true true x h = omega arith
-pick_within true false x h = omega arith
-pick_within false u x h = omega arith
+pick_within t u x h = grind arith
 
 pick_cost : (t u : Bool) (x y k : ℕ) → x ≤ pick u y * k → pick t x ≤ pick t y * k
-pick_cost true true x y k h = omega arith
-pick_cost true false x y k h = omega arith
-pick_cost false u x y k h = omega arith
+pick_cost t u x y k h = grind arith
 
 -- to show something of an item, take the marks of the two holdings as known
 known :
@@ -143,10 +137,7 @@ known :
     → x.plan_held ≡ r
     → P (both h x.dirty r x.plan_dirty x.load x.write)
     → P x
-known P x h r e f y = subst P (sym same) y
-  where
-    same : x ≡ both h x.dirty r x.plan_dirty x.load x.write
-    same = λ i. both (e i) x.dirty (f i) x.plan_dirty x.load x.write
+known P x h r e f y = grind arith
 
 -- Each move of one item is allowed.
 module _ {T : Terms} {i : ℕ} {x : Both} (o : Fine T i x) where
@@ -176,13 +167,7 @@ pub plan_fetches_lem :
     → Fine T i x
     → x.plan_held ≡ false
     → Covered T i x (plan_fetched x) 0 (T.load_cost i)
-plan_fetches_lem {T} {i} {x} o e = known P x x.held false refl e shown o
-  where
-    P : Both → Type 0
-    P z = Fine T i z → Covered T i z (plan_fetched z) 0 (T.load_cost i)
-
-    shown : P (both x.held x.dirty false x.plan_dirty x.load x.write)
-    shown f = omega (arith, mul-le-mul_left (cache_blocks T) (pick_within x.plan_dirty false x.write f.plan_dirty_held))
+plan_fetches_lem h k = grind arith
 
 pub keeps_loads :
     {T : Terms} {i : ℕ} {x : Both}
@@ -255,16 +240,7 @@ pub keeps_takes :
     → b ≤ x.write
     → x.load + x.write ≡ (a + b) + m * held_blocks T i x
     → Charged T i m x (with_credits x a b)
-keeps_takes a b u v e =
-    record {
-      held_kept = refl;
-      dirty_kept = refl;
-      plan_held_kept = refl;
-      plan_dirty_kept = refl;
-      load_less = u;
-      write_less = v;
-      loss = e;
-    }
+keeps_takes a b u v e = grind arith
 
 pub shared_least : (T : Terms) (i : ℕ) (x : Both) → shared_blocks T i x ≤ plan_blocks T i x
 shared_least T i x = pick_le x.plan_held (held_blocks T i x) (T.blocks i) (pick_most x.held (T.blocks i))
@@ -277,10 +253,7 @@ loss_seen :
     → b' ≤ b
     → a + b ≡ (a' + b') + m * s
     → pick r a + pick q b ≤ pick r a' + pick q b' + m * pick r s
-loss_seen true true a b a' b' m s w u v e = omega arith
-loss_seen true false a b a' b' m s w u v e = omega arith
-loss_seen false true a b a' b' m s w u v e = omega arith
-loss_seen false false a b a' b' m s w u v e = omega arith
+loss_seen r q a b a' b' m s w u v e = grind arith
 
 module _ {T : Terms} {i m : ℕ} {x y : Both} (o : Fine T i x) (h : Charged T i m x y) where
   kept : y ≡ with_credits x y.load y.write

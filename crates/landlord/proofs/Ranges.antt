@@ -1,29 +1,27 @@
 -- The ranges of the table, read off as inequalities and put together again. Assumes nothing.
 use mathlib.Core.Path.{◌≡◌, refl, ap}
 use mathlib.Core.Logic.{◌≢◌}
-use mathlib.Core.Bool.{Bool, true, false, not, cond, ◌&&◌, false≢true}
+use mathlib.Core.Bool.{Bool, true, false, not, cond, ◌&&◌}
 use mathlib.Core.List.{[], ◌∷◌}
 use Prim.Native.Nat.{ℕ, zero, suc, ◌≤◌, ◌<◌}
 use native.Mathlib.Omega.{arith}
 use lib.ListN.{length}
-use lib.Dec.{leb, eqb}
-use borrow.Author.Tests.{leb-true, ne_eqb, le-leb, lt-leb}
+use lib.Dec.{leb}
+use borrow.Author.Tests.{not-true, leb-true, le-leb}
 use Rattle.types.specs.declared.Numbers.{Numbers}
 use Rattle.types.specs.Types.{is_deduction}
 use Rattle.landlord.specs.Fold.{tab}
-use Rattle.landlord.specs.Catalog.{Catalog, Item, item_at, no_item, listed, blocks_in_range, cost_in_range, item_in_range, all_in_range, catalog_in_range, none_left, capacity_in_range, CatalogOk, CapacityOk}
+use Rattle.landlord.specs.Catalog.{Catalog, Item, item_at, no_item, listed, blocks_in_range, item_in_range, all_in_range, catalog_in_range, none_left, capacity_in_range, CatalogOk, CapacityOk}
 use Rattle.landlord.specs.Steps.{in_range}
 use Rattle.landlord.specs.Calls.{Opening, opening_refusal}
 use Rattle.landlord.specs.Inner.{ItemFacts, CatalogFacts, CapacityFacts, OpeningRanges, OpeningOk}
 use Rattle.landlord.proofs.Folds.{tab_length, tab_at}
 
 pub and_left : (a b : Bool) → a && b ≡ true → a ≡ true
-and_left true b e = refl
-and_left false b e = absurd (false≢true e)
+and_left a b e = grind arith
 
 pub and_right : (a b : Bool) → a && b ≡ true → b ≡ true
-and_right true b e = e
-and_right false b e = absurd (false≢true e)
+and_right a b e = grind arith
 
 -- ## Blocks and costs
 
@@ -36,15 +34,7 @@ blocks_ok b low high = rw (le-leb 1 b low, le-leb b 16 high)
 -- ## An item
 
 pub item_facts : (x : Item) → item_in_range x ≡ true → ItemFacts x
-item_facts x e =
-    let first = and_left (blocks_in_range x.blocks && cost_in_range x.load) (cost_in_range x.write) e in
-    let blocks = blocks_facts x.blocks (and_left (blocks_in_range x.blocks) (cost_in_range x.load) first) in
-    record {
-      some = blocks.0;
-      small = blocks.1;
-      load = leb-true x.load 65535 (and_right (blocks_in_range x.blocks) (cost_in_range x.load) first);
-      write = leb-true x.write 65535 (and_right (blocks_in_range x.blocks && cost_in_range x.load) (cost_in_range x.write) e);
-    }
+item_facts x e = grind arith
 
 pub item_ok : (x : Item) → ItemFacts x → item_in_range x ≡ true
 item_ok x f = rw (blocks_ok x.blocks f.some f.small, le-leb x.load 65535 f.load, le-leb x.write 65535 f.write)
@@ -76,16 +66,12 @@ catalog_ok cat f = rw (le-leb (length cat) 256 f.few, all_ok cat f.each)
 
 -- ## A catalog of which no item has left
 
-not_true : (t : Bool) → not t ≡ true → t ≡ false
-not_true true e = absurd (false≢true e)
-not_true false e = refl
-
 -- none has left, and nothing past the end has
 pub none_left_at : (cat : Catalog) → none_left cat ≡ true → (i : ℕ) → (item_at cat i).left ≡ false
 unfolding none_left
 none_left_at [] e zero = refl
 none_left_at [] e (suc i) = refl
-none_left_at (x ∷ items) e zero = not_true x.left (and_left (not x.left) (none_left items) e)
+none_left_at (x ∷ items) e zero = not-true x.left (and_left (not x.left) (none_left items) e)
 none_left_at (x ∷ items) e (suc i) = none_left_at items (and_right (not x.left) (none_left items) e) i
 
 pub none_left_ok : (cat : Catalog) → ((i : ℕ) → i < length cat → (item_at cat i).left ≡ false) → none_left cat ≡ true
@@ -103,8 +89,7 @@ listed_none_left n blocks load write = none_left_ok (tab n item) (λ i l. ap (λ
 -- ## A capacity
 
 pub capacity_facts : (k : ℕ) → CapacityOk k → CapacityFacts k
-capacity_facts k ok =
-    record { low = leb-true 1 k (and_left (leb 1 k) (leb k 4096) ok); high = leb-true k 4096 (and_right (leb 1 k) (leb k 4096) ok) }
+capacity_facts k ok = grind arith
 
 pub capacity_ok : (k : ℕ) → CapacityFacts k → CapacityOk k
 capacity_ok k f = rw (le-leb 1 k f.low, le-leb k 4096 f.high)
@@ -116,26 +101,14 @@ abbrev opening_in_range : Opening Catalog → Bool
 opening_in_range o = capacity_in_range o.k && catalog_in_range o.catalog && none_left o.catalog
 
 opening_ranges : (o : Opening Catalog) → opening_in_range o ≡ true → OpeningRanges o
-opening_ranges o e =
-    let parts = go (capacity_in_range o.k) (catalog_in_range o.catalog) (none_left o.catalog) e in
-    record { capacity = parts.0; catalog = parts.1; fresh = parts.2 }
-  where
-    go : (a b c : Bool) → a && b && c ≡ true → (a ≡ true) × (b ≡ true) × (c ≡ true)
-    go true true true e = (refl, refl, refl)
-    go true true false e = absurd (false≢true e)
-    go true false c e = absurd (false≢true e)
-    go false b c e = absurd (false≢true e)
+opening_ranges o e = grind arith
 
 none_refused : (s t : Bool) → ◌≡◌ {A = ℕ} (cond s (cond t 0 18) 3) 0 → (s ≡ true) × (t ≡ true)
-none_refused true true e = (refl, refl)
-none_refused true false e = absurd (omega arith)
-none_refused false t e = absurd (omega arith)
+none_refused s t e = grind arith
 
 pub opening_taken : (o : Opening Catalog) → opening_refusal o ≡ 0 → OpeningOk o
 unfolding opening_refusal
-opening_taken o e =
-    let all = none_refused (opening_in_range o) (is_deduction o.rule) e in
-    record { ranges = opening_ranges o all.0; rule = all.1 }
+opening_taken o e = grind arith
 
 pub opening_accepts : (o : Opening Catalog) → OpeningOk o → opening_refusal o ≡ 0
 unfolding opening_refusal
@@ -144,11 +117,7 @@ opening_accepts o f = rw (f.ranges.capacity, f.ranges.catalog, f.ranges.fresh, f
 -- an opening that asks for something out of range is refused
 pub range_refused : (o : Opening Catalog) → (OpeningRanges o → ⊥) → 3 ≡ opening_refusal o
 unfolding opening_refusal
-range_refused o none = go (opening_in_range o) refl
-  where
-    go : (t : Bool) → opening_in_range o ≡ t → ◌≡◌ {A = ℕ} 3 (cond t (cond (is_deduction o.rule) 0 18) 3)
-    go true e = absurd (none (opening_ranges o e))
-    go false e = refl
+range_refused o none = grind arith
 
 -- and after that one whose rule's number is no rule's
 pub rule_refused : (o : Opening Catalog) → OpeningRanges o → is_deduction o.rule ≡ false → 18 ≡ opening_refusal o
@@ -159,14 +128,7 @@ rule_refused o f odd = rw (f.capacity, f.catalog, f.fresh, odd)
 
 -- a step that names an item, where the number is none's
 pub range_wide : (n : Numbers) → n.kind ≢ 76 → 255 < n.item → false ≡ in_range n
-range_wide n o l = rw (lt-leb n.item 255 l, ne_eqb n.kind 76 o) (go (eqb n.kind 82) (eqb n.kind 87) (eqb n.kind 65) (eqb n.kind 81))
-  where
-    go : (a b c d : Bool) → ◌≡◌ {A = Bool} false (cond a false (cond b false (cond c false (cond d false false))))
-    go true b c d = refl
-    go false true c d = refl
-    go false false true d = refl
-    go false false false true = refl
-    go false false false false = refl
+range_wide n o l = grind arith
 
 pub range_write : (n : Numbers) → n.kind ≡ 87 → n.item ≤ 255 → leb n.minutes 1440 ≡ in_range n
 range_write n e l = rw (e, le-leb n.item 255 l)

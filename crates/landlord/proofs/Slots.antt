@@ -14,6 +14,7 @@ use Rattle.landlord.specs.Inner.{ItemFacts}
 use Rattle.landlord.specs.Slot.{Slot, absent, clean, dirty, held, is_dirty, load_credit, write_credit, Split, write_first, load_first, split_of, lose, brought, refilled, written, flushed}
 use Rattle.basis.proofs.Tables.{every, every_at}
 use Rattle.landlord.specs.Claims.{Bears, SplitOk, SlotKept}
+use Rattle.std.proofs.lemmas.Grind.{common_steps}
 
 -- The share fact, for a general s: where s divides the unit, a cost spread over s blocks loses nothing.
 pub share_fact : (cost s : ℕ) → s ∣ unit → shares_per_block cost s * s ≡ full cost
@@ -76,14 +77,10 @@ deduction_one LoadFirst LoadFirst e = refl
 
 -- a loss changes no mark
 pub lose_held : (split : Split) (s loss : ℕ) (x : Slot) → held (lose split s loss x) ≡ held x
-lose_held split s loss absent = refl
-lose_held split s loss (clean a) = refl
-lose_held split s loss (dirty a b) = refl
+lose_held split s loss x = grind arith
 
 pub lose_dirty : (split : Split) (s loss : ℕ) (x : Slot) → is_dirty (lose split s loss x) ≡ is_dirty x
-lose_dirty split s loss absent = refl
-lose_dirty split s loss (clean a) = refl
-lose_dirty split s loss (dirty a b) = refl
+lose_dirty split s loss x = grind arith
 
 -- what a loss does to a slot that can bear it: neither credit grows, and together they fall by the loss
 pub record Lost (loss : ℕ) (x y : Slot) : Type 0 where
@@ -133,8 +130,7 @@ module _ (split : Split) (ok : SplitOk split) (it : Item) (some : 1 ≤ it.block
 
 -- an empty place has no credit
 pub absent_kept : (it : Item) → SlotKept it absent
-absent_kept it =
-    record { whole_load = dvd-zero it.blocks; whole_write = dvd-zero it.blocks; load_top = omega arith; write_top = omega arith }
+absent_kept it = grind (arith, common_steps)
 
 -- a requested item, brought in and refilled
 pub read_kept : (it : Item) (x : Slot) → it.blocks ∣ unit → SlotKept it x → SlotKept it (refilled (full it.load) (brought x))
@@ -160,22 +156,14 @@ flush_kept it (dirty a b) kept =
 
 -- after a request the item is held
 pub read_held : (top : ℕ) (x : Slot) → held (refilled top (brought x)) ≡ true
-read_held top absent = refl
-read_held top (clean a) = refl
-read_held top (dirty a b) = refl
+read_held top x = grind arith
 
 pub write_held : (top : ℕ) (x : Slot) → held (written top x) ≡ held x
-write_held top absent = refl
-write_held top (clean a) = refl
-write_held top (dirty a b) = refl
+write_held top x = grind arith
 
 pub flush_held : (x : Slot) → held (flushed x) ≡ held x
-flush_held absent = refl
-flush_held (clean a) = refl
-flush_held (dirty a b) = refl
+flush_held x = grind arith
 
 -- and after a flush it is not dirty
 pub flush_clean : (x : Slot) → is_dirty (flushed x) ≡ false
-flush_clean absent = refl
-flush_clean (clean a) = refl
-flush_clean (dirty a b) = refl
+flush_clean x = grind arith

@@ -1,17 +1,16 @@
 -- A step that the table of refusals lets through: what it has, and that it is let through as the step that its numbers mean.
 -- Assumes nothing.
 use mathlib.Core.Path.{◌≡◌, refl, ap, ◌∙◌}
-use mathlib.Core.Bool.{Bool, true, false, cond, ◌&&◌}
+use mathlib.Core.Bool.{Bool, true, false, cond}
 use Prim.Native.Nat.{ℕ, ◌≤◌, ◌<◌}
 use native.Mathlib.Omega.{arith}
 use lib.Dec.{leb, eqb}
 use borrow.Author.Tests.{leb-false, lt-leb, eqb-true, eqb-false}
-use Rattle.types.specs.declared.Step.TheVariants.{Read, Write, Flush, Arrive, Retire}
 use Rattle.types.specs.declared.Numbers.{Numbers}
 use Rattle.types.specs.Types.{numbers_of, step_of}
 use Rattle.types.proofs.Steps.{same_step}
-use Rattle.landlord.specs.Catalog.{Catalog, listed, item_in_range}
-use Rattle.landlord.specs.Steps.{is_item_number, in_range, range_refusal, item_refusal, step_refusal}
+use Rattle.landlord.specs.Catalog.{Catalog}
+use Rattle.landlord.specs.Steps.{in_range, range_refusal, item_refusal, step_refusal}
 
 -- ## Its range
 
@@ -26,46 +25,17 @@ range_out n e = rw e
 
 pub free_range : (n : Numbers) → range_refusal n ≡ 0 → in_range n ≡ true
 unfolding range_refusal
-free_range n e = go (in_range n) e
-  where
-    go : (t : Bool) → ◌≡◌ {A = ℕ} (cond t 0 3) 0 → t ≡ true
-    go true e = refl
-    go false e = absurd (omega arith)
+free_range n e = grind arith
 
 -- the refusal's number is one of the table's
 pub range_few : (n : Numbers) → range_refusal n ≤ 20
 unfolding range_refusal
-range_few n = go (in_range n)
-  where
-    go : (t : Bool) → cond t 0 3 ≤ 20
-    go true = omega arith
-    go false = omega arith
+range_few n = grind arith
 
 -- values that a step lacks are not looked at
 means_range : (n : Numbers) → in_range n ≡ true → in_range (numbers_of (step_of n)) ≡ true
 unfolding step_of
-means_range n e = go (eqb n.kind 82) (eqb n.kind 87) (eqb n.kind 65) (eqb n.kind 81) e
-  where
-    item : Bool
-    item = is_item_number n.item
-
-    go :
-        (p q r t : Bool) →
-        cond p item
-        (cond q (item && leb n.minutes 1440)
-        (cond r (item && item_in_range (listed n.blocks n.load n.write))
-        (cond t item (eqb n.kind 76)))) ≡ true →
-        in_range
-        (numbers_of
-        (cond p (Read n.item)
-        (cond q (Write n.item n.minutes)
-        (cond r (Arrive n.item n.blocks n.load n.write)
-        (cond t (Retire n.item) Flush))))) ≡ true
-    go true q r t e = e
-    go false true r t e = e
-    go false false true t e = e
-    go false false false true e = e
-    go false false false false e = refl
+means_range n e = grind arith
 
 -- so the step that numbers mean is not refused where they are not
 pub range_means : (n : Numbers) → range_refusal n ≡ 0 → range_refusal (numbers_of (step_of n)) ≡ 0

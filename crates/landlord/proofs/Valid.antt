@@ -8,14 +8,14 @@ use Prim.Native.Nat.{ℕ, ◌+◌, ◌*◌, ◌≤◌, ◌<◌}
 use native.Mathlib.Decide.{ℕ_discrete}
 use native.Mathlib.Omega.{arith}
 use lib.ListN.{length}
-use lib.Dec.{leb, eqb}
-use borrow.Author.Tests.{eqb-true, leb-true}
+use lib.Dec.{eqb}
+use borrow.Author.Tests.{eqb-true}
 use Rattle.types.specs.declared.Step.{Step}
 use Rattle.types.specs.declared.Step.TheVariants.{Read, Write, Flush, Arrive, Retire}
 use Rattle.types.specs.Types.{numbers_of, step_of}
 use Rattle.landlord.specs.Fold.{fold}
 use Rattle.landlord.specs.Catalog.{Catalog, Item, CatalogOk, CapacityOk, none_left, item_at, listed, item_in_range, full}
-use Rattle.landlord.specs.Slot.{Slot, absent, clean, dirty, held, is_dirty, Split, written}
+use Rattle.landlord.specs.Slot.{Slot, absent, held, is_dirty, Split, written}
 use Rattle.landlord.specs.Rule.{State, size, slot_at, blocks_at, used, held_count, emptied, wrote, flush_step, evicted, retired, Moved, stay, joined, victim, evict_item, evict, make_room, put_slot, found, read_slot, serve_read, serve_write, flush, arrive, drop_item, leave, step}
 use Rattle.landlord.specs.Figures.{Totals, Figures, Standing, Start, use_at, tally, opened, changed, moved, took, closes}
 use Rattle.landlord.specs.Steps.{in_range, step_refusal}
@@ -23,7 +23,7 @@ use Rattle.landlord.specs.Calls.{Call, step_call, close, refusal_now, log_of, ru
 use Rattle.landlord.specs.Inner.{OpeningOk}
 use Rattle.landlord.specs.Claims.{SplitOk, SlotKept, Kept, Least}
 use Rattle.landlord.specs.Valid.{dirty_count, left_count, StandingOk}
-use Rattle.landlord.proofs.Ranges.{catalog_facts, item_facts, and_right}
+use Rattle.landlord.proofs.Ranges.{catalog_facts, item_facts}
 use Rattle.landlord.proofs.Sums.{sum_zero, sum_term}
 use Rattle.landlord.proofs.Folds.{either, tab_at, fold_append}
 use Rattle.landlord.proofs.Catalogs.{one_longer, retired_length, left_none, left_arrived, left_retired}
@@ -48,22 +48,7 @@ Right x t f = CountsKept (size x) (left_count x.catalog) t (held_count x) (dirty
 
 -- What holds where the rule stands is what holds of its state and what holds of its figures; so it comes apart and together.
 counted_of_lem : (v : Standing) → StandingOk v → Right v.state (taken v) v.figures
-counted_of_lem v o =
-    record {
-      steps = o.steps;
-      retirements = o.retirements;
-      taken = refl;
-      evictions = o.evictions;
-      dirty_evictions = o.dirty_evictions;
-      dirty_written = o.dirty_written;
-      writebacks = o.writebacks;
-      load_cost = o.load_cost;
-      write_cost = o.write_cost;
-      uses = o.uses;
-      loads_add = o.loads_add;
-      writebacks_add = o.writebacks_add;
-      minutes = o.minutes;
-    }
+counted_of_lem v o = grind arith
 
 standing_of :
     (v : Standing) (t : ℕ) →
@@ -73,25 +58,7 @@ standing_of :
     Right v.state t v.figures →
     Clean v.state v.closed →
     StandingOk v
-standing_of v t capacity kept few c tidy =
-    record {
-      capacity = capacity;
-      kept = kept;
-      steps = omega arith;
-      retirements = c.retirements;
-      taken = omega arith;
-      evictions = c.evictions;
-      dirty_evictions = c.dirty_evictions;
-      dirty_written = c.dirty_written;
-      writebacks = omega arith;
-      load_cost = c.load_cost;
-      write_cost = c.write_cost;
-      uses = c.uses;
-      loads_add = c.loads_add;
-      writebacks_add = c.writebacks_add;
-      minutes = λ i l. omega (arith, c.minutes i l);
-      closed = tidy;
-    }
+standing_of v t capacity kept few c tidy = grind arith
 
 -- at opening nothing is held, none has left, and nothing is counted
 pub ok_opened : (o : Start) → CapacityOk o.k → CatalogOk o.catalog → none_left o.catalog ≡ true → StandingOk (opened o)
@@ -406,9 +373,7 @@ ok_arrives v i b l w r new few =
 
 -- what is not held is not dirty
 pub not_dirty : (s : Slot) → held s ≡ false → is_dirty s ≡ false
-not_dirty absent e = refl
-not_dirty (clean a) e = refl
-not_dirty (dirty a b) e = e
+not_dirty s e = grind arith
 
 -- an item dropped, and no other changed: an eviction if it was held, and else nothing
 pub ok_drop : (v : Standing) (i : ℕ) → StandingOk v → i < size v.state → StandingOk (moved v (drop_item i v.state) v.closed)
@@ -529,11 +494,7 @@ ok_took v s ok r served few = ok_step v s ok r served few
 
 -- the minutes of a step in range
 minutes_few : (s : Step) → in_range (numbers_of s) ≡ true → (numbers_of s).minutes ≤ 1440
-minutes_few (Read i) r = omega arith
-minutes_few (Write i m) r = leb-true m 1440 (and_right (leb i 255) (leb m 1440) r)
-minutes_few Flush r = omega arith
-minutes_few (Arrive i b l w) r = omega arith
-minutes_few (Retire i) r = omega arith
+minutes_few s h = grind arith
 
 -- a call that is not refused
 accepted_ok : (v : Standing) (call : Call) → SplitOk v.split → StandingOk v → refusal_now v call ≡ 0 → StandingOk (accepted v call)

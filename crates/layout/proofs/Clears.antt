@@ -1,40 +1,26 @@
--- What the loop of `clear` keeps, and bytes that are all 0 behind the number of the layout: they are those of the cleared cache.
+-- Bytes that are all 0 behind the number of the layout: they are those of the cleared cache.
 -- Assumes nothing.
 use mathlib.Core.Path.{◌≡◌, ap, ◌∙◌}
-use mathlib.Core.List.{List, [], ◌∷◌, ◌++◌}
+use mathlib.Core.List.{List, ◌++◌}
 use mathlib.Core.Bool.{false, not}
-use Prim.Native.Nat.{ℕ, zero, suc, ◌+◌, ◌-◌, ◌≤◌, ◌<◌}
-use native.Mathlib.Numerals.{add-one}
+use Prim.Native.Nat.{ℕ, zero, suc, ◌-◌, ◌≤◌}
 use native.Mathlib.Omega.{arith}
+use Rattle.std.proofs.lemmas.List.{length-replicate}
 use lib.Dec.{eqb}
-use lib.ListN.{length, take, drop, set, replicate, length-set}
-use lib.Seq.{sets, length-sets, sets-eq, take_all, take-suc-set, get_or-drop}
+use lib.ListN.{length, drop, replicate}
+use lib.Seq.{sets, length-sets, sets-eq, get_or-drop}
 use Rattle.fields.specs.LittleEndian.{number_at, flags_from_bytes, to_bytes}
 use Rattle.fields.specs.Inner.{Below}
-use Rattle.fields.proofs.Laws.{length_to, from_front, below_append, below_drop, past, from_blank, run_from_blank, flags_from_blank}
+use Rattle.fields.proofs.Laws.{length_to, from_front, below_drop, past, from_blank, run_from_blank, flags_from_blank}
 use Rattle.types.specs.Types.{deduction_of}
 use Rattle.layout.specs.Layout.{state_bytes, format, numbers_at, AllowedBytes}
 use Rattle.layout.specs.InnerRows.{at_format, at_capacity, at_count, at_closed, at_steps, at_hits, at_loads, at_evictions, at_dirty_evictions, at_writebacks, at_flushes, at_load_cost, at_write_cost, at_dirty, at_load_credits, at_write_credits, at_minutes, at_item_loads, at_item_writebacks, at_item_load_costs, at_item_write_costs, at_blocks, at_held, at_rule, at_left, at_arrivals, at_retirements, at_used, at_level, at_keys, at_heap, at_places}
 use Rattle.layout.specs.Inner.{Stands, cleared}
 
--- the first i bytes are 0
-pub record Clearing (b : List ℕ) (i : ℕ) : Type 0 where
-  pub size : length b ≡ state_bytes
-  pub zeros : Below 1 (take i b)
-
-pub clearing : (b : List ℕ) → length b ≡ state_bytes → Clearing b 0
-clearing b n = record { size = n; zeros = λ i. omega arith }
-
-pub clear_one : {b : List ℕ} {i : ℕ} → Clearing b i → i < length b → Clearing (set b i 0) (i + 1)
-clear_one {b} {i} s l =
-    record {
-      size = length-set b i 0 ∙ s.size;
-      zeros = rw (add-one i, take-suc-set b i 0 l) (below_append 1 (take i b) (0 ∷ []) s.zeros zero_below);
-    }
-  where
-    zero_below : Below 1 (0 ∷ [])
-    zero_below zero = omega arith
-    zero_below (suc j) = omega arith
+zeros_below : (n : ℕ) → Below 1 (replicate n 0)
+zeros_below zero i = omega arith
+zeros_below (suc n) zero = omega arith
+zeros_below (suc n) (suc i) = zeros_below n i
 
 -- ---- behind the number of the layout
 
@@ -103,8 +89,11 @@ module _ (after rest : List ℕ) (n : length after ≡ state_bytes) (e : after �
   }
 
 -- the number of the layout, stored over bytes that are all 0
-pub all_cleared : {b : List ℕ} {i : ℕ} (after : List ℕ) → Clearing b i → length b ≤ i → after ≡ sets b at_format (to_bytes 4 format) → Stands after cleared
+pub all_cleared : {b : List ℕ} (after : List ℕ) → b ≡ replicate state_bytes 0 → after ≡ sets b at_format (to_bytes 4 format) → Stands after cleared
 unfolding to_bytes
-all_cleared {b} {i} after s l is =
-    cleared_0 after (drop 4 b) (ap length is ∙ length-sets b at_format (to_bytes 4 format) ∙ s.size) (is ∙ sets-eq (to_bytes 4 format) b 0 (omega (arith, s.size)))
-    (below_drop 1 4 b (rw (take_all i b l) at s.zeros))
+all_cleared {b} after e is =
+    cleared_0 after (drop 4 b) (ap length is ∙ length-sets b at_format (to_bytes 4 format) ∙ size) (is ∙ sets-eq (to_bytes 4 format) b 0 (omega (arith, size)))
+    (below_drop 1 4 b (rw e (zeros_below state_bytes)))
+  where
+    size : length b ≡ state_bytes
+    size = ap length e ∙ length-replicate {A = ℕ} state_bytes 0

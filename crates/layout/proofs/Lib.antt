@@ -3,4 +3,4 @@ pub mod Rounds
 pub mod Places
 pub mod Stores
 mod Clears
-mod Tests
+pub mod Tests

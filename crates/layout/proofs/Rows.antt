@@ -1,6 +1,5 @@
--- Rows that lie end to end: stored one by one they are one store of their bytes, each is found at its place, and a store inside one
--- of them leaves the others. Assumes nothing.
-use mathlib.Core.Path.{◌≡◌, refl, ap, ◌∙◌}
+-- Rows that lie end to end: each is found at its place, and a store inside one of them leaves the others. Assumes nothing.
+use mathlib.Core.Path.{◌≡◌, ap, ◌∙◌}
 use mathlib.Core.List.{List, [], ◌∷◌, ◌++◌}
 use mathlib.Core.Bool.{Bool}
 use Prim.Native.Nat.{ℕ, zero, suc, ◌+◌, ◌*◌, ◌-◌, ◌≤◌, ◌<◌}
@@ -9,13 +8,8 @@ use lib.ListN.{length, drop, get_or, length-append}
 use lib.Seq.{sets}
 use Rattle.fields.specs.LittleEndian.{to_bytes}
 use Rattle.fields.specs.Inner.{run_of, flags}
-use Rattle.fields.proofs.Laws.{length_to, length_run, length_flags, past, sets_append, sets_past, sets_within}
+use Rattle.fields.proofs.Laws.{length_to, length_run, length_flags, past, sets_past, sets_within}
 use Rattle.layout.specs.InnerRows.{FieldRow, row_bytes}
-
--- rows stored into bytes, each at its place
-abbrev pub stored : List ℕ → List FieldRow → List ℕ
-stored b [] = b
-stored b (r ∷ rs) = stored (sets b r.0 r.1) rs
 
 -- rows of bytes that lie end to end, from one place to another
 pub data Packed : ℕ → List FieldRow → ℕ → Type 0 where
@@ -36,11 +30,6 @@ flags_row n fs e p = row {x = flags fs} n (length_flags fs ∙ e) p
 pub packed_length : {at to : ℕ} {rs : List FieldRow} → Packed at rs to → at + length (row_bytes rs) ≡ to
 packed_length end = omega arith
 packed_length (row {x = x} {rs = rs} w e p) = omega (arith, length-append x (row_bytes rs), packed_length p)
-
--- stored one by one, they are stored as one
-pub packed_stored : {at to : ℕ} {rs : List FieldRow} → Packed at rs to → (b : List ℕ) → stored b rs ≡ sets b at (row_bytes rs)
-packed_stored end b = refl
-packed_stored (row {at = at} {x = x} {rs = rs} w e p) b = packed_stored p (sets b at x) ∙ rw (sets_append b at x (row_bytes rs), e)
 
 -- no row stands before the first
 after : {at to : ℕ} {rs : List FieldRow} → Packed at rs to → (n : ℕ) → n < length rs → at ≤ (get_or rs n (0, [])).0

@@ -1,76 +1,43 @@
--- What `flags_ok` and `allowed` need: bytes joined by | are below 2 exactly if each is, and a test that says yes or no. Assumes nothing.
-use mathlib.Core.Path.{◌≡◌, sym, subst}
-use mathlib.Core.List.{List}
-use mathlib.Core.Bool.{Bool, false, false≢true}
-use Prim.Native.Nat.{ℕ, ◌+◌, ◌-◌, ◌≤◌, ◌<◌}
-use native.Mathlib.Nat.{le_refl}
-use native.Mathlib.Decide.{ℕ_discrete}
-use native.Mathlib.Omega.{arith}
-use lib.Bits.{bit_or, or_lt, or_add_and, and_le_l, and_le_r}
-use lib.Dec.{ltb}
-use lib.ListN.{get_or}
+-- What the tests of bytes need: bits joined by |, and the bytes of a part. Assumes nothing.
+use Rattle.std.proofs.Common.{◌≡◌, ℕ, ◌+◌, ◌^◌, ◌≤◌, ◌<◌, ◌↔◌, List, length, take, drop, get_or, bit_or, nat_lt, EachIndex, ◌∙◌, arith}
+use Rattle.std.proofs.lemmas.List.{get_or-take, get_or-drop, length-take-le, length-drop}
 use borrow.Author.Tests.{ltb-true, lt-ltb}
+use lib.Bits.{or_lt, or_add_and, and_le_l, and_le_r}
 use Rattle.fields.specs.LittleEndian.{number_at}
 use Rattle.cache_state.specs.InnerBecomes.{Decided}
-use Rattle.layout.specs.Layout.{format, AllowedBytes}
+use Rattle.layout.specs.Layout.{state_bytes, format, AllowedBytes}
 use Rattle.layout.specs.InnerRows.{at_format, at_closed, at_held, at_rule}
-use Rattle.layout.specs.Inner.{FlagsWithin}
 
--- ---- the loop
+-- two numbers joined by | have room in k bits exactly if both have
+pub or_below : (k a x : ℕ) → (bit_or a x < 2 ^ k) ↔ ((a < 2 ^ k) × (x < 2 ^ k))
+or_below k a x =
+    (λ h. (omega (arith, or_add_and a x, and_le_r a x), omega (arith, or_add_and a x, and_le_l a x)), λ h. or_lt k a x h.0 h.1)
 
--- bytes from one place to another, joined by |
-pub record Joined (b : List ℕ) (from i all : ℕ) : Type 0 where
-  pub after : from ≤ i
-  pub yes : all < 2 → FlagsWithin b from i
-  pub only : FlagsWithin b from i → all < 2
-
-pub joined_none : (b : List ℕ) (from : ℕ) → Joined b from from 0
-joined_none b from =
-    record {
-      after = le_refl from;
-      yes = λ h. record { each = λ j l m. absurd (let x : from ≤ j = l in let y : j < from = m in omega arith) };
-      only = λ f. omega arith;
-    }
-
-pub joined_more : (b : List ℕ) (from i all : ℕ) → Joined b from i all → Joined b from (i + 1) (bit_or all (get_or b i 0))
-joined_more b from i all p =
-    record {
-      after = omega (arith, p.after);
-      yes = λ h. record { each = λ j l m. more (both.0 h) (both.1 h) j l m (ℕ_discrete j i) };
-      only = λ f.
-          or_lt 1 all (get_or b i 0) (p.only (record { each = λ j l m. f.each j l (omega arith) })) (f.each i p.after (omega arith));
-    }
+-- each byte of a part is below m exactly if each byte at its place is
+pub part_below :
+    (b : List ℕ) (from w m : ℕ) →
+    from + w ≤ length b →
+    EachIndex (take w (drop from b)) (λ i. get_or (take w (drop from b)) i 0 < m) ↔ ((i : ℕ) → i < w → get_or b (from + i) 0 < m)
+part_below b from w m l = (λ h i k. rw (same i k) at (h i (rw long k)), λ h i k. let j : i < w = rw long at k in rw (same i j) (h i j))
   where
-    both : (bit_or all (get_or b i 0) < 2 → all < 2) × (bit_or all (get_or b i 0) < 2 → get_or b i 0 < 2)
-    both =
-        (λ h. omega (arith, or_add_and all (get_or b i 0), and_le_r all (get_or b i 0)), λ h. omega (arith, or_add_and all (get_or b i 0), and_le_l all (get_or b i 0)))
+    long : length (take w (drop from b)) ≡ w
+    long = length-take-le w (drop from b) (omega (arith, length-drop from b))
 
-    more : all < 2 → get_or b i 0 < 2 → (j : ℕ) → from ≤ j → j < i + 1 → Dec (j ≡ i) → get_or b j 0 < 2
-    more h k j l m (yes e) = rw e k
-    more h k j l m (no e) = (p.yes h).each j l (omega arith)
-
-pub joined_all : (b : List ℕ) (from to i all : ℕ) → i ≡ to → Joined b from i all → Decided (FlagsWithin b from to) (ltb all 2)
-joined_all b from to i all e p =
-    record {
-      yes = λ t. subst (FlagsWithin b from) e (p.yes (ltb-true all 2 t));
-      only = λ f. lt-ltb all 2 (p.only (subst (FlagsWithin b from) (sym e) f));
-    }
-
--- ---- the whole test
+    same : (i : ℕ) → i < w → get_or (take w (drop from b)) i 0 ≡ get_or b (from + i) 0
+    same i k = get_or-take w (drop from b) i 0 k ∙ get_or-drop from b i 0
 
 -- with the number of the layout, the cache's own flag and the rule's number right, the items' flags decide
-pub allowed_so : (b : List ℕ) {r : Bool} → number_at b at_format 4 ≡ format → number_at b at_closed 2 < 2 → number_at b at_rule 4 < 2 → Decided (FlagsWithin b at_held (at_held + 256)) r → Decided (AllowedBytes b) r
-allowed_so b e h g d =
+pub allowed_so :
+    (b : List ℕ) (bits : ℕ) →
+    length b ≡ state_bytes →
+    ((k : ℕ) → (bits < 2 ^ k) ↔ EachIndex (take 256 (drop at_held b)) (λ i. get_or (take 256 (drop at_held b)) i 0 < 2 ^ k)) →
+    number_at b at_format 4 ≡ format →
+    number_at b at_closed 2 < 2 →
+    number_at b at_rule 4 < 2 →
+    Decided (AllowedBytes b) (nat_lt bits 2)
+allowed_so b bits size each e h g =
+    let part = part_below b at_held 256 2 (omega (arith, size)) in
     record {
-      yes = λ t. record { format = e; closed = h; rule = g; held = λ i l. (d.yes t).each (at_held + i) (omega arith) (omega arith) };
-      only = λ a. d.only (record { each = λ i l m. flag a i l m });
+      yes = λ t. record { format = e; closed = h; rule = g; held = part.0 ((each 1).0 (ltb-true bits 2 t)) };
+      only = λ a. lt-ltb bits 2 ((each 1).1 (part.1 a.held));
     }
-  where
-    flag : AllowedBytes b → (i : ℕ) → at_held ≤ i → i < at_held + 256 → get_or b i 0 < 2
-    flag a i l m =
-        let p : at_held + (i - at_held) ≡ i = omega arith in
-        rw p at (a.held (i - at_held) (omega arith))
-
--- a statement that fails is decided by no
-pub refuted : {A : Type 0} → (A → ⊥) → Decided A false
-refuted f = record { yes = λ e. absurd (false≢true e); only = λ a. absurd (f a) }

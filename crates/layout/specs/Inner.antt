@@ -1,6 +1,6 @@
 -- What is said of the bytes of a state: which cache they are, and whether they are valid. Assumes nothing.
 use mathlib.Core.{Path.◌≡◌, Bool.false, List.List}
-use Rattle.std.specs.Prelude.{ℕ, ◌≤◌, ◌<◌, length, get_or, replicate}
+use Rattle.std.specs.Prelude.{ℕ, length, replicate}
 use Rattle.types.specs.declared.Deduction.TheVariants.{WriteFirst}
 use Rattle.queue.specs.Machine.{LazyStanding}
 use Rattle.cache_state.specs.{Cache.Cache, InnerBecomes.Becomes}
@@ -62,7 +62,3 @@ cleared =
       places = replicate 256 0;
       used = 0;
     }
-
--- the bytes from one place to another are flags
-pub record FlagsWithin (b : List ℕ) (from to : ℕ) : Type 0 where
-  pub each : (i : ℕ) → from ≤ i → i < to → get_or b i 0 < 2

@@ -3,7 +3,7 @@
 // field of the cache that the bytes stand for, a setter which cache they are then.
 #![tactic(auto)]
 
-ghost use Rattle.std.specs.Prelude.{◌≡◌, ◌+◌, ◌*◌, ◌<◌, ◌≤◌, length, get_or, false};
+ghost use Rattle.std.specs.Prelude.{◌≡◌, ℕ, ◌+◌, ◌*◌, ◌^◌, ◌<◌, ◌≤◌, ◌↔◌, length, get_or, slice_index, EachIndex, false};
 ghost use Rattle.std.proofs.lemmas.List.Edits.{sets};
 ghost use Rattle.fields.specs.LittleEndian.{number_at};
 ghost use Rattle.fields.specs.Inner.{run_of};
@@ -12,7 +12,7 @@ ghost use Rattle.cache_state.specs.Cache.{dirty_at, left_at};
 ghost use Rattle.cache_state.specs.InnerWith.{with_capacity, with_count, with_closed, with_rule, with_steps, with_hits, with_loads, with_evictions, with_dirty_evictions, with_writebacks, with_flushes, with_load_cost, with_write_cost, with_dirty, with_load_credit, with_write_credit, with_minutes, with_item_loads, with_item_writebacks, with_item_load_cost, with_item_write_cost, with_blocks, with_held, with_left, with_arrivals, with_retirements, with_level, with_key, with_heap_item, with_place, with_used};
 ghost use Rattle.cache_state.specs.InnerBecomes.{Decided};
 ghost use Rattle.layout.specs.Layout.{state_bytes, numbers_at, cache_of, AllowedBytes};
-ghost use Rattle.layout.specs.Inner.{Stands, Readable, FlagsWithin, cleared};
+ghost use Rattle.layout.specs.Inner.{Stands, Readable, cleared};
 
 use types::Deduction;
 
@@ -97,6 +97,7 @@ pub fn capacity(b: &[u8]) -> u32
     fields::get(b, AT_CAPACITY, 4) as u32
 }
 
+#[tactic(auto, using(crate::proofs::Stores::capacity_stored))]
 pub fn put_capacity(b: &mut [u8], v: u32)
     requires { Readable b.old }
     ensures { Stands b.new (with_capacity (cache_of b.old) v) }
@@ -112,6 +113,7 @@ pub fn count(b: &[u8]) -> usize
     fields::get(b, AT_COUNT, 2) as usize
 }
 
+#[tactic(auto, using(crate::proofs::Stores::count_stored))]
 pub fn put_count(b: &mut [u8], v: usize)
     requires { Readable b.old × (v < 65536) }
     ensures { Stands b.new (with_count (cache_of b.old) v) }
@@ -126,6 +128,7 @@ pub fn steps(b: &[u8]) -> u32
     fields::get(b, AT_STEPS, 4) as u32
 }
 
+#[tactic(auto, using(crate::proofs::Stores::steps_stored))]
 pub fn put_steps(b: &mut [u8], v: u32)
     requires { Readable b.old }
     ensures { Stands b.new (with_steps (cache_of b.old) v) }
@@ -140,6 +143,7 @@ pub fn hits(b: &[u8]) -> u32
     fields::get(b, AT_HITS, 4) as u32
 }
 
+#[tactic(auto, using(crate::proofs::Stores::hits_stored))]
 pub fn put_hits(b: &mut [u8], v: u32)
     requires { Readable b.old }
     ensures { Stands b.new (with_hits (cache_of b.old) v) }
@@ -154,6 +158,7 @@ pub fn loads(b: &[u8]) -> u32
     fields::get(b, AT_LOADS, 4) as u32
 }
 
+#[tactic(auto, using(crate::proofs::Stores::loads_stored))]
 pub fn put_loads(b: &mut [u8], v: u32)
     requires { Readable b.old }
     ensures { Stands b.new (with_loads (cache_of b.old) v) }
@@ -168,6 +173,7 @@ pub fn evictions(b: &[u8]) -> u32
     fields::get(b, AT_EVICTIONS, 4) as u32
 }
 
+#[tactic(auto, using(crate::proofs::Stores::evictions_stored))]
 pub fn put_evictions(b: &mut [u8], v: u32)
     requires { Readable b.old }
     ensures { Stands b.new (with_evictions (cache_of b.old) v) }
@@ -182,6 +188,7 @@ pub fn dirty_evictions(b: &[u8]) -> u32
     fields::get(b, AT_DIRTY_EVICTIONS, 4) as u32
 }
 
+#[tactic(auto, using(crate::proofs::Stores::dirty_evictions_stored))]
 pub fn put_dirty_evictions(b: &mut [u8], v: u32)
     requires { Readable b.old }
     ensures { Stands b.new (with_dirty_evictions (cache_of b.old) v) }
@@ -196,6 +203,7 @@ pub fn writebacks(b: &[u8]) -> u32
     fields::get(b, AT_WRITEBACKS, 4) as u32
 }
 
+#[tactic(auto, using(crate::proofs::Stores::writebacks_stored))]
 pub fn put_writebacks(b: &mut [u8], v: u32)
     requires { Readable b.old }
     ensures { Stands b.new (with_writebacks (cache_of b.old) v) }
@@ -210,6 +218,7 @@ pub fn flushes(b: &[u8]) -> u32
     fields::get(b, AT_FLUSHES, 4) as u32
 }
 
+#[tactic(auto, using(crate::proofs::Stores::flushes_stored))]
 pub fn put_flushes(b: &mut [u8], v: u32)
     requires { Readable b.old }
     ensures { Stands b.new (with_flushes (cache_of b.old) v) }
@@ -224,6 +233,7 @@ pub fn arrivals(b: &[u8]) -> u32
     fields::get(b, AT_ARRIVALS, 4) as u32
 }
 
+#[tactic(auto, using(crate::proofs::Stores::arrivals_stored))]
 pub fn put_arrivals(b: &mut [u8], v: u32)
     requires { Readable b.old }
     ensures { Stands b.new (with_arrivals (cache_of b.old) v) }
@@ -238,6 +248,7 @@ pub fn retirements(b: &[u8]) -> u32
     fields::get(b, AT_RETIREMENTS, 4) as u32
 }
 
+#[tactic(auto, using(crate::proofs::Stores::retirements_stored))]
 pub fn put_retirements(b: &mut [u8], v: u32)
     requires { Readable b.old }
     ensures { Stands b.new (with_retirements (cache_of b.old) v) }
@@ -253,6 +264,7 @@ pub fn level(b: &[u8]) -> u64
     fields::get(b, AT_LEVEL, 8)
 }
 
+#[tactic(auto, using(crate::proofs::Stores::level_stored))]
 pub fn put_level(b: &mut [u8], v: u64)
     requires { Readable b.old }
     ensures { Stands b.new (with_level (cache_of b.old) v) }
@@ -260,6 +272,7 @@ pub fn put_level(b: &mut [u8], v: u64)
     fields::put(b, AT_LEVEL, 8, v);
 }
 
+#[tactic(auto, using(crate::proofs::Places::number_at_lem))]
 pub fn key(b: &[u8], i: usize) -> u64
     requires { (length b.now ≡ state_bytes) × (i < 256) }
     ensures { result ≡ get_or (cache_of b.now).keys i 0 }
@@ -267,6 +280,7 @@ pub fn key(b: &[u8], i: usize) -> u64
     fields::get(b, AT_KEYS + i * 8, 8)
 }
 
+#[tactic(auto, using(crate::proofs::Stores::key_stored))]
 pub fn put_key(b: &mut [u8], i: usize, v: u64)
     requires { Readable b.old × (i < 256) }
     ensures { Stands b.new (with_key (cache_of b.old) i v) }
@@ -275,6 +289,7 @@ pub fn put_key(b: &mut [u8], i: usize, v: u64)
 }
 
 // The item at place `i` of the heap, and the place of item `i` in it.
+#[tactic(auto, using(crate::proofs::Places::number_at_lem))]
 pub fn heap_item(b: &[u8], i: usize) -> u8
     requires { (length b.now ≡ state_bytes) × (i < 256) }
     ensures { result ≡ get_or (cache_of b.now).heap i 0 }
@@ -282,6 +297,7 @@ pub fn heap_item(b: &[u8], i: usize) -> u8
     fields::get(b, AT_HEAP + i, 1) as u8
 }
 
+#[tactic(auto, using(crate::proofs::Stores::heap_item_stored))]
 pub fn put_heap_item(b: &mut [u8], i: usize, v: u8)
     requires { Readable b.old × (i < 256) }
     ensures { Stands b.new (with_heap_item (cache_of b.old) i v) }
@@ -289,6 +305,7 @@ pub fn put_heap_item(b: &mut [u8], i: usize, v: u8)
     fields::put(b, AT_HEAP + i, 1, v as u64);
 }
 
+#[tactic(auto, using(crate::proofs::Places::number_at_lem))]
 pub fn place(b: &[u8], i: usize) -> u8
     requires { (length b.now ≡ state_bytes) × (i < 256) }
     ensures { result ≡ get_or (cache_of b.now).places i 0 }
@@ -296,6 +313,7 @@ pub fn place(b: &[u8], i: usize) -> u8
     fields::get(b, AT_PLACES + i, 1) as u8
 }
 
+#[tactic(auto, using(crate::proofs::Stores::place_stored))]
 pub fn put_place(b: &mut [u8], i: usize, v: u8)
     requires { Readable b.old × (i < 256) }
     ensures { Stands b.new (with_place (cache_of b.old) i v) }
@@ -311,6 +329,7 @@ pub fn used(b: &[u8]) -> u32
     fields::get(b, AT_USED, 4) as u32
 }
 
+#[tactic(auto, using(crate::proofs::Stores::used_stored))]
 pub fn put_used(b: &mut [u8], v: u32)
     requires { Readable b.old }
     ensures { Stands b.new (with_used (cache_of b.old) v) }
@@ -326,6 +345,7 @@ pub fn load_cost(b: &[u8]) -> u64
     fields::get(b, AT_LOAD_COST, 8)
 }
 
+#[tactic(auto, using(crate::proofs::Stores::load_cost_stored))]
 pub fn put_load_cost(b: &mut [u8], v: u64)
     requires { Readable b.old }
     ensures { Stands b.new (with_load_cost (cache_of b.old) v) }
@@ -341,6 +361,7 @@ pub fn write_cost(b: &[u8]) -> u64
     fields::get(b, AT_WRITE_COST, 8)
 }
 
+#[tactic(auto, using(crate::proofs::Stores::write_cost_stored))]
 pub fn put_write_cost(b: &mut [u8], v: u64)
     requires { Readable b.old }
     ensures { Stands b.new (with_write_cost (cache_of b.old) v) }
@@ -356,6 +377,7 @@ pub fn closed(b: &[u8]) -> bool
     fields::get(b, AT_CLOSED, 2) != 0
 }
 
+#[tactic(auto, using(crate::proofs::Stores::closed_stored))]
 pub fn put_closed(b: &mut [u8], f: bool)
     requires { Readable b.old }
     ensures { Stands b.new (with_closed (cache_of b.old) f) }
@@ -371,6 +393,7 @@ pub fn rule(b: &[u8]) -> Deduction
     types::deduction_of(fields::get(b, AT_RULE, 4) as u32)
 }
 
+#[tactic(auto, using(crate::proofs::Stores::rule_stored))]
 pub fn put_rule(b: &mut [u8], rule: Deduction)
     requires { Readable b.old }
     ensures { Stands b.new (with_rule (cache_of b.old) rule) }
@@ -389,6 +412,7 @@ fn word(b: &[u8], at: usize, j: usize) -> u64
 }
 
 // Whether mark `i` of them is set.
+#[tactic(auto, using(crate::proofs::Places::number_at_lem), unfolding(marks::specs::Marks::marked, marks::specs::Marks::bit))]
 fn is_marked(b: &[u8], at: usize, i: usize) -> bool
     requires { (at + 32 ≤ length b.now) × (i < 256) }
     ensures { result ≡ marked (numbers_at b.now at 4 8) i }
@@ -396,6 +420,7 @@ fn is_marked(b: &[u8], at: usize, i: usize) -> bool
     (word(b, at, i / 64) >> (i % 64)) % 2 == 1
 }
 
+#[tactic(auto, using(crate::proofs::Places::read_four))]
 fn words(b: &[u8], at: usize) -> [u64; 4]
     requires { at + 32 ≤ length b.now }
     ensures { result ≡ numbers_at b.now at 4 8 }
@@ -412,10 +437,9 @@ fn put_words(b: &mut [u8], at: usize, words: [u64; 4])
     requires { at + 32 ≤ length b.old }
     ensures { b.new ≡ sets b.old at (run_of 8 words) }
 {
-    fields::put(b, at, 8, words[0]);
-    fields::put(b, at + 8, 8, words[1]);
-    fields::put(b, at + 16, 8, words[2]);
-    fields::put(b, at + 24, 8, words[3]);
+    for (j, word) in words.iter().enumerate() {
+        fields::put(b, at + j * 8, 8, *word);
+    }
 }
 
 // Whether item `i` is dirty.
@@ -433,6 +457,7 @@ pub fn dirty(b: &[u8]) -> [u64; 4]
     words(b, AT_DIRTY)
 }
 
+#[tactic(auto, using(crate::proofs::Stores::dirty_stored))]
 pub fn put_dirty(b: &mut [u8], words: [u64; 4])
     requires { Readable b.old }
     ensures { Stands b.new (with_dirty (cache_of b.old) words) }
@@ -455,6 +480,7 @@ pub fn left(b: &[u8]) -> [u64; 4]
     words(b, AT_LEFT)
 }
 
+#[tactic(auto, using(crate::proofs::Stores::left_stored))]
 pub fn put_left(b: &mut [u8], words: [u64; 4])
     requires { Readable b.old }
     ensures { Stands b.new (with_left (cache_of b.old) words) }
@@ -464,6 +490,7 @@ pub fn put_left(b: &mut [u8], words: [u64; 4])
 
 // ---- an item's fields
 
+#[tactic(auto, using(crate::proofs::Places::number_at_lem))]
 pub fn blocks(b: &[u8], i: usize) -> u8
     requires { (length b.now ≡ state_bytes) × (i < 256) }
     ensures { result ≡ get_or (cache_of b.now).blocks i 0 }
@@ -471,6 +498,7 @@ pub fn blocks(b: &[u8], i: usize) -> u8
     fields::get(b, AT_BLOCKS + i, 1) as u8
 }
 
+#[tactic(auto, using(crate::proofs::Stores::blocks_stored))]
 pub fn put_blocks(b: &mut [u8], i: usize, v: u8)
     requires { Readable b.old × (i < 256) }
     ensures { Stands b.new (with_blocks (cache_of b.old) i v) }
@@ -478,6 +506,7 @@ pub fn put_blocks(b: &mut [u8], i: usize, v: u8)
     fields::put(b, AT_BLOCKS + i, 1, v as u64);
 }
 
+#[tactic(auto, using(crate::proofs::Places::number_at_lem))]
 pub fn item_load_cost(b: &[u8], i: usize) -> u16
     requires { (length b.now ≡ state_bytes) × (i < 256) }
     ensures { result ≡ get_or (cache_of b.now).load i 0 }
@@ -485,6 +514,7 @@ pub fn item_load_cost(b: &[u8], i: usize) -> u16
     fields::get(b, AT_ITEM_LOAD_COSTS + i * 2, 2) as u16
 }
 
+#[tactic(auto, using(crate::proofs::Stores::item_load_cost_stored))]
 pub fn put_item_load_cost(b: &mut [u8], i: usize, v: u16)
     requires { Readable b.old × (i < 256) }
     ensures { Stands b.new (with_item_load_cost (cache_of b.old) i v) }
@@ -492,6 +522,7 @@ pub fn put_item_load_cost(b: &mut [u8], i: usize, v: u16)
     fields::put(b, AT_ITEM_LOAD_COSTS + i * 2, 2, v as u64);
 }
 
+#[tactic(auto, using(crate::proofs::Places::number_at_lem))]
 pub fn item_write_cost(b: &[u8], i: usize) -> u16
     requires { (length b.now ≡ state_bytes) × (i < 256) }
     ensures { result ≡ get_or (cache_of b.now).write i 0 }
@@ -499,6 +530,7 @@ pub fn item_write_cost(b: &[u8], i: usize) -> u16
     fields::get(b, AT_ITEM_WRITE_COSTS + i * 2, 2) as u16
 }
 
+#[tactic(auto, using(crate::proofs::Stores::item_write_cost_stored))]
 pub fn put_item_write_cost(b: &mut [u8], i: usize, v: u16)
     requires { Readable b.old × (i < 256) }
     ensures { Stands b.new (with_item_write_cost (cache_of b.old) i v) }
@@ -506,6 +538,7 @@ pub fn put_item_write_cost(b: &mut [u8], i: usize, v: u16)
     fields::put(b, AT_ITEM_WRITE_COSTS + i * 2, 2, v as u64);
 }
 
+#[tactic(auto, using(crate::proofs::Places::number_at_lem))]
 pub fn load_credit(b: &[u8], i: usize) -> u64
     requires { (length b.now ≡ state_bytes) × (i < 256) }
     ensures { result ≡ get_or (cache_of b.now).loadcredit i 0 }
@@ -513,6 +546,7 @@ pub fn load_credit(b: &[u8], i: usize) -> u64
     fields::get(b, AT_LOAD_CREDITS + i * 8, 8)
 }
 
+#[tactic(auto, using(crate::proofs::Stores::load_credit_stored))]
 pub fn put_load_credit(b: &mut [u8], i: usize, v: u64)
     requires { Readable b.old × (i < 256) }
     ensures { Stands b.new (with_load_credit (cache_of b.old) i v) }
@@ -520,6 +554,7 @@ pub fn put_load_credit(b: &mut [u8], i: usize, v: u64)
     fields::put(b, AT_LOAD_CREDITS + i * 8, 8, v);
 }
 
+#[tactic(auto, using(crate::proofs::Places::number_at_lem))]
 pub fn write_credit(b: &[u8], i: usize) -> u64
     requires { (length b.now ≡ state_bytes) × (i < 256) }
     ensures { result ≡ get_or (cache_of b.now).writecredit i 0 }
@@ -527,6 +562,7 @@ pub fn write_credit(b: &[u8], i: usize) -> u64
     fields::get(b, AT_WRITE_CREDITS + i * 8, 8)
 }
 
+#[tactic(auto, using(crate::proofs::Stores::write_credit_stored))]
 pub fn put_write_credit(b: &mut [u8], i: usize, v: u64)
     requires { Readable b.old × (i < 256) }
     ensures { Stands b.new (with_write_credit (cache_of b.old) i v) }
@@ -534,6 +570,7 @@ pub fn put_write_credit(b: &mut [u8], i: usize, v: u64)
     fields::put(b, AT_WRITE_CREDITS + i * 8, 8, v);
 }
 
+#[tactic(auto, using(crate::proofs::Places::number_at_lem))]
 pub fn minutes(b: &[u8], i: usize) -> u32
     requires { (length b.now ≡ state_bytes) × (i < 256) }
     ensures { result ≡ get_or (cache_of b.now).minutes i 0 }
@@ -541,6 +578,7 @@ pub fn minutes(b: &[u8], i: usize) -> u32
     fields::get(b, AT_MINUTES + i * 4, 4) as u32
 }
 
+#[tactic(auto, using(crate::proofs::Stores::minutes_stored))]
 pub fn put_minutes(b: &mut [u8], i: usize, v: u32)
     requires { Readable b.old × (i < 256) }
     ensures { Stands b.new (with_minutes (cache_of b.old) i v) }
@@ -548,6 +586,7 @@ pub fn put_minutes(b: &mut [u8], i: usize, v: u32)
     fields::put(b, AT_MINUTES + i * 4, 4, v as u64);
 }
 
+#[tactic(auto, using(crate::proofs::Places::number_at_lem))]
 pub fn item_loads(b: &[u8], i: usize) -> u32
     requires { (length b.now ≡ state_bytes) × (i < 256) }
     ensures { result ≡ get_or (cache_of b.now).itemloads i 0 }
@@ -555,6 +594,7 @@ pub fn item_loads(b: &[u8], i: usize) -> u32
     fields::get(b, AT_ITEM_LOADS + i * 4, 4) as u32
 }
 
+#[tactic(auto, using(crate::proofs::Stores::item_loads_stored))]
 pub fn put_item_loads(b: &mut [u8], i: usize, v: u32)
     requires { Readable b.old × (i < 256) }
     ensures { Stands b.new (with_item_loads (cache_of b.old) i v) }
@@ -562,6 +602,7 @@ pub fn put_item_loads(b: &mut [u8], i: usize, v: u32)
     fields::put(b, AT_ITEM_LOADS + i * 4, 4, v as u64);
 }
 
+#[tactic(auto, using(crate::proofs::Places::number_at_lem))]
 pub fn item_writebacks(b: &[u8], i: usize) -> u32
     requires { (length b.now ≡ state_bytes) × (i < 256) }
     ensures { result ≡ get_or (cache_of b.now).itemwritebacks i 0 }
@@ -569,6 +610,7 @@ pub fn item_writebacks(b: &[u8], i: usize) -> u32
     fields::get(b, AT_ITEM_WRITEBACKS + i * 4, 4) as u32
 }
 
+#[tactic(auto, using(crate::proofs::Stores::item_writebacks_stored))]
 pub fn put_item_writebacks(b: &mut [u8], i: usize, v: u32)
     requires { Readable b.old × (i < 256) }
     ensures { Stands b.new (with_item_writebacks (cache_of b.old) i v) }
@@ -583,6 +625,7 @@ pub fn held(b: &[u8], i: usize) -> bool
     b[AT_HELD + i] != 0
 }
 
+#[tactic(auto, using(crate::proofs::Stores::held_stored))]
 pub fn put_held(b: &mut [u8], i: usize, f: bool)
     requires { Readable b.old × (i < 256) }
     ensures { Stands b.new (with_held (cache_of b.old) i f) }
@@ -597,26 +640,19 @@ pub fn clear(b: &mut [u8])
     requires { length b.old ≡ state_bytes }
     ensures { Stands b.new cleared }
 {
-    let mut i = 0;
-    while i < b.len() {
-        b[i] = 0;
-        i += 1;
-    }
+    b.fill(0);
     fields::put(b, AT_FORMAT, 4, FORMAT);
 }
 
-// Whether every byte from one place to another is at most a flag's 1. One test at the end, so that the loop goes by vectors.
-fn flags_ok(b: &[u8], from: usize, to: usize) -> bool
-    requires { (from ≤ to) × (to ≤ length b.now) }
-    ensures { Decided (FlagsWithin b.now from to) result }
+// The bits that are set in any of the bytes. They are tested once, in place of a test a byte, so that the loop goes by vectors.
+pub fn any_bits(bytes: &[u8]) -> u8
+    ensures { (k : ℕ) → (result < 2 ^ k) ↔ EachIndex bytes.now (λ i. slice_index bytes.now i < 2 ^ k) }
 {
-    let mut all: u8 = 0;
-    let mut i = from;
-    while i < to {
-        all = all | b[i];
-        i += 1;
+    let mut all = 0;
+    for x in bytes {
+        all |= *x;
     }
-    all < 2
+    all
 }
 
 // Whether every field has a value that the layout allows.
@@ -624,14 +660,8 @@ pub fn allowed(b: &[u8]) -> bool
     requires { length b.now ≡ state_bytes }
     ensures { Decided (AllowedBytes b.now) result }
 {
-    if fields::get(b, AT_FORMAT, 4) != FORMAT {
-        return false;
-    }
-    if 1 < fields::get(b, AT_CLOSED, 2) {
-        return false;
-    }
-    if 1 < fields::get(b, AT_RULE, 4) {
-        return false;
-    }
-    flags_ok(b, AT_HELD, AT_HELD + 256)
+    fields::get(b, AT_FORMAT, 4) == FORMAT
+        && fields::get(b, AT_CLOSED, 2) < 2
+        && fields::get(b, AT_RULE, 4) < 2
+        && any_bits(&b[AT_HELD..AT_RULE]) < 2
 }

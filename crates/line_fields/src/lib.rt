@@ -10,7 +10,7 @@ use types::Deduction;
 
 // What a field is, as the program holds it: a number above 4,294,967,295 counts as that one, which is outside every range too. A word
 // is a field of one byte or more that is nothing else, not the word of a rule either.
-#[derive(Clone, Copy)]
+#[derive(Clone, Copy, Debug, PartialEq, Eq)]
 pub enum Field {
     Number(u32),
     Letter(u8),

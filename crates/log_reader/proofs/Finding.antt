@@ -1,12 +1,12 @@
 -- The laws of a step that a text begins with: digits found one after another, the number that they are the text of, and texts that stand
 -- one behind the other. Assumes nothing.
-use mathlib.Core.Path.{◌≡◌, refl, sym, ap, subst, ◌∙◌}
-use mathlib.Core.Bool.{Bool, true, false, cond, not, ◌||◌, false≢true}
+use mathlib.Core.Path.{◌≡◌, refl, sym, ap, ◌∙◌}
+use mathlib.Core.Bool.{Bool, true, false, cond, ◌||◌, false≢true}
 use mathlib.Core.List.{List, [], ◌∷◌, ◌++◌}
 use Prim.Native.Nat.{ℕ, suc, ◌+◌, ◌*◌, ◌-◌, ◌≤◌, ◌<◌}
 use native.Mathlib.Nat.{add-zero}
 use native.Mathlib.Omega.{arith}
-use borrow.Author.Tests.{ltb-true, eqb-true, le-leb, not-false}
+use borrow.Author.Tests.{ltb-true, eqb-true, le-leb, ne_eqb}
 use lib.Dec.{ltb, eqb}
 use lib.ListN.{length, get_or, take, drop, length-append, length-take, length-drop}
 use lib.Seq.{length-take-le, take-suc, drop-cons, get_or-take, get_or-drop, drop-drop, take-add}
@@ -18,12 +18,11 @@ use Rattle.types.specs.declared.Numbers.{Numbers}
 use Rattle.types.specs.Types.{numbers_of}
 use Rattle.landlord.specs.Steps.{in_range, range_refusal}
 use Rattle.landlord.proofs.Steps.{range_free}
-use Rattle.season_lines.specs.Lines.{range_under}
+use Rattle.season_lines.specs.Lines.{kind_under, range_under}
 use Rattle.season_log.specs.Log.{no_values, step_text}
 use Rattle.season_log.proofs.Lines.{under_same}
-use Rattle.season_log.proofs.Writing.{old_kind, end_new, end_old}
-use Rattle.log_reader.specs.declared.Found.{Found}
-use Rattle.log_reader.specs.Inner.{part, DigitsAt, NumberAt, TextAt, EndAt, Begins, FoundIn}
+use Rattle.std.specs.{Prelude.Some, Bool.then_some}
+use Rattle.log_reader.specs.Inner.{part, DigitsAt, NumberAt, TextAt, EndAt, Begins}
 
 -- ## Digits found
 
@@ -91,31 +90,20 @@ module _ {text : List ℕ} {from v end : ℕ} (d : DigitsAt text from v end) whe
 
   -- ## A number found
 
-  number_shaped : (from < end → shaped (part from end text) ≡ true) → NumberAt text from v end
-  number_shaped s =
-      record {
-        onward = d.onward;
-        within = d.within;
-        number = λ k. sym (ap digits_of d.worth ∙ digits_value (part from end text) (s k));
-      }
+  number_shaped : from < end → shaped (part from end text) ≡ true → NumberAt text from v end
+  number_shaped k s = record { some = k; within = d.within; number = sym (ap digits_of d.worth ∙ digits_value (part from end text) s) }
 
   -- a digit alone
-  pub number_one : end ≤ from + 1 → NumberAt text from v end
-  number_one h =
-      number_shaped (λ k. shape_one (part from end text) (omega (arith, count)) (omega (arith, count)) d.digits)
+  pub number_one : from < end → end ≤ from + 1 → NumberAt text from v end
+  number_one k h =
+      number_shaped k (shape_one (part from end text) (omega (arith, count)) (omega (arith, count)) d.digits)
 
   -- or digits of which the first is no zero
-  pub number_more : (get_or text from 0 ≡ 48 → ⊥) → NumberAt text from v end
-  number_more h =
-      number_shaped
-      (λ k.
+  pub number_more : from < end → (get_or text from 0 ≡ 48 → ⊥) → NumberAt text from v end
+  number_more k h =
       let first : get_or (part from end text) 0 0 ≡ get_or text from 0 =
       get_or-take (end - from) (drop from text) 0 0 (omega arith) ∙ get_or-drop from text 0 0 ∙ ap (λ (n : ℕ). get_or text n 0) (add-zero from) in
-      shape_more (part from end text) (omega (arith, count)) (λ e. h (sym first ∙ e)) d.digits)
-
-  -- and nothing
-  pub number_none : NumberAt text from 0 from
-  number_none = record { onward = omega arith; within = omega (arith, d.onward, d.within); number = λ k. absurd (omega arith) }
+      number_shaped k (shape_more (part from end text) (omega (arith, count)) (λ e. h (sym first ∙ e)) d.digits)
 
 -- ## Texts that stand one behind the other
 
@@ -134,8 +122,8 @@ stands_within text at t h = omega (arith, ap length h, length-take (length t) (d
 
 -- a byte stands where it was found
 pub stands_byte :
-    (text : List ℕ) (at b : ℕ) (found : Bool) → found ≡ cond (ltb at (length text)) (eqb (get_or text at 0) b) false → not found ≡ false → TextAt text at (b ∷ [])
-stands_byte text at b found e k = go (ltb at (length text)) refl (sym e ∙ not-false found k)
+    (text : List ℕ) (at b : ℕ) (found : Bool) → found ≡ cond (ltb at (length text)) (eqb (get_or text at 0) b) false → found ≡ true → TextAt text at (b ∷ [])
+stands_byte text at b found e k = go (ltb at (length text)) refl (sym e ∙ k)
   where
     go : (t : Bool) → ltb at (length text) ≡ t → cond t (eqb (get_or text at 0) b) false ≡ true → TextAt text at (b ∷ [])
     go true e h =
@@ -143,70 +131,64 @@ stands_byte text at b found e k = go (ltb at (length text)) refl (sym e ∙ not-
         ∙ ap (λ (x : ℕ). x ∷ []) (eqb-true (get_or text at 0) b h)
     go false e h = absurd (false≢true h)
 
-module _ {text : List ℕ} {from v end : ℕ} (n : NumberAt text from v end) (some : from < end) where
+module _ {text : List ℕ} {from v end : ℕ} (n : NumberAt text from v end) where
   digits_count : from + length (digits_of v) ≡ end
   digits_count =
-      omega (arith, n.onward, ap length (n.number some), part_length text from end n.onward n.within)
+      omega (arith, n.some, ap length n.number, part_length text from end (omega (arith, n.some)) n.within)
 
   stands_number : TextAt text from (digits_of v)
   stands_number =
       let e : length (digits_of v) ≡ end - from = omega (arith, digits_count) in
-      ap (λ (k : ℕ). take k (drop from text)) e ∙ n.number some
+      ap (λ (k : ℕ). take k (drop from text)) e ∙ n.number
 
 -- ## The end of a line
 
-pub no_end : (heading : ℕ) (text : List ℕ) (at : ℕ) → EndAt heading text at 0
-no_end heading text at = λ some. absurd (omega arith)
-
-pub end_feed : (heading : ℕ) (text : List ℕ) (at : ℕ) → (heading ≡ 1 → ⊥) → TextAt text at (text_of "\n") → EndAt heading text at (at + 1)
-end_feed heading text at n h =
-    λ some.
-    let e = sym (end_old heading n) in
-    (ap (λ (t : List ℕ). at + length t) e, subst (TextAt text at) e h)
+pub end_found :
+    (heading : ℕ) (text : List ℕ) (at : ℕ) (found : Bool) →
+    (heading ≡ 1 → ⊥) →
+    found ≡ cond (ltb at (length text)) (eqb (get_or text at 0) 10) false →
+    EndAt heading text at (then_some found (at + 1))
+end_found heading text at false n e = tt
+end_found heading text at true n e = rw (ne_eqb heading 1 n) (refl, stands_byte text at 10 true e refl)
 
 pub end_dashes :
-    (heading : ℕ) (text : List ℕ) (at : ℕ) → heading ≡ 1 → same_text (part at (at + 7) text) (text_of " - - -\n") ≡ true → EndAt heading text at (at + 7)
+    (heading : ℕ) (text : List ℕ) (at : ℕ) →
+    heading ≡ 1 →
+    same_text (part at (at + 7) text) (text_of " - - -\n") ≡ true →
+    EndAt heading text at (Some (at + 7))
 end_dashes heading text at f h =
-    λ some.
-    let e = sym (end_new heading f) in
     let seven : at + 7 - at ≡ 7 = omega arith in
     let here : TextAt text at (text_of " - - -\n") =
     ap (λ (n : ℕ). take n (drop at text)) (sym seven) ∙ same_true (part at (at + 7) text) (text_of " - - -\n") h in
-    (ap (λ (t : List ℕ). at + length t) e, subst (TextAt text at) e here)
+    rw f (refl, here)
 
 -- ## A line found
 
-pub none_in : (heading : ℕ) (text : List ℕ) (r : Found) → r.bytes ≡ 0 → FoundIn heading text r
-none_in heading text r e = λ some. absurd (omega arith)
-
 -- a step that every heading has
 ranged_under : (heading : ℕ) (n : Numbers) → (eqb n.kind 65 || eqb n.kind 81) ≡ false → in_range n ≡ true → range_under heading n ≡ 0
-ranged_under heading n e r = ap range_refusal (under_same heading n (old_kind heading n.kind e)) ∙ range_free n r
+ranged_under heading n e r = let kind : kind_under heading n.kind ≡ n.kind = grind arith in ap range_refusal (under_same heading n kind) ∙ range_free n r
 
 module _ (heading : ℕ) (text : List ℕ) where
   pub read_begins :
       (v end bytes : ℕ) →
       take 2 text ≡ text_of "R " →
       NumberAt text 2 v end →
-      2 < end →
       v ≤ 255 →
       TextAt text end (32 ∷ []) →
       TextAt text (end + 1) (45 ∷ []) →
-      EndAt heading text (end + 2) bytes →
-      0 < bytes →
+      EndAt heading text (end + 2) (Some bytes) →
       Begins heading text (Read v) bytes
   unfolding step_text
-  read_begins v end bytes kind item some small space dash ends more =
-      let feed = ends more in
+  read_begins v end bytes kind item small space dash feed =
       let last : List ℕ = text_of " -" ++ no_values heading in
       let close : TextAt text end last =
       stands_then text end (end + 1) (32 ∷ []) (45 ∷ no_values heading) space refl
       (stands_then text (end + 1) (end + 2) (45 ∷ []) (no_values heading) dash (omega arith) feed.1) in
       let line : TextAt text 0 (step_text heading (Read v)) =
       stands_then text 0 2 (text_of "R ") (digits_of v ++ last) kind refl
-      (stands_then text 2 end (digits_of v) last (stands_number item some) (digits_count item some) close) in
+      (stands_then text 2 end (digits_of v) last (stands_number item) (digits_count item) close) in
       let count : bytes ≡ length (step_text heading (Read v)) =
-      omega (arith, feed.0, digits_count item some, length-append (digits_of v) last) in
+      omega (arith, feed.0, digits_count item, length-append (digits_of v) last) in
       record {
         count = count;
         line = ap (λ (n : ℕ). take n text) count ∙ line;
@@ -217,37 +199,32 @@ module _ (heading : ℕ) (text : List ℕ) where
       (v space m end bytes : ℕ) →
       take 2 text ≡ text_of "W " →
       NumberAt text 2 v space →
-      2 < space →
       v ≤ 255 →
       TextAt text space (32 ∷ []) →
       NumberAt text (space + 1) m end →
-      space + 1 < end →
       m ≤ 1440 →
-      EndAt heading text end bytes →
-      0 < bytes →
+      EndAt heading text end (Some bytes) →
       Begins heading text (Write v m) bytes
   unfolding step_text
-  write_begins v space m end bytes kind item some small between minutes more few ends all =
-      let feed = ends all in
+  write_begins v space m end bytes kind item small between minutes few feed =
       let last : List ℕ = digits_of m ++ no_values heading in
       let close : TextAt text (space + 1) last =
-      stands_then text (space + 1) end (digits_of m) (no_values heading) (stands_number minutes more) (digits_count minutes more) feed.1 in
+      stands_then text (space + 1) end (digits_of m) (no_values heading) (stands_number minutes) (digits_count minutes) feed.1 in
       let line : TextAt text 0 (step_text heading (Write v m)) =
       stands_then text 0 2 (text_of "W ") (digits_of v ++ (text_of " " ++ last)) kind refl
-      (stands_then text 2 space (digits_of v) (text_of " " ++ last) (stands_number item some) (digits_count item some)
+      (stands_then text 2 space (digits_of v) (text_of " " ++ last) (stands_number item) (digits_count item)
       (stands_then text space (space + 1) (text_of " ") last between refl close)) in
       let count : bytes ≡ length (step_text heading (Write v m)) =
-      omega (arith, feed.0, digits_count item some, digits_count minutes more, length-append (digits_of v) (text_of " " ++ last), length-append (digits_of m) (no_values heading)) in
+      omega (arith, feed.0, digits_count item, digits_count minutes, length-append (digits_of v) (text_of " " ++ last), length-append (digits_of m) (no_values heading)) in
       record {
         count = count;
         line = ap (λ (n : ℕ). take n text) count ∙ line;
         ranged = ranged_under heading (numbers_of (Write v m)) refl (rw (le-leb v 255 small) (le-leb m 1440 few));
       }
 
-  pub flush_begins : (bytes : ℕ) → same_text (take 5 text) (text_of "L - -") ≡ true → EndAt heading text 5 bytes → 0 < bytes → Begins heading text Flush bytes
+  pub flush_begins : (bytes : ℕ) → same_text (take 5 text) (text_of "L - -") ≡ true → EndAt heading text 5 (Some bytes) → Begins heading text Flush bytes
   unfolding step_text
-  flush_begins bytes h ends all =
-      let feed = ends all in
+  flush_begins bytes h feed =
       let line : TextAt text 0 (step_text heading Flush) =
       stands_then text 0 5 (text_of "L - -") (no_values heading) (same_true (take 5 text) (text_of "L - -") h) refl feed.1 in
       let count : bytes ≡ length (step_text heading Flush) = omega (arith, feed.0) in

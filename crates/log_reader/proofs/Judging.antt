@@ -6,8 +6,8 @@ use mathlib.Core.Logic.{◌⊎◌, ⊎_elim}
 use Prim.Native.Nat.{ℕ, ◌+◌, ◌-◌, ◌≤◌, ◌<◌}
 use native.Mathlib.Numerals.{add-one}
 use native.Mathlib.Omega.{arith}
-use borrow.Author.Tests.{ltb-true, ltb-false, eqb-true, eqb-false}
-use lib.Dec.{ltb, eqb}
+use borrow.Author.Tests.{ltb-true, ltb-false}
+use lib.Dec.{ltb}
 use lib.ListN.{length, take, drop, set, length-append, length-drop, length-set}
 use lib.Seq.{length-take-le, take-suc-set, get_or_at, drop-drop, take_all}
 use Rattle.types.specs.declared.Refusal.TheVariants.{Malformed}
@@ -16,9 +16,9 @@ use Rattle.line_fields.specs.declared.Field.TheVariants.{Empty}
 use Rattle.line_fields.specs.Fields.{split, field_of, all_fields, fields_of, field_at, is_empty, none_empty}
 use Rattle.line_fields.specs.Inner.{before, held_field}
 use Rattle.line_fields.proofs.Pieces.{before_le, before_take, split_last, split_more, none_empty_more}
-use Rattle.season_lines.specs.declared.Line.TheVariants.{Refused}
 use Rattle.season_lines.specs.Lines.{names_in, line_in}
-use Rattle.season_lines.proofs.Laws.{names_2, names_values}
+use Rattle.season_lines.proofs.Laws.{names_are}
+use Rattle.std.specs.Prelude.{Err}
 use Rattle.season_lines.proofs.Pieces.{many_malformed, empty_malformed}
 use Rattle.season_lines.proofs.Held.{held_line}
 
@@ -78,11 +78,7 @@ fields_begin l fields e = record { slots = e; few = omega arith; some = refl; go
 
 -- the log's headings have at most six names
 names_few : (heading : ℕ) → names_in 2 heading ≤ 6
-names_few heading = go (eqb heading 1) refl
-  where
-    go : (t : Bool) → eqb heading 1 ≡ t → names_in 2 heading ≤ 6
-    go true e = omega (arith, names_values 2 heading refl (eqb-true heading 1 e))
-    go false e = omega (arith, names_2 2 heading refl (eqb-false heading 1 e))
+names_few heading = grind (arith, names_are 2 heading)
 
 -- the loop's measure: the bytes that are left for fields
 abbrev pub fields_left : ℕ → ℕ → Bool → ℕ
@@ -95,88 +91,87 @@ fewer_left size at m more e h = rw e (go (ltb (at + m) size) refl)
     go true w = let l = ltb-true (at + m) size w in omega arith
     go false w = omega arith
 
--- where a field ends
-pub field_le :
-    (l : List ℕ) (fields : List Field) (count at m : ℕ) →
-    Fielded l fields count at true →
-    m ≡ length (before 32 (tail at l)) →
-    at + m ≤ length l
-field_le l fields count at m f em = piece_le 32 l at m (tail_found 32 l at m em) (f.going refl)
-
 module _
-    (l : List ℕ) (fields : List Field) (count at m : ℕ) (field : Field)
-    (f : Fielded l fields count at true)
+    {l : List ℕ} {fields : List Field} {count at m : ℕ} {more : Bool}
+    (f : Fielded l fields count at more)
+    (t : more ≡ true)
     (em : m ≡ length (before 32 (tail at l)))
-    (ef : field ≡ held_field (field_of (take (at + m - at) (drop at l))))
   where
     found : m ≡ length (before 32 (drop at l))
     found = tail_found 32 l at m em
 
-    -- the fields from here on: this one, and what is behind it
-    abbrev rest : List Field
-    rest = field ∷ held_from l (at + m + 1) (ltb (at + m) (length l))
+    -- where a field ends
+    pub field_le : at + m ≤ length l
+    field_le = piece_le 32 l at m found (f.going t)
 
-    first : held_from l at true ≡ rest
-    unfolding all_fields
-    first = ap (map held_field) (go (ltb (at + m) (length l)) refl) ∙ ap (λ (x : Field). x ∷ held_from l (at + m + 1) (ltb (at + m) (length l))) (sym here)
-      where
-        here : field ≡ held_field (field_of (take m (drop at l)))
-        here = let k : at + m - at ≡ m = omega arith in ef ∙ ap (λ (n : ℕ). held_field (field_of (take n (drop at l)))) k
+    module _ {field : Field} (ef : field ≡ held_field (field_of (take (at + m - at) (drop at l)))) where
+      -- the fields from here on: this one, and what is behind it
+      abbrev rest : List Field
+      rest = field ∷ held_from l (at + m + 1) (ltb (at + m) (length l))
 
-        go : (t : Bool) → ltb (at + m) (length l) ≡ t → fields_of (drop at l) ≡ field_of (take m (drop at l)) ∷ cond t (fields_of (drop (at + m + 1) l)) []
-        go true t = ap all_fields (more_pieces 32 l at m found (at + m + 1) refl (ltb-true (at + m) (length l) t))
-        go false t = ap all_fields (last_piece 32 l at m found (ltb-false (at + m) (length l) t))
+      first : held_from l at true ≡ rest
+      unfolding all_fields
+      first = ap (map held_field) (go (ltb (at + m) (length l)) refl) ∙ ap (λ (x : Field). x ∷ held_from l (at + m + 1) (ltb (at + m) (length l))) (sym here)
+        where
+          here : field ≡ held_field (field_of (take m (drop at l)))
+          here = let k : at + m - at ≡ m = omega arith in ef ∙ ap (λ (n : ℕ). held_field (field_of (take n (drop at l)))) k
 
-    fields_here : take count fields ++ rest ≡ map held_field (fields_of l)
-    fields_here = ap (λ (x : List Field). take count fields ++ x) (sym first) ∙ f.same
+          go : (t : Bool) → ltb (at + m) (length l) ≡ t → fields_of (drop at l) ≡ field_of (take m (drop at l)) ∷ cond t (fields_of (drop (at + m + 1) l)) []
+          go true t = ap all_fields (more_pieces 32 l at m found (at + m + 1) refl (ltb-true (at + m) (length l) t))
+          go false t = ap all_fields (last_piece 32 l at m found (ltb-false (at + m) (length l) t))
 
-    pub field_more :
-        (more : Bool) →
-        more ≡ ltb (at + m) (length l) →
-        count < 6 →
-        is_empty field ≡ false →
-        Fielded l (set fields count field) (count + 1) (at + m + 1) more
-    field_more more e h o =
-        let slots = f.slots in
-        record {
-          slots = length-set fields count field ∙ slots;
-          few = omega arith;
-          some =
-              rw (add-one count, take-suc-set fields count field (omega arith))
-              (none_empty_more (take count fields) field f.some o);
-          going = λ t. (let u = ltb-true (at + m) (length l) (sym e ∙ t) in omega arith);
-          same =
-              rw (e, add-one count, take-suc-set fields count field (omega arith), append_assoc (take count fields) (field ∷ []))
-              fields_here;
-        }
+      fields_here : take count fields ++ rest ≡ map held_field (fields_of l)
+      fields_here = ap (λ (x : List Field). take count fields ++ x) (sym first) ∙ rw t at f.same
 
-    -- no line has an empty field, and none of this table more than six
-    pub field_malformed : (heading n : ℕ) → (is_empty field ≡ true) ⊎ (6 ≤ count) → Refused (Malformed n) ≡ line_in 2 heading (fields_of l) n
-    field_malformed heading n = ⊎_elim empty many
-      where
-        -- the line is judged by its fields as they are held
-        judged : line_in 2 heading (take count fields ++ rest) n ≡ Refused (Malformed n) → Refused (Malformed n) ≡ line_in 2 heading (fields_of l) n
-        judged e = sym (sym (held_line 2 heading (fields_of l) n) ∙ (rw (← fields_here) e))
+      pub field_more :
+          {after : Bool} →
+          after ≡ ltb (at + m) (length l) →
+          count < 6 →
+          is_empty field ≡ false →
+          Fielded l (set fields count field) (count + 1) (at + m + 1) after
+      field_more e h o =
+          let slots = f.slots in
+          record {
+            slots = length-set fields count field ∙ slots;
+            few = omega arith;
+            some =
+                rw (add-one count, take-suc-set fields count field (omega arith))
+                (none_empty_more (take count fields) field f.some o);
+            going = λ t. (let u = ltb-true (at + m) (length l) (sym e ∙ t) in omega arith);
+            same =
+                rw (e, add-one count, take-suc-set fields count field (omega arith), append_assoc (take count fields) (field ∷ []))
+                fields_here;
+          }
 
-        slots : length (take count fields) ≡ count
-        slots = length-take-le count fields (omega (arith, f.slots, f.few))
+      -- no line has an empty field, and none of this table more than six
+      pub field_malformed : (heading n : ℕ) → (is_empty field ≡ true) ⊎ (6 ≤ count) → Err (Malformed n) ≡ line_in 2 heading (fields_of l) n
+      field_malformed heading n = ⊎_elim empty many
+        where
+          -- the line is judged by its fields as they are held
+          judged : line_in 2 heading (take count fields ++ rest) n ≡ Err (Malformed n) → Err (Malformed n) ≡ line_in 2 heading (fields_of l) n
+          judged e = sym (sym (held_line 2 heading (fields_of l) n) ∙ (rw (← fields_here) e))
 
-        size : length (take count fields ++ rest) ≡ count + length rest
-        size = length-append (take count fields) rest ∙ (rw slots)
+          slots : length (take count fields) ≡ count
+          slots = length-take-le count fields (omega (arith, f.slots, f.few))
 
-        here : field_at (take count fields ++ rest) count ≡ field
-        here = get_or_at (take count fields) field _ Empty count slots
+          size : length (take count fields ++ rest) ≡ count + length rest
+          size = length-append (take count fields) rest ∙ (rw slots)
 
-        empty : is_empty field ≡ true → Refused (Malformed n) ≡ line_in 2 heading (fields_of l) n
-        empty o = judged (empty_malformed 2 heading (take count fields ++ rest) n count (omega (arith, size)) (rw here o))
+          here : field_at (take count fields ++ rest) count ≡ field
+          here = get_or_at (take count fields) field _ Empty count slots
 
-        many : 6 ≤ count → Refused (Malformed n) ≡ line_in 2 heading (fields_of l) n
-        many h = judged (many_malformed 2 heading (take count fields ++ rest) n (omega (arith, size, names_few heading)))
+          empty : is_empty field ≡ true → Err (Malformed n) ≡ line_in 2 heading (fields_of l) n
+          empty o = judged (empty_malformed 2 heading (take count fields ++ rest) n count (omega (arith, size)) (rw here o))
+
+          many : 6 ≤ count → Err (Malformed n) ≡ line_in 2 heading (fields_of l) n
+          many h = judged (many_malformed 2 heading (take count fields ++ rest) n (omega (arith, size, names_few heading)))
 
 -- all fields are found
 pub fields_judged :
-    (l : List ℕ) (fields : List Field) (count at : ℕ) (heading n : ℕ) →
-    Fielded l fields count at false →
+    {l : List ℕ} {fields : List Field} {count at : ℕ} {more : Bool} (heading n : ℕ) →
+    Fielded l fields count at more →
+    more ≡ false →
     line_in 2 heading (take count fields) n ≡ line_in 2 heading (fields_of l) n
-fields_judged l fields count at heading n f =
-    ap (λ (fs : List Field). line_in 2 heading fs n) (sym (append-nil (take count fields)) ∙ f.same) ∙ held_line 2 heading (fields_of l) n
+fields_judged {l} {fields} {count} {at} {more} heading n f t =
+    let all : take count fields ++ [] ≡ map held_field (fields_of l) = rw t at f.same in
+    ap (λ (fs : List Field). line_in 2 heading fs n) (sym (append-nil (take count fields)) ∙ all) ∙ held_line 2 heading (fields_of l) n

@@ -3,44 +3,37 @@
 use mathlib.Core.Path.{◌≡◌, refl, sym, ap, ◌∙◌}
 use mathlib.Core.Bool.{Bool, true, false, cond}
 use mathlib.Core.List.{List, [], ◌∷◌, ◌++◌, append_assoc, append-nil}
-use mathlib.Core.Logic.{◌⊎◌, inl, inr}
 use Prim.Native.Nat.{ℕ, suc, ◌+◌, ◌*◌, ◌≤◌, ◌<◌}
 use native.Mathlib.Omega.{arith}
-use borrow.Author.Tests.{ltb-true, ltb-false, lt-ltb, le-ltb, le-leb, lt-leb, eq-eqb, ne_eqb}
+use borrow.Author.Tests.{ltb-true, ltb-false, lt-ltb, le-ltb, eq-eqb, ne_eqb}
 use lib.Dec.{ltb, eqb}
 use lib.ListN.{length, take, drop, length-append, length-drop, drop_of_length-le, take-append-drop}
-use lib.Seq.{sets, sets-eq, length-sets, drop-drop, take_at}
+use lib.Seq.{sets, sets-eq, length-sets, drop-drop}
 use Rattle.decimal.specs.Decimal.{text_of, digits_of}
 use Rattle.decimal.specs.InnerPages.{text_over}
-use Rattle.decimal.proofs.Laws.{digits_some, page_all, page_none}
+use Rattle.decimal.proofs.Laws.{digits_some}
 use Rattle.decimal.proofs.Pages.{over_at, over_start, over_join}
 use Rattle.fields.specs.LittleEndian.{to_bytes}
 use Rattle.fields.proofs.Laws.{length_to, sets_then}
 use Rattle.types.specs.declared.Refusal.{Refusal}
-use Rattle.types.specs.declared.Refusal.TheVariants.{Malformed, Heading, ShortBuffer, InputTooLong}
+use Rattle.types.specs.declared.Refusal.TheVariants.{Malformed, Heading}
 use Rattle.types.specs.declared.Step.{Step}
 use Rattle.types.specs.declared.Step.TheVariants.{Read, Write, Flush, Arrive, Retire}
 use Rattle.types.specs.declared.Numbers.{Numbers}
-use Rattle.types.specs.Types.{numbers_from, numbers_of}
+use Rattle.types.specs.Types.{numbers_of}
 use Rattle.line_fields.specs.Fields.{split, fields_of}
 use Rattle.line_fields.specs.Inner.{before}
 use Rattle.line_fields.proofs.Pieces.{before_take, split_last, split_more, split_some}
-use Rattle.season_lines.specs.declared.Names.{Names}
-use Rattle.season_lines.specs.declared.Names.TheVariants.{Known, Unknown}
 use Rattle.season_lines.specs.declared.Line.{Line}
-use Rattle.season_lines.specs.declared.Line.TheVariants.{Sizes, Item as ItemLine, Step as StepLine, Act as ActLine, Refused}
+use Rattle.season_lines.specs.declared.Line.TheVariants.{Step as StepLine}
 use Rattle.season_lines.specs.Lines.{heading_of, range_under, line_in}
-use Rattle.season_log.specs.Log.{Logged, steps, fault, ahead, no_values, step_text, numbers_onto, list_of, line_ahead, read_lines, headed, read_table, read_log}
+use Rattle.season_log.specs.Log.{Logged, steps, fault, ahead, no_values, step_text, numbers_onto, list_of, line_ahead, read_lines, headed, read_table}
 use Rattle.season_log.specs.Inner.{onward}
-use Rattle.season_log.proofs.Lines.{split_first, ranged, line_of, step_line_lem, line_lacks, no_step as refused-no-step, step_written, step_reads}
+use Rattle.season_log.proofs.Lines.{split_first, ranged, line_of, step_line_lem, line_lacks, step_written, step_reads}
 use Rattle.season_log.proofs.OneText.{onward_none, onward_more, length_list}
-use Rattle.log_reader.specs.declared.Found.{Found}
-use Rattle.log_reader.specs.declared.Next.{Next}
-use Rattle.log_reader.specs.declared.Next.TheVariants.{Step as NextStep, Refused as NextRefused}
-use Rattle.log_reader.specs.declared.ReadAnswer.{ReadAnswer}
-use Rattle.log_reader.specs.declared.ReadAnswer.TheVariants.{Steps, Refused as Not}
-use Rattle.log_reader.specs.Answers.{read_answer, read_list}
-use Rattle.log_reader.specs.Inner.{Begins, FoundStep, line_refusal, first_line, FirstIs, three_numbers, ReadSoFar, Roomy, ReadsOn, StepsIn, ReadInto}
+use Rattle.std.specs.Prelude.{Option, Some, None, Result, Ok, Err}
+use Rattle.log_reader.specs.declared.{FirstStep.FirstStep, Steps.Steps}
+use Rattle.log_reader.specs.Inner.{Begins, first_line, FirstIs, three_numbers, ReadSoFar, Roomy, ReadsOn, ReadInto}
 use Rattle.log_reader.proofs.Judging.{tail, tail_is, piece_is, piece_length, last_piece, more_pieces}
 
 -- ## The lines
@@ -58,7 +51,7 @@ line_left heading n s p = go (ltb (length (before 10 s)) (length s)) refl
         (t : Bool) →
         ltb (length (before 10 s)) (length s) ≡ t →
         read_lines heading n (split 10 s)
-        ≡ line_ahead (cond t (line_in 2 heading (fields_of (before 10 s)) n) (Refused (Malformed n)))
+        ≡ line_ahead (cond t (line_in 2 heading (fields_of (before 10 s)) n) (Err (Malformed n)))
         (read_lines heading (suc n) (split 10 (drop (length (before 10 s) + 1) s)))
     go true h =
         rw (split_more 10 s (ltb-true (length (before 10 s)) (length s) h), (split_some 10 (drop (length (before 10 s) + 1) s)).1)
@@ -70,24 +63,6 @@ line_left heading n s p = go (ltb (length (before 10 s)) (length s)) refl
 none_left_lem : (heading : ℕ) (text : List ℕ) (at n : ℕ) → length text ≤ at → read_lines heading n (split 10 (drop at text)) ≡ steps heading []
 unfolding read_lines split
 none_left_lem heading text at n h = rw (drop_of_length-le text {i = at} h)
-
--- a line that is no step
-abbrev pub NoStep : Line → Type 0
-NoStep l = (s : Step) → l ≡ StepLine s → ⊥
-
-no_step : (l : Line) (rest : Logged) → NoStep l → line_ahead l rest ≡ fault (line_refusal l)
-no_step (StepLine s) rest h = absurd (h s refl)
-no_step (Refused r) rest h = refl
-no_step (Sizes k w r) rest h = refl
-no_step (ItemLine i b l w) rest h = refl
-no_step (ActLine place act) rest h = refl
-
--- the number of a step's variant is none of the others'
-pub no_two : (n : ℕ) → n ≡ 2 → (n ≡ 0) ⊎ (n ≡ 1) ⊎ (n ≡ 3) ⊎ (n ≡ 4) → ⊥
-no_two n e (inl h) = omega arith
-no_two n e (inr (inl h)) = omega arith
-no_two n e (inr (inr (inl h))) = omega arith
-no_two n e (inr (inr (inr h))) = omega arith
 
 -- a step's line has five bytes or more, and a line feed
 end_some : (heading : ℕ) → 1 ≤ length (no_values heading)
@@ -114,7 +89,7 @@ step_long heading (Arrive i b l w) =
     omega (arith, length-append (digits_of i) (text_of " - " ++ (digits_of b ++ (text_of " " ++ (digits_of l ++ (text_of " " ++ (digits_of w ++ text_of "\n")))))), digits_some i)
 step_long heading (Retire i) = omega (arith, end_some heading, length-append (digits_of i) (text_of " -" ++ no_values heading), digits_some i)
 
-line_long : (heading : ℕ) (l : List ℕ) (n : ℕ) (s : Step) → line_in 2 heading (fields_of l) n ≡ StepLine s → 5 ≤ length l
+line_long : (heading : ℕ) (l : List ℕ) (n : ℕ) (s : Step) → line_in 2 heading (fields_of l) n ≡ Ok (StepLine s) → 5 ≤ length l
 line_long heading l n s e = omega (arith, step_long heading s, ap length (step_written heading l n s e).0, length-append l (10 ∷ []))
 
 -- ## The first line
@@ -122,50 +97,43 @@ line_long heading l n s e = omega (arith, step_long heading s, ap length (step_w
 -- its line feed is found behind m bytes, or its end
 module _ (heading n : ℕ) (s : List ℕ) (m : ℕ) (e : m ≡ length (before 10 s)) where
   -- it has none
-  pub first_unfed : length s ≤ m → FirstIs (first_line heading n s) s (NextRefused (Malformed n))
+  pub first_unfed : length s ≤ m → first_line heading n s ≡ Err (Malformed n)
   unfolding first_line
-  first_unfed h rest = rw (le-ltb (length (before 10 s)) (length s) (omega arith))
+  first_unfed h = rw (le-ltb (length (before 10 s)) (length s) (omega arith))
 
   -- it is judged
-  module _ (l : Line) (fed : m < length s) (is : l ≡ line_in 2 heading (fields_of (take m s)) n) where
-    first_fed : first_line heading n s ≡ l
-    unfolding first_line
-    first_fed =
-        rw (lt-ltb (length (before 10 s)) (length s) (omega arith))
-        (sym (is ∙ ap (λ (t : List ℕ). line_in 2 heading (fields_of t) n) (piece_is 10 s 0 m e)))
-
-    pub first_refused : (r : Refusal) → NoStep l → r ≡ line_refusal l → FirstIs (first_line heading n s) s (NextRefused r)
-    first_refused r h q rest = ap (λ (v : Line). line_ahead v rest) first_fed ∙ no_step l rest h ∙ ap fault (sym q)
-
-    pub first_step : (t : Step) → l ≡ StepLine t → FirstIs (first_line heading n s) s (NextStep t (m + 1))
-    first_step t f = (first_fed ∙ f, omega arith)
+  pub first_fed : m < length s → first_line heading n s ≡ line_in 2 heading (fields_of (take m s)) n
+  unfolding first_line
+  first_fed h =
+      rw (lt-ltb (length (before 10 s)) (length s) (omega arith))
+      (sym (ap (λ (t : List ℕ). line_in 2 heading (fields_of t) n) (piece_is 10 s 0 m e)))
 
 -- it is as the writer writes it
-pub first_written : (heading n : ℕ) (s : List ℕ) (t : Step) (m : ℕ) → Begins heading s t m → FirstIs (first_line heading n s) s (NextStep t m)
-first_written heading n s t m g =
-    let rest : List ℕ = drop m s in
+pub first_written : (heading n : ℕ) (s : List ℕ) (f : FirstStep) → Begins heading s f.step f.bytes → FirstIs (first_line heading n s) s (Ok f)
+first_written heading n s f g =
+    let t = f.step in
+    let rest : List ℕ = drop f.bytes s in
     let r : ranged heading t ≡ true = eq-eqb (range_under heading (numbers_of t)) 0 g.ranged in
     let size : length (step_text heading t) ≡ length (line_of heading t) + 1 = ap length (step_line_lem heading t r) ∙ length-append (line_of heading t) (10 ∷ []) in
     let text : s ≡ line_of heading t ++ (10 ∷ rest) =
-    sym (take-append-drop m s)
+    sym (take-append-drop f.bytes s)
     ∙ ap (λ (l : List ℕ). l ++ rest) (g.line ∙ step_line_lem heading t r)
     ∙ append_assoc (line_of heading t) (10 ∷ []) rest in
     let pieces : before 10 s ∷ (split_some 10 s).0 ≡ line_of heading t ∷ split 10 rest =
     sym (split_some 10 s).1 ∙ ap (split 10) text ∙ split_first 10 (line_of heading t) rest (line_lacks heading t) in
     let line : before 10 s ≡ line_of heading t = cc in
     let fed : length (before 10 s) < length s =
-    omega (arith, ap length line, ap length text, length-append (line_of heading t) (10 ∷ rest)) in
-    let reads : line_in 2 heading (fields_of (take (length (before 10 s)) s)) n ≡ StepLine t =
-    ap (λ (l : List ℕ). line_in 2 heading (fields_of l) n) (before_take 10 s ∙ line)
-    ∙ step_reads heading (line_of heading t) n t r (step_line_lem heading t r) in (
-      first_fed heading n s (length (before 10 s)) refl (StepLine t) fed (sym reads),
+    omega (arith, ap length line, ap length text, length-append (line_of heading t) (10 ∷ rest)) in (
+      first_fed heading n s (length (before 10 s)) refl fed
+          ∙ ap (λ (l : List ℕ). line_in 2 heading (fields_of l) n) (before_take 10 s ∙ line)
+          ∙ step_reads heading (line_of heading t) n t r (step_line_lem heading t r),
       omega (arith, g.count, size, ap length line),
     )
 
 -- a step has five bytes or more, and its line feed
 first_long :
     (heading n : ℕ) (s : List ℕ) (t : Step) →
-    first_line heading n s ≡ StepLine t →
+    first_line heading n s ≡ Ok (StepLine t) →
     (5 ≤ length (before 10 s)) × (length (before 10 s) < length s)
 unfolding first_line
 first_long heading n s t e = go (ltb (length (before 10 s)) (length s)) refl e
@@ -173,10 +141,10 @@ first_long heading n s t e = go (ltb (length (before 10 s)) (length s)) refl e
     go :
         (b : Bool) →
         ltb (length (before 10 s)) (length s) ≡ b →
-        cond b (line_in 2 heading (fields_of (before 10 s)) n) (Refused (Malformed n)) ≡ StepLine t →
+        cond b (line_in 2 heading (fields_of (before 10 s)) n) (Err (Malformed n)) ≡ Ok (StepLine t) →
         (5 ≤ length (before 10 s)) × (length (before 10 s) < length s)
     go true h e = (line_long heading (before 10 s) n t e, ltb-true (length (before 10 s)) (length s) h)
-    go false h e = absurd (refused-no-step (Malformed n) t e)
+    go false h e = cc
 
 -- ## Steps as a list
 
@@ -250,17 +218,8 @@ reading_begins heading text old =
       within = omega arith;
     }
 
--- where one is, there is room for the steps that are left
-pub so_far_roomy :
-    {heading : ℕ} {text old : List ℕ} {at count : ℕ} {list : List ℕ} →
-    (length text ≤ 65536) × (262128 ≤ length old) →
-    ReadSoFar heading text old at count list →
-    Roomy text at count list
-so_far_roomy fit g = (fit.0, omega (arith, fit.1, g.long), g.spent, g.within)
-
 -- bytes are left, and their first line is read next
-module _ (heading : ℕ) (text : List ℕ) (at count : ℕ) (next : Next)
-    (more : at < length text) (is : FirstIs (first_line heading (count + 2) (tail at text)) (tail at text) next) where
+module _ (heading : ℕ) (text : List ℕ) (at count : ℕ) (more : at < length text) where
   abbrev line : ℕ
   line = count + 2
 
@@ -273,81 +232,58 @@ module _ (heading : ℕ) (text : List ℕ) (at count : ℕ) (next : Next)
   leads : read_lines heading line (split 10 left) ≡ line_ahead (first_line heading line left) rest
   leads = line_left heading line left (omega (arith, length-drop at text))
 
-  first : FirstIs (first_line heading line left) left next
-  first = rw (tail_is at text) at is
-
   -- it is no step
   pub read_stops :
-      (r : Refusal) {old list : List ℕ} →
-      next ≡ NextRefused r →
+      {r : Refusal} {old list : List ℕ} →
+      FirstIs (first_line heading line (tail at text)) (tail at text) (Err r) →
       ReadSoFar heading text old at count list →
-      ReadInto (read_lines heading 2 (split 10 text)) old (Not r) list
-  read_stops r e g =
-      let stops : (x : Logged) → line_ahead (first_line heading line left) x ≡ fault r = rw e at first in
+      ReadInto (read_lines heading 2 (split 10 text)) old (Err r) list
+  read_stops {r} is g =
+      let stops : (x : Logged) → line_ahead (first_line heading line left) x ≡ fault r = rw (tail_is at text) at is in
       let all : fault r ≡ read_lines heading 2 (split 10 text) = ap (onward g.read) (sym (leads ∙ stops rest)) ∙ g.left in
       rw (← all) refl
 
   -- it is a step
-  module _ (s : Step) (bytes : ℕ) (e : next ≡ NextStep s bytes) where
-    step : (first_line heading line left ≡ StepLine s) × (bytes ≡ length (before 10 left) + 1)
-    step = rw e at first
+  module _ (f : FirstStep) (is : FirstIs (first_line heading line (tail at text)) (tail at text) (Ok f)) where
+    step : (first_line heading line left ≡ Ok (StepLine f.step)) × (f.bytes ≡ length (before 10 left) + 1)
+    step = rw (tail_is at text) at is
 
-    pub read_long : (6 ≤ bytes) × (at + bytes ≤ length text)
+    pub read_long : (6 ≤ f.bytes) × (at + f.bytes ≤ length text)
     read_long =
-        let long = first_long heading line left s step.0 in
+        let long = first_long heading line left f.step step.0 in
         (omega (arith, long.0, step.1), omega (arith, long.1, step.1, length-drop at text))
 
-    -- there is room for it
-    pub read_room : (list : List ℕ) → Roomy text at count list → 24 * count + 24 ≤ length list
-    read_room list fit = omega (arith, fit, read_long.0, read_long.1)
-
-    -- and it is stored
+    -- which is stored
     pub read_goes :
-        (list after : List ℕ) →
-        Roomy text at count list →
-        after ≡ sets list (24 * count) (numbers_onto (numbers_of s) []) →
-        ReadsOn heading text at count list (at + bytes) (count + 1) after × Roomy text (at + bytes) (count + 1) after
-    read_goes list after fit put =
-        let next : read_lines heading line (split 10 left) ≡ ahead s rest = leads ∙ ap (λ (v : Line). line_ahead v rest) step.0 in
-        let behind : drop (length (before 10 left) + 1) left ≡ drop (at + bytes) text =
-        ap (λ (k : ℕ). drop k left) (sym step.1) ∙ drop-drop bytes at text in
+        {old list after : List ℕ} →
+        24 * count + 24 ≤ length list →
+        after ≡ sets list (24 * count) (numbers_onto (numbers_of f.step) []) →
+        ReadSoFar heading text old at count list →
+        ReadSoFar heading text old (at + f.bytes) (count + 1) after
+    read_goes {old} {list} {after} room put g =
+        let s = f.step in
+        let next : read_lines heading line (split 10 left) ≡ ahead s rest = leads ∙ ap (λ (v : Result Line Refusal). line_ahead v rest) step.0 in
+        let behind : drop (length (before 10 left) + 1) left ≡ drop (at + f.bytes) text =
+        ap (λ (k : ℕ). drop k left) (sym step.1) ∙ drop-drop f.bytes at text in
         let later : suc line ≡ count + 1 + 2 = omega arith in
-        let room = read_room list fit in
-        let same : length after ≡ length list = ap length put ∙ length-sets list (24 * count) (numbers_onto (numbers_of s) []) in (
-          λ old g.
-              record {
-                read = g.read ++ (s ∷ []);
-                left =
-                    rw (← later, ← behind)
-                    (onward_more g.read s rest ∙ ap (onward g.read) (sym next) ∙ g.left);
-                stored = list_next old list after g.read s count g.counted (omega (arith, g.long)) g.long g.stored put;
-                long = same ∙ g.long;
-                counted = omega (arith, g.counted, length-append g.read (s ∷ []));
-                spent = omega (arith, read_long.0, g.spent);
-                within = read_long.1;
-              },
-          (fit.0, omega (arith, same, fit.1), omega (arith, fit.2, read_long.0), read_long.1),
-        )
+        record {
+          read = g.read ++ (s ∷ []);
+          left =
+              rw (← later, ← behind)
+              (onward_more g.read s rest ∙ ap (onward g.read) (sym next) ∙ g.left);
+          stored = list_next old list after g.read s count g.counted (omega (arith, g.long)) g.long g.stored put;
+          long = ap length put ∙ length-sets list (24 * count) (numbers_onto (numbers_of s) []) ∙ g.long;
+          counted = omega (arith, g.counted, length-append g.read (s ∷ []));
+          spent = omega (arith, read_long.0, g.spent);
+          within = read_long.1;
+        }
 
--- A line that was found is a step's: how long it is, that there is room for it, and that it is stored.
-module _ (heading : ℕ) (text : List ℕ) (at count : ℕ) (r : Found) (list : List ℕ)
-    (more : at < length text) (f : FoundStep heading (tail at text) r) (fit : Roomy text at count list) where
-  found_is : FirstIs (first_line heading (count + 2) (tail at text)) (tail at text) (NextStep f.step r.bytes)
-  found_is = first_written heading (count + 2) (tail at text) f.step r.bytes f.begins
+  -- a line that was found is a step's
+  found_is : (f : FirstStep) → Begins heading (tail at text) f.step f.bytes → FirstIs (first_line heading line (tail at text)) (tail at text) (Ok f)
+  found_is f b = first_written heading line (tail at text) f b
 
-  pub found_long : (6 ≤ r.bytes) × (at + r.bytes ≤ length text)
-  found_long = read_long heading text at count (NextStep f.step r.bytes) more found_is f.step r.bytes refl
-
-  pub found_room : 24 * count + 24 ≤ length list
-  found_room = read_room heading text at count (NextStep f.step r.bytes) more found_is f.step r.bytes refl list fit
-
-  found_goes :
-      (after : List ℕ) →
-      after ≡ sets list (24 * count) (numbers_onto (numbers_from r.kind r.item r.minutes 0 0 0) []) →
-      ReadsOn heading text at count list (at + r.bytes) (count + 1) after × Roomy text (at + r.bytes) (count + 1) after
-  found_goes after put =
-      read_goes heading text at count (NextStep f.step r.bytes) more found_is f.step r.bytes refl list after fit
-      (put ∙ ap (λ (n : Numbers). sets list (24 * count) (numbers_onto n [])) f.numbers)
+  pub found_long : (f : FirstStep) → Begins heading (tail at text) f.step f.bytes → (6 ≤ f.bytes) × (at + f.bytes ≤ length text)
+  found_long f b = read_long f (found_is f b)
 
 -- The invariant of a loop that reads on, from a place, a count and a list: it has come further, with room for the steps that are left.
 pub record Going (heading : ℕ) (text list₀ : List ℕ) (at₀ count₀ : ℕ) (list : List ℕ) (at count : ℕ) : Type 0 where
@@ -356,23 +292,27 @@ pub record Going (heading : ℕ) (text list₀ : List ℕ) (at₀ count₀ : ℕ
   pub further : at₀ ≤ at
   pub on : ReadsOn heading text at₀ count₀ list₀ at count list
 
-pub going_starts : (heading : ℕ) (text list : List ℕ) (at count : ℕ) → Roomy text at count list → Going heading text list at count list at count
-going_starts heading text list at count fit = record { fit = fit; same = refl; further = omega arith; on = λ old g. g }
+pub going_starts : {heading : ℕ} {text list : List ℕ} {at count : ℕ} → Roomy text at count list → Going heading text list at count list at count
+going_starts fit = record { fit = fit; same = refl; further = omega arith; on = λ old g. g }
 
 pub going_on :
-    {heading : ℕ} {text list₀ : List ℕ} {at₀ count₀ : ℕ} {list : List ℕ} {at count : ℕ} (r : Found) (after : List ℕ) →
+    {heading : ℕ} {text list₀ : List ℕ} {at₀ count₀ : ℕ} {list : List ℕ} {at count : ℕ} {f : FirstStep} {n : Numbers} {after : List ℕ} →
     Going heading text list₀ at₀ count₀ list at count →
     at < length text →
-    FoundStep heading (tail at text) r →
-    after ≡ sets list (24 * count) (numbers_onto (numbers_from r.kind r.item r.minutes 0 0 0) []) →
-    Going heading text list₀ at₀ count₀ after (at + r.bytes) (count + 1)
-going_on {heading} {text} {list₀} {at₀} {count₀} {list} {at} {count} r after g more f put =
-    let goes = found_goes heading text at count r list more f g.fit after put in
+    Begins heading (tail at text) f.step f.bytes →
+    n ≡ numbers_of f.step →
+    after ≡ sets list (24 * count) (numbers_onto n []) →
+    Going heading text list₀ at₀ count₀ after (at + f.bytes) (count + 1)
+going_on {heading = heading} {text = text} {list = list} {at = at} {count = count} {f = f} {n = n} g more b is put =
+    let long = found_long heading text at count more f b in
+    let same = ap length put ∙ length-sets list (24 * count) (numbers_onto n []) in
     record {
-      fit = goes.1;
-      same = ap length put ∙ length-sets list (24 * count) (numbers_onto (numbers_from r.kind r.item r.minutes 0 0 0) []) ∙ g.same;
+      fit = (g.fit.0, omega (arith, same, g.fit.1), omega (arith, g.fit.2, long.0), long.1);
+      same = same ∙ g.same;
       further = omega (arith, g.further);
-      on = λ old h. goes.0 old (g.on old h);
+      on =
+          λ old h.
+          read_goes heading text at count more f (found_is heading text at count more f b) (omega (arith, g.fit, long)) (rw is at put) (g.on old h);
     }
 
 -- all lines are read
@@ -381,7 +321,7 @@ pub read_ends :
     length text ≤ 65536 →
     ReadSoFar heading text old at count list →
     length text ≤ at →
-    ReadInto (read_lines heading 2 (split 10 text)) old (Steps heading count) list
+    ReadInto (read_lines heading 2 (split 10 text)) old (Ok (record { heading = heading; count = count })) list
 read_ends {heading} {text} {old} {at} {count} {list} short g h =
     let all : steps heading g.read ≡ read_lines heading 2 (split 10 text) =
     ap (steps heading) (sym (append-nil g.read)) ∙ ap (onward g.read) (sym (none_left_lem heading text at (count + 2) h)) ∙ g.left in
@@ -389,7 +329,7 @@ read_ends {heading} {text} {old} {at} {count} {list} short g h =
 
 -- ## The table
 
-pub table_empty : (text old : List ℕ) → length text ≡ 0 → ReadInto (read_table (split 10 text)) old (Not (Heading 1)) old
+pub table_empty : (text old : List ℕ) → length text ≡ 0 → ReadInto (read_table (split 10 text)) old (Err (Heading 1)) old
 unfolding read_table split
 table_empty [] old e = refl
 table_empty (b ∷ text) old e = absurd (omega arith)
@@ -398,14 +338,14 @@ table_empty (b ∷ text) old e = absurd (omega arith)
 module _ (text old : List ℕ) (m : ℕ) (e : m ≡ length (before 10 text)) where
   -- it has no line feed
   pub table_unfed :
-      (length text ≡ 0 → ⊥) → length text ≤ m → ReadInto (read_table (split 10 text)) old (Not (Malformed 1)) old
+      (length text ≡ 0 → ⊥) → length text ≤ m → ReadInto (read_table (split 10 text)) old (Err (Malformed 1)) old
   unfolding read_table
   table_unfed p h =
       rw
       (last_piece 10 text 0 m e (omega arith), ne_eqb (length (take m text)) 0 (λ z. p (omega (arith, piece_length 10 text 0 m e))))
       refl
 
-  module _ (names : Names) (fed : m < length text) (en : names ≡ heading_of 2 (take m text)) where
+  module _ (names : Option ℕ) (fed : m < length text) (en : names ≡ heading_of 2 (take m text)) where
     table_headed : read_table (split 10 text) ≡ headed names (split 10 (tail (m + 1) text))
     unfolding read_table
     table_headed =
@@ -418,80 +358,12 @@ module _ (text old : List ℕ) (m : ℕ) (e : m ≡ length (before 10 text)) whe
 
     -- it is the line of names
     pub table_read :
-        (heading : ℕ) (got : ReadAnswer) (after : List ℕ) →
-        names ≡ Known heading →
+        (heading : ℕ) (got : Result Steps Refusal) (after : List ℕ) →
+        names ≡ Some heading →
         ReadInto (read_lines heading 2 (split 10 (tail (m + 1) text))) old got after →
         ReadInto (read_table (split 10 text)) old got after
     table_read heading got after f h = rw (table_headed, f) h
 
     -- it is another
-    pub table_unknown : names ≡ Unknown → ReadInto (read_table (split 10 text)) old (Not (Heading 1)) old
+    pub table_unknown : names ≡ None → ReadInto (read_table (split 10 text)) old (Err (Heading 1)) old
     table_unknown f = rw (table_headed, f) refl
-
--- ## The answer
-
--- what a reading that answers so has come to
-read_fault : (x : Logged) (old after : List ℕ) (r : Refusal) → ReadInto x old (Not r) after → x ≡ fault r
-read_fault (steps heading ss) old after r h = absurd h
-read_fault (fault q) old after r h = ap fault (sym h)
-
-read_steps :
-    (x : Logged) (old after : List ℕ) (heading n : ℕ) →
-    ReadInto x old (Steps heading n) after →
-    (ss : List Step) × (x ≡ steps heading ss) × StepsIn ss old n after
-read_steps (steps f ss) old after heading n h = (ss, ap (λ (g : ℕ). steps g ss) (sym h.0), h.1)
-read_steps (fault q) old after heading n h = absurd h
-
--- the answer, and the list then
-abbrev pub ReadAs : List ℕ → List ℕ → ReadAnswer → List ℕ → Type 0
-ReadAs text list answer after = (answer ≡ read_answer (read_log text) list) × (after ≡ read_list (read_log text) list)
-
-pub answer_long : (text list : List ℕ) → 65536 < length text → ReadAs text list (Not (InputTooLong 0)) list
-unfolding read_log
-answer_long text list h = rw (lt-leb (length text) 65536 h) (refl, refl)
-
--- the text was read into room of our own
-module _
-    (text list old after : List ℕ)
-    (got : ReadAnswer)
-    (short : length text ≤ 65536)
-    (read : ReadInto (read_table (split 10 text)) old got after)
-  where
-    log_is : read_log text ≡ read_table (split 10 text)
-    unfolding read_log
-    log_is = rw (le-leb (length text) 65536 short)
-
-    pub answer_refused : (r : Refusal) → got ≡ Not r → ReadAs text list (Not r) list
-    answer_refused r e =
-        let is : read_log text ≡ fault r = log_is ∙ read_fault (read_table (split 10 text)) old after r (rw e at read) in
-        rw is (refl, refl)
-
-    -- it has n steps
-    module _ (heading n : ℕ) (e : got ≡ Steps heading n) where
-      found : (ss : List Step) × (read_log text ≡ steps heading ss) × StepsIn ss old n after
-      found =
-          let s = read_steps (read_table (split 10 text)) old after heading n (rw e at read) in
-          (s.0, log_is ∙ s.1, s.2)
-
-      size : length (list_of found.0) ≡ 24 * n
-      size = omega (arith, length_list found.0, found.2.count)
-
-      pub answer_few : n ≤ 10922
-      answer_few = found.2.few
-
-      pub answer_short : length list < 24 * n → ReadAs text list (Not (ShortBuffer 0)) list
-      answer_short h =
-          let less : length list < length (list_of found.0) = omega (arith, size) in
-          rw found.1 (rw (lt-leb (length (list_of found.0)) (length list) less), sym (page_none (list_of found.0) list less))
-
-      pub answer_stored :
-          (new : List ℕ) → 24 * n ≤ length list → new ≡ text_over (take (24 * n) after) list → ReadAs text list (Steps heading n) new
-      answer_stored new h put =
-          let ss = found.0 in
-          let fit : length (list_of ss) ≤ length list = omega (arith, size) in
-          let bytes : take (24 * n) after ≡ list_of ss =
-          ap (take (24 * n)) found.2.list ∙ take_at (list_of ss) (drop (length (list_of ss)) old) (24 * n) size in
-          rw found.1 (
-            rw (le-leb (length (list_of ss)) (length list) fit) (ap (Steps heading) found.2.count),
-            put ∙ ap (λ (t : List ℕ). text_over t list) bytes ∙ sym (page_all (list_of ss) list fit),
-          )

@@ -1,17 +1,17 @@
 -- What the inner functions of `log_reader` ask and give. Assumes nothing.
 use mathlib.Core.{Path.◌≡◌, Bool.{true, cond}, List.{List, ◌++◌}}
-use Rattle.std.specs.Prelude.{ℕ, ◌+◌, ◌*◌, ◌-◌, ◌≤◌, ◌<◌}
+use Rattle.std.specs.Prelude.{ℕ, ◌+◌, ◌*◌, ◌-◌, ◌≤◌, ◌<◌, Option, None, Some, Result, Ok, Err}
 use lib.{ListN.{length, take, drop}, Dec.ltb}
 use Rattle.decimal.specs.{Decimal.{all_digits, value_of, digits_of}, InnerPages.text_over}
 use Rattle.fields.specs.LittleEndian.{to_bytes}
 use Rattle.types.specs.declared.{Step.Step, Refusal.{Refusal, TheVariants.Malformed}}
-use Rattle.types.specs.Types.{numbers_from, numbers_of}
+use Rattle.types.specs.Types.{numbers_of}
 use Rattle.line_fields.specs.{Fields.{split, fields_of}, Inner.before}
-use Rattle.season_lines.specs.declared.Line.{Line, TheVariants.{Sizes, Item as ItemLine, Step as StepLine, Act as ActLine, Refused}}
+use Rattle.season_lines.specs.declared.Line.{Line, TheVariants.{Step as StepLine}}
 use Rattle.season_lines.specs.Lines.{range_under, line_in}
 use Rattle.season_log.specs.Log.{Logged, steps, fault, no_values, step_text, list_of, line_ahead, read_lines}
 use Rattle.season_log.specs.Inner.{onward}
-use Rattle.log_reader.specs.declared.{Found.Found, Next.{Next, TheVariants.{Step as NextStep, Refused as NextRefused}}, ReadAnswer.{ReadAnswer, TheVariants.{Steps, Refused as Not}}}
+use Rattle.log_reader.specs.declared.{Digits.Digits, FirstStep.FirstStep, Steps.Steps}
 
 -- a part of a text
 abbrev pub part : ℕ → ℕ → List ℕ → List ℕ
@@ -25,19 +25,25 @@ pub record DigitsAt (text : List ℕ) (from value end : ℕ) : Type 0 where
   pub digits : all_digits (part from end text) ≡ true
   pub worth : value ≡ value_of (part from end text)
 
--- a number from a place on, or nothing
+-- a number from a place on
 pub record NumberAt (text : List ℕ) (from value end : ℕ) : Type 0 where
-  pub onward : from ≤ end
+  pub some : from < end
   pub within : end ≤ length text
-  pub number : from < end → part from end text ≡ digits_of value
+  pub number : part from end text ≡ digits_of value
+
+-- if one was found
+abbrev pub NumberFound : List ℕ → ℕ → Option Digits → Type 0
+NumberFound text from None = Unit {0}
+NumberFound text from (Some n) = NumberAt text from n.value n.end
 
 -- the text t stands at a place
 abbrev pub TextAt : List ℕ → ℕ → List ℕ → Type 0
 TextAt text at t = take (length t) (drop at text) ≡ t
 
--- the end of a line that has none of the three last values, up to a place, unless that is 0
-abbrev pub EndAt : ℕ → List ℕ → ℕ → ℕ → Type 0
-EndAt heading text at end = 0 < end → (end ≡ at + length (no_values heading)) × TextAt text at (no_values heading)
+-- the end of a line that has none of the three last values, up to a place, if it was found
+abbrev pub EndAt : ℕ → List ℕ → ℕ → Option ℕ → Type 0
+EndAt heading text at None = Unit {0}
+EndAt heading text at (Some end) = (end ≡ at + length (no_values heading)) × TextAt text at (no_values heading)
 
 -- a text begins with the line that the writer writes of a step in range
 pub record Begins (heading : ℕ) (text : List ℕ) (s : Step) (bytes : ℕ) : Type 0 where
@@ -45,33 +51,20 @@ pub record Begins (heading : ℕ) (text : List ℕ) (s : Step) (bytes : ℕ) : T
   pub line : take bytes text ≡ step_text heading s
   pub ranged : range_under heading (numbers_of s) ≡ 0
 
--- a step by its numbers that a text begins with
-pub record FoundStep (heading : ℕ) (text : List ℕ) (r : Found) : Type 0 where
-  pub step : Step
-  pub numbers : numbers_from r.kind r.item r.minutes 0 0 0 ≡ numbers_of step
-  pub begins : Begins heading text step r.bytes
-
--- if so many bytes were found, and not none
-abbrev pub FoundIn : ℕ → List ℕ → Found → Type 0
-FoundIn heading text r = 0 < r.bytes → FoundStep heading text r
-
--- what a line that is no step is refused with
-abbrev pub line_refusal : Line → Refusal
-line_refusal (StepLine s) = Malformed 0
-line_refusal (Refused r) = r
-line_refusal (Sizes k h r) = Malformed 0
-line_refusal (ItemLine i b l w) = Malformed 0
-line_refusal (ActLine place act) = Malformed 0
+-- if a step was found, the text begins with it
+abbrev pub FoundIn : ℕ → List ℕ → Option FirstStep → Type 0
+FoundIn heading text None = Unit {0}
+FoundIn heading text (Some f) = Begins heading text f.step f.bytes
 
 -- what the first line of a text says on line n
-unfoldable pub first_line : ℕ → ℕ → List ℕ → Line
+unfoldable pub first_line : ℕ → ℕ → List ℕ → Result Line Refusal
 first_line heading n s =
-    cond (ltb (length (before 10 s)) (length s)) (line_in 2 heading (fields_of (before 10 s)) n) (Refused (Malformed n))
+    cond (ltb (length (before 10 s)) (length s)) (line_in 2 heading (fields_of (before 10 s)) n) (Err (Malformed n))
 
 -- a step and the bytes of its line, or the refusal that follows
-abbrev pub FirstIs : Line → List ℕ → Next → Type 0
-FirstIs line s (NextStep step bytes) = (line ≡ StepLine step) × (bytes ≡ length (before 10 s) + 1)
-FirstIs line s (NextRefused r) = (rest : Logged) → line_ahead line rest ≡ fault r
+abbrev pub FirstIs : Result Line Refusal → List ℕ → Result FirstStep Refusal → Type 0
+FirstIs line s (Ok f) = (line ≡ Ok (StepLine f.step)) × (f.bytes ≡ length (before 10 s) + 1)
+FirstIs line s (Err r) = (rest : Logged) → line_ahead line rest ≡ fault r
 
 -- three numbers as bytes
 abbrev pub three_numbers : ℕ → ℕ → ℕ → List ℕ
@@ -103,8 +96,8 @@ pub record StepsIn (ss : List Step) (before : List ℕ) (n : ℕ) (after : List 
   pub few : n ≤ 10922
   pub list : after ≡ text_over (list_of ss) before
 
-abbrev pub ReadInto : Logged → List ℕ → ReadAnswer → List ℕ → Type 0
-ReadInto (steps heading ss) before (Steps answered n) after = (answered ≡ heading) × StepsIn ss before n after
-ReadInto (steps heading ss) before (Not r) after = ⊥
-ReadInto (fault r) before (Steps answered n) after = ⊥
-ReadInto (fault r) before (Not q) after = q ≡ r
+abbrev pub ReadInto : Logged → List ℕ → Result Steps Refusal → List ℕ → Type 0
+ReadInto (steps heading ss) before (Ok log) after = (log.heading ≡ heading) × StepsIn ss before log.count after
+ReadInto (steps heading ss) before (Err r) after = ⊥
+ReadInto (fault r) before (Ok log) after = ⊥
+ReadInto (fault r) before (Err q) after = q ≡ r

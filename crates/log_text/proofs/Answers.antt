@@ -13,42 +13,31 @@ use Rattle.decimal.proofs.Laws.{page_all, page_none}
 use Rattle.types.specs.declared.{Step.Step, Refusal.{Refusal, TheVariants.{ShortBuffer, InputTooLong}}}
 use Rattle.line_fields.specs.Fields.{split}
 use Rattle.season_lines.specs.Lines.{heading_text}
-use Rattle.season_log.specs.declared.LogAnswer.{LogAnswer, TheVariants.{Count, Refused as NotWritten}}
-use Rattle.season_log.specs.Log.{Logged, steps, fault, list_of, lent_log, step_text, step_lines, log_text, read_log, read_table, write_answer, written_page}
+use Rattle.season_log.specs.Log.{Logged, steps, fault, list_of, lent_log, step_text, step_lines, log_text, read_log, read_table, write_answer, written_page, LogWritten}
 use Rattle.season_log.proofs.OneText.{one_text, length_list}
-use Rattle.log_reader.specs.declared.ReadAnswer.{ReadAnswer, TheVariants.{Steps, Refused as NotRead}}
-use Rattle.log_reader.specs.Answers.{read_answer, read_list, read_heading, read_count}
+use Rattle.std.specs.Prelude.{Result, Ok, Err}
+use Rattle.types.specs.Types.{answer_told}
+use Rattle.season_log.proofs.Answers.{log_one}
+use Rattle.log_reader.specs.declared.Steps.{Steps}
+use Rattle.log_reader.specs.Answers.{read_answer, read_list, read_heading, read_count, LogRead}
+use Rattle.log_reader.proofs.Answers.{read_one}
 use Rattle.log_reader.proofs.Reading.{step_long}
-use Rattle.report.specs.declared.Written.{Written, TheVariants.{Text, Refused}}
 use Rattle.report.specs.Report.{Put}
 use Rattle.report.proofs.Laws.{put_short, put_whole}
 use Rattle.printed.specs.Printed.{Yields}
 use Rattle.printed.specs.Inner.{OutcomeFits}
 use Rattle.log_text.specs.Answer.{read_outcome, log_outcome}
 
--- what an answer of the reader holds, told apart by its case
-abbrev is_read : ReadAnswer → ℕ
-is_read (Steps heading n) = 1
-is_read (NotRead r) = 0
-
-abbrev reason_told : Refusal → ReadAnswer → Refusal
-reason_told d (Steps heading n) = d
-reason_told d (NotRead r) = r
-
-abbrev is_log : Logged → ℕ
-is_log (steps heading ss) = 1
-is_log (fault r) = 0
-
 -- ## The size of a log
 
 -- a log that is read is not too long
 log_short : (s : List ℕ) (heading : ℕ) (ss : List Step) → read_log s ≡ steps heading ss → length s ≤ 65536
 unfolding read_log
-log_short s heading ss e = go (leb (length s) 65536) refl (ap is_log e)
+log_short s heading ss e = go (leb (length s) 65536) refl e
   where
-    go : (t : Bool) → leb (length s) 65536 ≡ t → is_log (cond t (read_table (split 10 s)) (fault (InputTooLong 0))) ≡ 1 → length s ≤ 65536
+    go : (t : Bool) → leb (length s) 65536 ≡ t → cond t (read_table (split 10 s)) (fault (InputTooLong 0)) ≡ steps heading ss → length s ≤ 65536
     go true h k = leb-true (length s) 65536 h
-    go false h k = absurd (omega arith)
+    go false h k = cc
 
 -- so there is room for it on a page of as many bytes
 pub log_fits : (s : List ℕ) → OutcomeFits 65536 (log_outcome s)
@@ -75,88 +64,76 @@ list_few s heading ss e =
 
 -- a log that is not read is refused for its own fault
 pub not_read :
-    (s list page : List ℕ) (r : Refusal) →
+    (s list page after : List ℕ) (r : Refusal) →
     length list ≡ 262128 →
-    NotRead r ≡ read_answer (read_log s) list →
-    Yields (log_outcome s) page (Refused r) page
+    LogRead (read_log s) list (Err r) after →
+    Yields (log_outcome s) page (Err r) page
 unfolding log_outcome
-not_read s list page r size e = go (read_log s) refl e
+not_read s list page after r size read = go (read_log s) refl (read_one read)
   where
-    go : (l : Logged) → read_log s ≡ l → NotRead r ≡ read_answer l list → Yields (read_outcome s l) page (Refused r) page
-    go (fault q) h e2 =
-        let same : r ≡ q = ap (reason_told r) e2 in
-        subst (λ (x : Refusal). Yields (read_outcome s (fault x)) page (Refused r) page) same (refl, refl)
-    go (steps g ss) h e2 =
+    go : (l : Logged) → read_log s ≡ l → Err r ≡ read_answer l list → Yields (read_outcome s l) page (Err r) page
+    go (fault q) h e = (ap answer_told e, refl)
+    go (steps g ss) h e =
         let room : fits (list_of ss) list ≡ true = le-leb (length (list_of ss)) (length list) (omega (arith, list_few s g ss h)) in
-        let is : NotRead r ≡ Steps g (length ss) = e2 ∙ rw room refl in
-        let no : ◌≡◌ {A = ℕ} 0 1 = ap is_read is in absurd (omega arith)
-
--- what the writer answers, as an answer of ours
-abbrev pub written : LogAnswer → Written
-written (Count n) = Text n
-written (NotWritten r) = Refused r
+        let is : ◌≡◌ {A = Result Steps Refusal} (Err r) (Ok (record { heading = g; count = length ss })) = e ∙ rw room refl in cc
 
 -- what was read is the list of the log's steps
-record Read (s after : List ℕ) (heading n : ℕ) : Type 0 where
+record Read (s after : List ℕ) (log : Steps) : Type 0 where
   ss : List Step
-  reads : read_log s ≡ steps heading ss
-  log : lent_log heading (take (24 * n) after) ≡ steps heading ss
+  reads : read_log s ≡ steps log.heading ss
+  lent : lent_log log.heading (take (24 * log.count) after) ≡ steps log.heading ss
+  within : 24 * log.count ≤ length after
 
-list_read :
-    (s list after : List ℕ) (heading n : ℕ) →
-    Steps heading n ≡ read_answer (read_log s) list →
-    after ≡ read_list (read_log s) list →
-    Read s after heading n
-list_read s list after heading n e f = go (read_log s) refl e f
+list_read : (s list after : List ℕ) (log : Steps) → LogRead (read_log s) list (Ok log) after → Read s after log
+list_read s list after log read = go (read_log s) refl (read_one read) read.list
   where
-    go : (l : Logged) → read_log s ≡ l → Steps heading n ≡ read_answer l list → after ≡ read_list l list → Read s after heading n
-    go (fault r) h e2 f2 = let no : ◌≡◌ {A = ℕ} 1 0 = ap is_read e2 in absurd (omega arith)
-    go (steps g ss) h e2 f2 = by (fits (list_of ss) list) refl e2
+    go : (l : Logged) → read_log s ≡ l → Ok log ≡ read_answer l list → after ≡ read_list l list → Read s after log
+    go (fault r) h e f = cc
+    go (steps g ss) h e f = by (fits (list_of ss) list) refl e
       where
-        by : (t : Bool) → fits (list_of ss) list ≡ t → Steps heading n ≡ cond t (Steps g (length ss)) (NotRead (ShortBuffer 0)) → Read s after heading n
-        by false k e3 = let no : ◌≡◌ {A = ℕ} 1 0 = ap is_read e3 in absurd (omega arith)
-        by true k e3 =
+        by : (t : Bool) → fits (list_of ss) list ≡ t → Ok log ≡ cond t (Ok (record { heading = g; count = length ss })) (Err (ShortBuffer 0)) → Read s after log
+        by false k e2 = cc
+        by true k e2 =
             let long = leb-true (length (list_of ss)) (length list) k in
             let law = one_text.reads_written s g ss h in
-            let heading_is : heading ≡ g = ap read_heading e3 in
-            let count_is : n ≡ length ss = ap read_count e3 in
-            let stored : after ≡ list_of ss ++ drop (length (list_of ss)) list = f2 ∙ page_all (list_of ss) list long in
-            let front : take (24 * n) after ≡ list_of ss =
-            ap (take (24 * n)) stored ∙ take_at (list_of ss) (drop (length (list_of ss)) list) (24 * n) (omega (arith, length_list ss, count_is)) in
+            let heading_is : log.heading ≡ g = ap read_heading e2 in
+            let count_is : log.count ≡ length ss = ap read_count e2 in
+            let stored : after ≡ list_of ss ++ drop (length (list_of ss)) list = f ∙ page_all (list_of ss) list long in
+            let front : take (24 * log.count) after ≡ list_of ss =
+            ap (take (24 * log.count)) stored ∙ take_at (list_of ss) (drop (length (list_of ss)) list) (24 * log.count) (omega (arith, length_list ss, count_is)) in
             record {
               ss = ss;
               reads = h ∙ ap (λ (x : ℕ). steps x ss) (sym heading_is);
-              log = ap (lent_log heading) front ∙ ap (λ (x : ℕ). lent_log x (list_of ss)) heading_is ∙ one_text.list_reads g ss law.1 law.2 ∙ ap (λ (x : ℕ). steps x ss) (sym heading_is);
+              lent = ap (lent_log log.heading) front ∙ ap (λ (x : ℕ). lent_log x (list_of ss)) heading_is ∙ one_text.list_reads g ss law.1 law.2 ∙ ap (λ (x : ℕ). steps x ss) (sym heading_is);
+              within = omega (arith, length_list ss, count_is, ap length stored, length-append (list_of ss) (drop (length (list_of ss)) list));
             }
+
+-- it is within the list
+pub list_long : (s list after : List ℕ) (log : Steps) → LogRead (read_log s) list (Ok log) after → 24 * log.count ≤ length after
+list_long s list after log read = (list_read s list after log read).within
 
 -- the writer's answer to it, on any page
 pub log_again :
-    (s list after page p : List ℕ) (heading n : ℕ) (a : LogAnswer) (w : Written) →
-    Steps heading n ≡ read_answer (read_log s) list →
-    after ≡ read_list (read_log s) list →
-    a ≡ write_answer (lent_log heading (take (24 * n) after)) page →
-    p ≡ written_page (lent_log heading (take (24 * n) after)) page →
-    written a ≡ w →
+    (s list after page p : List ℕ) (log : Steps) (w : Result ℕ Refusal) →
+    LogRead (read_log s) list (Ok log) after →
+    LogWritten (lent_log log.heading (take (24 * log.count) after)) page w p →
     Yields (log_outcome s) page w p
 unfolding log_outcome
-log_again s list after page p heading n a w e f is at told =
-    let r = list_read s list after heading n e f in
-    let text : log_text heading r.ss ≡ s = (one_text.reads_written s heading r.ss r.reads).0 in
-    let small : leb (length s) 65536 ≡ true = le-leb (length s) 65536 (log_short s heading r.ss r.reads) in
-    let answer : write_answer (steps heading r.ss) page ≡ cond (fits s page) (Count (length s)) (NotWritten (ShortBuffer 0)) = rw (text, small) refl in
-    let then : written_page (steps heading r.ss) page ≡ page_of s page = rw (text, small) refl in
-    let given : a ≡ cond (fits s page) (Count (length s)) (NotWritten (ShortBuffer 0)) = is ∙ ap (λ (l : Logged). write_answer l page) r.log ∙ answer in
-    let left : p ≡ page_of s page = at ∙ ap (λ (l : Logged). written_page l page) r.log ∙ then in
-    subst (λ (l : Logged). Yields (read_outcome s l) page w p) (sym r.reads) (subst (λ (z : Written). Put s page z p) told (go (fits s page) refl given left))
+log_again s list after page p log w read written =
+    let r = list_read s list after log read in
+    let text : log_text log.heading r.ss ≡ s = (one_text.reads_written s log.heading r.ss r.reads).0 in
+    let small : leb (length s) 65536 ≡ true = le-leb (length s) 65536 (log_short s log.heading r.ss r.reads) in
+    let answer : write_answer (steps log.heading r.ss) page ≡ cond (fits s page) (Ok (length s)) (Err (ShortBuffer 0)) = rw (text, small) refl in
+    let then : written_page (steps log.heading r.ss) page ≡ page_of s page = rw (text, small) refl in
+    let given : w ≡ cond (fits s page) (Ok (length s)) (Err (ShortBuffer 0)) = log_one written ∙ ap (λ (l : Logged). write_answer l page) r.lent ∙ answer in
+    let left : p ≡ page_of s page = written.page ∙ ap (λ (l : Logged). written_page l page) r.lent ∙ then in
+    subst (λ (l : Logged). Yields (read_outcome s l) page w p) (sym r.reads) (go (fits s page) refl given left)
   where
-    go :
-        (t : Bool) → fits s page ≡ t →
-        a ≡ cond t (Count (length s)) (NotWritten (ShortBuffer 0)) →
-        p ≡ page_of s page →
-        Put s page (written a) p
+    go : (t : Bool) → fits s page ≡ t → w ≡ cond t (Ok (length s)) (Err (ShortBuffer 0)) → p ≡ page_of s page → Put s page w p
     go true h k l =
         let room = leb-true (length s) (length page) h in
-        subst (λ (x : LogAnswer). Put s page (written x) p) (sym k) (put_whole s page p (length s) room refl (l ∙ page_all s page room))
+        rw k (put_whole s page p (length s) room refl (l ∙ page_all s page room))
     go false h k l =
         let short = leb-false (length s) (length page) h in
-        subst (λ (x : LogAnswer). Put s page (written x) p) (sym k) (subst (λ (x : List ℕ). Put s page (Refused (ShortBuffer 0)) x) (sym (l ∙ page_none s page short)) (put_short s page short))
+        let same : p ≡ page = l ∙ page_none s page short in
+        rw (k, same) (put_short s page short)

@@ -2,68 +2,31 @@
 use mathlib.Core.Path.{◌≡◌, refl, sym, ap, ◌∙◌}
 use mathlib.Core.List.{List, [], ◌∷◌, ◌++◌, append_assoc}
 use Prim.Native.Nat.{ℕ, zero, suc, ◌+◌, ◌*◌, ◌≤◌, ◌<◌}
+use borrow.Rule.Slice.PartMut.{put_mid}
+use Rattle.std.proofs.lemmas.Slice.{take-put_mid_below, take-put_mid, drop-put_mid}
 use native.Mathlib.Omega.{arith}
 use native.Mathlib.Nat.{mul-add, mul-one}
-use lib.ListN.{length, take, drop, set, get_or, length-append}
-use lib.Seq.{sets, sets-eq, length-sets, length-take-le, take_at, drop_at, take-take, get_or-take}
+use lib.ListN.{length, take, drop, get_or}
+use lib.Seq.{drop-drop, sets, sets-eq, get_or-take}
 use Rattle.types.specs.declared.Step.{Step}
 use Rattle.types.specs.declared.Step.TheVariants.{Flush}
 use Rattle.types.specs.Types.{numbers_from, numbers_of}
 use Rattle.landlord.specs.CallNumbers.{call_numbers, numbers_behind}
 use Rattle.season_items.specs.Inner.{put_at}
 
--- numbers stored one by one
+-- as many numbers copied into a part of a slice
+pub put_part : (l : List ℕ) (i k : ℕ) (xs : List ℕ) → k ≡ length xs → put_mid i k l xs ≡ put_at l i xs
+unfolding put_at
+put_part l i k xs e = rw (drop-drop k i l, e)
+
+-- and stored one by one
 pub put_sets : (l : List ℕ) (i : ℕ) (xs : List ℕ) → i + length xs ≤ length l → sets l i xs ≡ put_at l i xs
 unfolding put_at
 put_sets l i xs h = sets-eq xs l i h ∙ append_assoc (take i l) xs (drop (i + length xs) l)
 
-pub put_three : (l : List ℕ) (i a b c : ℕ) → i + 3 ≤ length l → set (set (set l i a) (i + 1) b) (i + 2) c ≡ put_at l i (a ∷ b ∷ c ∷ [])
-put_three l i a b c h =
-    let e : i + 1 ≡ suc i = omega arith in
-    let f : i + 2 ≡ suc (suc i) = omega arith in
-    rw (e, f) (put_sets l i (a ∷ b ∷ c ∷ []) h)
-
-pub put_seven :
-    (l : List ℕ) (i a b c d e f g : ℕ) →
-    i + 7 ≤ length l →
-    set (set (set (set (set (set (set l i a) (i + 1) b) (i + 2) c) (i + 3) d) (i + 4) e) (i + 5) f) (i + 6) g
-    ≡ put_at l i (a ∷ b ∷ c ∷ d ∷ e ∷ f ∷ g ∷ [])
-put_seven l i a b c d e f g h =
-    let e₁ : i + 1 ≡ suc i = omega arith in
-    let e₂ : i + 2 ≡ suc (suc i) = omega arith in
-    let e₃ : i + 3 ≡ suc (suc (suc i)) = omega arith in
-    let e₄ : i + 4 ≡ suc (suc (suc (suc i))) = omega arith in
-    let e₅ : i + 5 ≡ suc (suc (suc (suc (suc i)))) = omega arith in
-    let e₆ : i + 6 ≡ suc (suc (suc (suc (suc (suc i))))) = omega arith in
-    rw (e₁, e₂, e₃, e₄, e₅, e₆) (put_sets l i (a ∷ b ∷ c ∷ d ∷ e ∷ f ∷ g ∷ []) h)
-
-pub put_length : (l : List ℕ) (i : ℕ) (xs : List ℕ) → i + length xs ≤ length l → length (put_at l i xs) ≡ length l
-put_length l i xs h = ap length (sym (put_sets l i xs h)) ∙ length-sets l i xs
-
--- the front of a list with numbers put behind it, and what stands past them
-module _ (l : List ℕ) (i : ℕ) (xs : List ℕ) (h : i + length xs ≤ length l) where
-  front_length : length (take i l ++ xs) ≡ i + length xs
-  front_length = length-append (take i l) xs ∙ ap (λ (n : ℕ). n + length xs) (length-take-le i l (omega arith))
-
-  put_front : take (i + length xs) (put_at l i xs) ≡ take i l ++ xs
-  unfolding put_at
-  put_front =
-      ap (take (i + length xs)) (sym (append_assoc (take i l) xs (drop (i + length xs) l)))
-      ∙ take_at (take i l ++ xs) (drop (i + length xs) l) (i + length xs) front_length
-
-  put_past : drop (i + length xs) (put_at l i xs) ≡ drop (i + length xs) l
-  unfolding put_at
-  put_past =
-      ap (drop (i + length xs)) (sym (append_assoc (take i l) xs (drop (i + length xs) l)))
-      ∙ drop_at (take i l ++ xs) (drop (i + length xs) l) (i + length xs) front_length
-
-  -- what stands before them is as it was
-  pub put_before : (m : ℕ) → m ≤ i → take m (put_at l i xs) ≡ take m l
-  unfolding put_at
-  put_before m b =
-      sym (take-take m i (take i l ++ (xs ++ drop (i + length xs) l)) b)
-      ∙ ap (take m) (take_at (take i l) (xs ++ drop (i + length xs) l) i (length-take-le i l (omega arith)))
-      ∙ take-take m i l b
+-- what stands before them is as it was
+pub put_before : (l : List ℕ) (i : ℕ) (xs : List ℕ) (m : ℕ) → i ≤ length l → m ≤ i → take m (put_at l i xs) ≡ take m l
+put_before l i xs m h b = rw (← (put_part l i (length xs) xs refl)) (take-put_mid_below i (length xs) l xs m b h)
 
 -- Entries of `width` numbers each: behind n of them one more is noted.
 pub noted_more :
@@ -74,8 +37,7 @@ pub noted_more :
     take (width * (n + 1)) (put_at l (width * n) xs) ≡ old ++ xs
 noted_more width n l old xs e h f =
     let a : width * (n + 1) ≡ width * n + length xs = rw (mul-add, mul-one) (omega arith) in
-    let b : width * n + length xs ≤ length l = omega arith in
-    ap (λ (m : ℕ). take m (put_at l (width * n) xs)) a ∙ put_front l (width * n) xs b ∙ ap (λ (m : List ℕ). m ++ xs) f
+    rw (← (put_part l (width * n) (length xs) xs refl), take-put_mid (width * n) (length xs) l xs (width * (n + 1)) a (omega arith), f)
 
 -- and past that one the list is as it was
 pub noted_past :
@@ -85,8 +47,7 @@ pub noted_past :
     drop (width * (n + 1)) (put_at l (width * n) xs) ≡ drop (width * (n + 1)) l
 noted_past width n l xs e h =
     let a : width * (n + 1) ≡ width * n + length xs = rw (mul-add, mul-one) (omega arith) in
-    let b : width * n + length xs ≤ length l = omega arith in
-    ap (λ (m : ℕ). drop m (put_at l (width * n) xs)) a ∙ put_past l (width * n) xs b ∙ ap (λ (m : ℕ). drop m l) (sym a)
+    rw (← (put_part l (width * n) (length xs) xs refl)) (drop-put_mid (width * n) (length xs) l xs (width * (n + 1)) (omega arith) (omega arith) refl)
 
 pub calls_more : (steps : List Step) (s : Step) → call_numbers (steps ++ (s ∷ [])) ≡ call_numbers steps ++ call_numbers (s ∷ [])
 unfolding call_numbers

@@ -1,7 +1,6 @@
 -- Laws of what is known of the items, and of their bytes, from one step to the next: how many there are, which of them have left, and
 -- that an arrival's item is stored behind the others. Assumes nothing.
 use mathlib.Core.Path.{◌≡◌, refl, sym, ap, subst, ◌∙◌}
-use mathlib.Core.Logic.{◌≢◌}
 use mathlib.Core.Bool.{Bool, true, false, cond, ◌&&◌}
 use mathlib.Core.List.{List, [], ◌∷◌, ◌++◌}
 use Prim.Native.Nat.{ℕ, zero, suc, ◌+◌, ◌*◌, ◌/◌, ◌%◌, ◌^◌, ◌≤◌, ◌<◌}
@@ -12,12 +11,12 @@ use native.Mathlib.Numerals.{add-one}
 use lib.ListN.{length, get_or, set, take, drop, replicate, get_or-replicate, take-append-drop}
 use lib.Seq.{sets, set_out, length-sets, take-suc}
 use lib.Dec.{eqb, leb, ltb}
-use borrow.Author.Tests.{eqb-true, leb-true, eq-eqb, ne_eqb, lt-ltb, le-ltb, ltb-true, ltb-false}
+use borrow.Author.Tests.{eqb-true, leb-true, ltb-true, ltb-false}
 use Rattle.types.specs.declared.Step.{Step}
 use Rattle.types.specs.declared.Step.TheVariants.{Read, Write, Flush, Arrive, Retire}
 use Rattle.types.specs.declared.Numbers.{Numbers}
 use Rattle.types.specs.Types.{numbers_of, step_of}
-use Rattle.types.proofs.Steps.{same_step, step_read, step_write, step_arrive, step_retire, step_flush}
+use Rattle.types.proofs.Steps.{same_step}
 use Rattle.landlord.specs.Catalog.{Catalog, Item, item_at, listed, item_in_range, catalog_next, catalog_after}
 use Rattle.landlord.proofs.Ranges.{and_left, and_right, item_facts}
 use Rattle.landlord.specs.Steps.{in_range, item_refusal}
@@ -30,7 +29,7 @@ use Rattle.catalog_bytes.specs.Inner.{item_bytes, catalog_of_first}
 use Rattle.catalog_bytes.proofs.Laws.{first_length, first_at, one_more}
 use Rattle.season_items.specs.declared.Present.{Present}
 use Rattle.landlord.specs.CallNumbers.{numbers_behind}
-use Rattle.season_items.specs.Inner.{item_room, HasItems, Tells, none_present, is_leaving, Advanced, Advances, Walks, CatchesUp, with_arrival}
+use Rattle.season_items.specs.Inner.{item_room, HasItems, Tells, none_present, Advanced, Advances, CatchesUp, Walkable, with_arrival}
 use Rattle.season_items.proofs.Notes.{put_sets, put_before, noted_past, noted_step}
 
 -- ## How many there are, and which have left
@@ -62,48 +61,6 @@ tells_more cat p n b l w e t =
       marks = λ i m. t.marks i m ∙ sym (still_left cat b l w i);
     }
 
-module _ (p : Present) (n : Numbers) where
-  -- an arrival
-  arrive_tells : n.kind ≡ 65 → Advances p n (record { n = p.n + 1; left = p.left })
-  arrive_tells e cat few t = rw (step_arrive n e) (tells_more cat p (p.n + 1) n.blocks n.load n.write refl t)
-
-  -- a retirement of an item that is there
-  retire_tells :
-      (left : List ℕ) →
-      n.kind ≡ 81 →
-      n.item < p.n →
-      marks left ≡ set (marks p.left) n.item true →
-      Advances p n (record { n = p.n; left = left })
-  retire_tells left e l m cat few t =
-      rw (step_retire n e)
-      (record { count = omega (arith, t.count, retired_length cat n.item); marks = λ j b. each j b (ℕ_discrete j n.item) })
-    where
-      known : n.item < length cat
-      known = omega (arith, t.count)
-
-      each : (j : ℕ) → j < 256 → Dec (j ≡ n.item) → marked left j ≡ (item_at (catalog_next cat (Retire n.item)) j).left
-      each j b (yes q) =
-          rw q
-          (marked_set_same p.left left n.item true m (omega (arith, few, known))
-          ∙ sym (ap (λ (x : Item). x.left) (retired_here cat n.item known)))
-      each j b (no q) =
-          marked_set_other p.left left n.item true m j b q ∙ t.marks j b
-          ∙ sym (ap (λ (x : Item). x.left) (retired_other cat n.item j q))
-
-  -- any other step, and a retirement of an item that is not there
-  same_tells : n.kind ≢ 65 → (n.kind ≡ 81 → p.n ≤ n.item) → Advances p n p
-  same_tells a q cat few t = subst (λ (c : Catalog). Tells c p) (sym same) t
-    where
-      go : Dec (n.kind ≡ 82) → Dec (n.kind ≡ 87) → Dec (n.kind ≡ 81) → catalog_next cat (step_of n) ≡ cat
-      go (yes e) x y = ap (catalog_next cat) (step_read n e)
-      go (no e) (yes f) y = ap (catalog_next cat) (step_write n f)
-      go (no e) (no f) (yes g) =
-          ap (catalog_next cat) (step_retire n g) ∙ set_out cat n.item _ (omega (arith, q g, t.count))
-      go (no e) (no f) (no g) = ap (catalog_next cat) (step_flush n e f a g)
-
-      same : catalog_next cat (step_of n) ≡ cat
-      same = go (ℕ_discrete n.kind 82) (ℕ_discrete n.kind 87) (ℕ_discrete n.kind 81)
-
 -- the same count and marks tell the same
 same_known : (cat : Catalog) (p r : Present) → r.n ≡ p.n → marks r.left ≡ marks p.left → Tells cat p → Tells cat r
 same_known cat p r e m t =
@@ -112,56 +69,36 @@ same_known cat p r e m t =
       marks = λ i l. sym (marked_at r.left i l) ∙ ap (λ (bs : List Bool). get_or bs i false) m ∙ marked_at p.left i l ∙ t.marks i l;
     }
 
-module _ (p : Present) (n : Numbers) where
-  -- each way through `advanced`
-  pub advanced_arrive : n.kind ≡ 65 → Advanced p n (record { n = p.n + 1; left = p.left })
-  advanced_arrive e = record { count = rw (eq-eqb n.kind 65 e); left = rw (ne_eqb n.kind 81 (λ z. omega arith)) }
+-- an item that is there leaves
+retires : (p r : Present) (i : ℕ) → r.n ≡ p.n → i < p.n → marks r.left ≡ set (marks p.left) i true → Advances p (Retire i) r
+retires p r i n l m cat few t =
+    record { count = omega (arith, t.count, retired_length cat i); marks = λ j b. each j b (ℕ_discrete j i) }
+  where
+    known : i < length cat
+    known = omega (arith, t.count)
 
-  pub advanced_retire :
-      (left : List ℕ) →
-      n.kind ≡ 81 →
-      n.item < p.n →
-      marks left ≡ set (marks p.left) n.item true →
-      Advanced p n (record { n = p.n; left = left })
-  advanced_retire left e l m = record { count = rw (ne_eqb n.kind 65 (λ z. omega arith)); left = rw (eq-eqb n.kind 81 e, lt-ltb n.item p.n l) m }
+    each : (j : ℕ) → j < 256 → Dec (j ≡ i) → marked r.left j ≡ (item_at (catalog_next cat (Retire i)) j).left
+    each j b (yes q) =
+        rw q
+        (marked_set_same p.left r.left i true m (omega (arith, few, known))
+        ∙ sym (ap (λ (x : Item). x.left) (retired_here cat i known)))
+    each j b (no q) =
+        marked_set_other p.left r.left i true m j b q ∙ t.marks j b
+        ∙ sym (ap (λ (x : Item). x.left) (retired_other cat i j q))
 
-  pub advanced_same : n.kind ≢ 65 → (n.kind ≡ 81 → p.n ≤ n.item) → Advanced p n p
-  advanced_same a q = record { count = rw (ne_eqb n.kind 65 a); left = go (ℕ_discrete n.kind 81) }
-    where
-      go : Dec (n.kind ≡ 81) → marks p.left ≡ cond (is_leaving p n) (set (marks p.left) n.item true) (marks p.left)
-      go (yes e) = rw (eq-eqb n.kind 81 e, le-ltb n.item p.n (q e))
-      go (no e) = rw (ne_eqb n.kind 81 e)
-
-  -- and what is known then, of whatever catalog this is known of
-  pub advanced_tells : (r : Present) → Advanced p n r → Advances p n r
-  advanced_tells r h cat few t = go (ℕ_discrete n.kind 65) (ℕ_discrete n.kind 81) (ltb n.item p.n) refl
-    where
-      unmoved : (n.kind ≡ 81 → p.n ≤ n.item) → marks r.left ≡ marks p.left
-      unmoved q = h.left ∙ go (ℕ_discrete n.kind 81)
-        where
-          go : Dec (n.kind ≡ 81) → cond (is_leaving p n) (set (marks p.left) n.item true) (marks p.left) ≡ marks p.left
-          go (yes e) = rw (eq-eqb n.kind 81 e, le-ltb n.item p.n (q e))
-          go (no e) = rw (ne_eqb n.kind 81 e)
-
-      same : n.kind ≢ 65 → r.n ≡ p.n
-      same a = h.count ∙ rw (ne_eqb n.kind 65 a)
-
-      next : Catalog
-      next = catalog_next cat (step_of n)
-
-      go : Dec (n.kind ≡ 65) → Dec (n.kind ≡ 81) → (b : Bool) → ltb n.item p.n ≡ b → Tells next r
-      go (yes e) y b z =
-          same_known next (record { n = p.n + 1; left = p.left }) r (h.count ∙ rw (eq-eqb n.kind 65 e)) (unmoved (λ f. absurd (omega arith)))
-          (arrive_tells p n e cat few t)
-      go (no a) (yes e) true z =
-          same_known next (record { n = p.n; left = r.left }) r (same a) refl
-          (retire_tells p n r.left e (ltb-true n.item p.n z) (h.left ∙ rw (eq-eqb n.kind 81 e, z)) cat few t)
-      go (no a) (yes e) false z =
-          let l : n.kind ≡ 81 → p.n ≤ n.item = λ f. ltb-false n.item p.n z in
-          same_known next p r (same a) (unmoved l) (same_tells p n a l cat few t)
-      go (no a) (no e) b z =
-          let l : n.kind ≡ 81 → p.n ≤ n.item = λ f. absurd (e f) in
-          same_known next p r (same a) (unmoved l) (same_tells p n a l cat few t)
+-- what is known after one more step, of whatever catalog this is known of
+pub advanced_tells : (p : Present) (s : Step) (r : Present) → Advanced p s r → Advances p s r
+advanced_tells p (Read i) r e cat few t = subst (λ (q : Present). Tells cat q) (sym e) t
+advanced_tells p (Write i minutes) r e cat few t = subst (λ (q : Present). Tells cat q) (sym e) t
+advanced_tells p Flush r e cat few t = subst (λ (q : Present). Tells cat q) (sym e) t
+advanced_tells p (Arrive i b l w) r (n, m) cat few t =
+    same_known (cat ++ (listed b l w ∷ [])) (record { n = p.n + 1; left = p.left }) r n (ap marks m) (tells_more cat p (p.n + 1) b l w refl t)
+advanced_tells p (Retire i) r (n, m) cat few t = go (ltb i p.n) refl m
+  where
+    go : (b : Bool) → ltb i p.n ≡ b → marks r.left ≡ cond b (set (marks p.left) i true) (marks p.left) → Tells (catalog_next cat (Retire i)) r
+    go true z h = retires p r i n (ltb-true i p.n z) h cat few t
+    go false z h =
+        subst (λ (c : Catalog). Tells c r) (sym (set_out cat i _ (omega (arith, ltb-false i p.n z, t.count)))) (same_known cat p r n h t)
 
 -- ## The catalog before a step
 
@@ -181,38 +118,33 @@ before_next cat steps s l =
     ap (λ (m : ℕ). catalog_after cat (take m steps)) (add-one s) ∙ ap (catalog_after cat) (take-suc steps s Flush l)
     ∙ after_more cat (take s steps) (get_or steps s Flush)
 
--- a walk over steps that are noted, at its start, and one step further
-pub walk_starts : (p : Present) (calls : List ℕ) (from : ℕ) → CatchesUp p calls from from p
-walk_starts p calls from cat steps w = w.tells
-
--- the walk has come to step s, and the catalog there is no longer than at the end
+-- a walk over steps that are noted: at each step the catalog is no longer than at the end
 pub walk_few :
-    (p q : Present) (calls : List ℕ) (from to s : ℕ) (cat : Catalog) (steps : List Step) →
+    (p q : Present) (calls : List ℕ) (from to s : ℕ) →
     CatchesUp p calls from s q →
     s ≤ to →
-    Walks p calls from to cat steps →
+    Walkable p calls from to →
     q.n ≤ 256
-walk_few p q calls from to s cat steps c l w =
-    let known = c cat steps (record { few = w.few; noted = w.noted; reach = omega (arith, w.reach); tells = w.tells }) in
-    omega (arith, known.count, (before_keeps cat steps s).longer, w.few)
+walk_few p q calls from to s c l h =
+    let w = h.walks in
+    let known = c h.items h.steps (record { few = w.few; noted = w.noted; reach = omega (arith, w.reach); tells = w.tells }) in
+    omega (arith, known.count, (before_keeps h.items h.steps s).longer, w.few)
 
-pub walk_ends : (p q : Present) (calls : List ℕ) (from to s : ℕ) → s ≡ to → CatchesUp p calls from s q → CatchesUp p calls from to q
-walk_ends p q calls from to s e c = subst (λ (z : ℕ). CatchesUp p calls from z q) e c
-
+-- and one step further
 pub walk_on :
-    (p q r : Present) (calls : List ℕ) (from s : ℕ) (n : Numbers) →
+    (p q r : Present) (calls : List ℕ) (from s : ℕ) →
     CatchesUp p calls from s q →
-    n ≡ numbers_behind calls (7 * s) →
-    Advances q n r →
+    Advanced q (step_of (numbers_behind calls (7 * s))) r →
     CatchesUp p calls from (s + 1) r
-walk_on p q r calls from s n c e a cat steps w =
+walk_on p q r calls from s c e cat steps w =
     let l : s < length steps = omega (arith, w.reach) in
     let before = catalog_after cat (take s steps) in
     let known : Tells before q = c cat steps (record { few = w.few; noted = w.noted; reach = omega (arith, w.reach); tells = w.tells }) in
     let short : length before ≤ 256 = omega (arith, (before_keeps cat steps s).longer, w.few) in
-    let same : step_of n ≡ get_or steps s Flush =
-    ap step_of (e ∙ noted_step calls steps s w.noted l) ∙ same_step (get_or steps s Flush) in
-    subst (λ (z : Catalog). Tells z r) (ap (catalog_next before) same ∙ sym (before_next cat steps s l)) (a before short known)
+    let same : step_of (numbers_behind calls (7 * s)) ≡ get_or steps s Flush =
+    ap step_of (noted_step calls steps s w.noted l) ∙ same_step (get_or steps s Flush) in
+    subst (λ (z : Catalog). Tells z r) (ap (catalog_next before) same ∙ sym (before_next cat steps s l))
+    (advanced_tells q (step_of (numbers_behind calls (7 * s))) r e before short known)
 
 -- ## The bytes of the items
 
@@ -268,7 +200,7 @@ module _ (bytes : List ℕ) (i b l w : ℕ) (room : 5 * i + 5 ≤ length bytes) 
   pub stored_front : (n : ℕ) → n ≤ i → take (5 * n) after ≡ take (5 * n) bytes
   stored_front n m =
       ap (take (5 * n)) (put_sets bytes (5 * i) (item_bytes (listed b l w)) room)
-      ∙ put_before bytes (5 * i) (item_bytes (listed b l w)) room (5 * n) (omega arith)
+      ∙ put_before bytes (5 * i) (item_bytes (listed b l w)) (5 * n) (omega arith) (omega arith)
 
   pub stored_past : drop (5 * (i + 1)) after ≡ drop (5 * (i + 1)) bytes
   stored_past =
@@ -295,24 +227,6 @@ arrival_facts n e r =
     let both : leb n.item 255 && item_in_range item ≡ true = rw e at r in
     let f = item_facts item (and_right (leb n.item 255) (item_in_range item) both) in
     record { number = leb-true n.item 255 (and_left (leb n.item 255) (item_in_range item) both); blocks = f.small; load = f.load; write = f.write }
-
--- it is stored, and nothing is for any other step
-module _ (n : Numbers) (bytes : List ℕ) where
-  pub stores_arrival :
-      (put : List ℕ) →
-      n.kind ≡ 65 →
-      put ≡ sets bytes (5 * n.item) (item_bytes (listed n.blocks n.load n.write)) →
-      put ≡ with_arrival (step_of n) bytes
-  stores_arrival put e h = rw (step_arrive n e) h
-
-  pub stores_nothing : n.kind ≢ 65 → bytes ≡ with_arrival (step_of n) bytes
-  stores_nothing a = go (ℕ_discrete n.kind 82) (ℕ_discrete n.kind 87) (ℕ_discrete n.kind 81)
-    where
-      go : Dec (n.kind ≡ 82) → Dec (n.kind ≡ 87) → Dec (n.kind ≡ 81) → bytes ≡ with_arrival (step_of n) bytes
-      go (yes e) x y = rw (step_read n e)
-      go (no e) (yes f) y = rw (step_write n f)
-      go (no e) (no f) (yes g) = rw (step_retire n g)
-      go (no e) (no f) (no g) = rw (step_flush n e f a g)
 
 module _ (k : ℕ) (cat : Catalog) (bytes : List ℕ) (room : item_room ≤ length bytes) (short : length cat ≤ 256) where
   -- what a step that is in range and not refused makes of the bytes and of the catalog

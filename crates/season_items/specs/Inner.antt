@@ -1,9 +1,9 @@
 -- What is known of the items after some steps, the items as bytes, acts as numbers, and what the functions of this crate ask
 -- and give. Assumes nothing.
-use mathlib.Core.{Path.◌≡◌, Bool.{Bool, true, cond, ◌&&◌}, List.{List, [], ◌∷◌, ◌++◌}}
-use Rattle.std.specs.Prelude.{ℕ, ◌+◌, ◌*◌, ◌≤◌, ◌<◌}
+use mathlib.Core.{Path.◌≡◌, Bool.{true, cond}, List.{List, [], ◌∷◌, ◌++◌}}
+use Rattle.std.specs.Prelude.{ℕ, ◌+◌, ◌*◌, ◌≤◌, ◌<◌, Result}
 use lib.{ListN.{length, take, drop, replicate, set}, Seq.sets, Dec.{ltb, eqb}}
-use Rattle.types.specs.{declared.{Step.{Step, TheVariants.{Read, Write, Flush, Arrive, Retire}}, Numbers.Numbers, Act.Act}, Types.{arrive_kind, retire_kind, step_of, act_kind, act_item}}
+use Rattle.types.specs.{declared.{Step.{Step, TheVariants.{Read, Write, Flush, Arrive, Retire}}, Act.Act, Refusal.Refusal}, Types.{step_item, act_kind, act_item, Told, telling, nothing_told, answer_told}}
 use Rattle.landlord.specs.{Catalog.{Catalog, item_at, listed, catalog_next, catalog_after}, Steps.{if_known, item_refusal}, CallNumbers.call_numbers}
 use Rattle.marks.specs.{Marks.marked, Inner.marks}
 use Rattle.catalog_bytes.specs.{Catalogs.item_in, Inner.item_bytes}
@@ -67,6 +67,10 @@ with_arrival (Retire i) bytes = bytes
 abbrev pub none_present : Present
 none_present = record { n = 0; left = replicate 4 0 }
 
+-- what an answer tells: nothing where the number is 0, else the refusal of that number, on a line and about an item
+abbrev pub told_as : ℕ → ℕ → ℕ → Told
+told_as number line item = cond (eqb number 0) nothing_told (telling number line item)
+
 -- 6, 20 or 0 for an item, by the count and the marks
 abbrev pub known_number : Present → ℕ → ℕ
 known_number p i = cond (ltb i p.n) (cond (marked p.left i) 20 0) 6
@@ -75,22 +79,22 @@ known_number p i = cond (ltb i p.n) (cond (marked p.left i) 20 0) 6
 abbrev pub TellsKnown : Present → ℕ → ℕ → Type 0
 TellsKnown p i r = (cat : Catalog) → length cat ≤ 256 → Tells cat p → r ≡ if_known cat i 0
 
--- the number that the table of refusals gives a step, by what is known of the items, and by their bytes
-abbrev pub TellsRefusal : ℕ → Present → List ℕ → Step → ℕ → Type 0
-TellsRefusal k p catalog s r = (cat : Catalog) → Tells cat p → HasItems cat catalog → r ≡ item_refusal k cat s
+-- what the table of refusals says to a step on a line, by what is known of the items, and by their bytes
+abbrev pub TellsRefusal : ℕ → Present → List ℕ → Step → ℕ → Result (Unit {0}) Refusal → Type 0
+TellsRefusal k p catalog s line r =
+    (cat : Catalog) → Tells cat p → HasItems cat catalog → answer_told r ≡ told_as (item_refusal k cat s) line (step_item s)
 
--- whether a step is the retirement of an item that is there
-abbrev pub is_leaving : Present → Numbers → Bool
-is_leaving p n = eqb n.kind retire_kind && ltb n.item p.n
-
--- one more step, by the count and the marks: an arrival is counted, and an item that leaves is marked
-pub record Advanced (p : Present) (n : Numbers) (r : Present) : Type 0 where
-  pub count : r.n ≡ cond (eqb n.kind arrive_kind) (p.n + 1) p.n
-  pub left : marks r.left ≡ cond (is_leaving p n) (set (marks p.left) n.item true) (marks p.left)
+-- one more step, by the count and the marks: an arrival is counted, and an item that is there and leaves is marked
+abbrev pub Advanced : Present → Step → Present → Type 0
+Advanced p (Arrive i b l w) r = (r.n ≡ p.n + 1) × (r.left ≡ p.left)
+Advanced p (Retire i) r = (r.n ≡ p.n) × (marks r.left ≡ cond (ltb i p.n) (set (marks p.left) i true) (marks p.left))
+Advanced p (Read i) r = r ≡ p
+Advanced p (Write i minutes) r = r ≡ p
+Advanced p Flush r = r ≡ p
 
 -- which is what is known after the step of whatever catalog that is known of
-abbrev pub Advances : Present → Numbers → Present → Type 0
-Advances p n r = (cat : Catalog) → length cat ≤ 256 → Tells cat p → Tells (catalog_next cat (step_of n)) r
+abbrev pub Advances : Present → Step → Present → Type 0
+Advances p s r = (cat : Catalog) → length cat ≤ 256 → Tells cat p → Tells (catalog_next cat s) r
 
 -- a catalog and steps that are noted, after the first `from` of which this is known of the items
 pub record Walks (p : Present) (calls : List ℕ) (from to : ℕ) (cat : Catalog) (steps : List Step) : Type 0 where

@@ -2,14 +2,15 @@
 // steps and acts as numbers.
 #![tactic(auto)]
 
-ghost use Rattle.std.specs.Prelude.{◌≡◌, true, [], ◌∷◌, ◌+◌, ◌*◌, ◌≤◌, length};
+ghost use Rattle.std.specs.Prelude.{◌≡◌, true, [], ◌∷◌, ◌+◌, ◌*◌, ◌≤◌, length, get_or};
 ghost use Rattle.types.specs.declared.Step.TheVariants.{Read};
-ghost use Rattle.types.specs.Types.{step_of};
+ghost use Rattle.types.specs.Types.{numbers_of, step_of, act_of, answer_told};
 ghost use Rattle.landlord.specs.Steps.{in_range};
 ghost use Rattle.landlord.specs.CallNumbers.{call_numbers, numbers_behind};
-ghost use Rattle.season_items.specs.Inner.{call_width, act_width, most_noted, item_room, Lookable, Walkable, act_noted, put_at, none_present, known_number, Advanced, CatchesUp, TellsRefusal, with_arrival};
+ghost use Rattle.season_items.specs.Inner.{call_width, act_width, most_noted, item_room, Lookable, Walkable, act_noted, put_at, told_as, known_number, Advanced, CatchesUp, TellsRefusal, with_arrival};
 
-use types::{Act, Numbers, Step};
+use catalog_bytes::Item;
+use types::{Act, Numbers, Refusal, Step};
 
 // The numbers of a step, noted as a call.
 pub const CALL_NUMBERS: usize = 7;
@@ -22,155 +23,150 @@ pub const CALL_ROOM: usize = CALL_NUMBERS * (MOST_NOTED + 1);
 // Of so many acts, and one more.
 pub const ACT_ROOM: usize = ACT_NUMBERS * (MOST_NOTED + 1);
 
-// What is known of the items after some steps: how many there are, and a mark for each that has left.
-#[derive(Clone, Copy)]
+// What is known of the items after some steps: how many there are, and a mark for each that has left. By default there is none.
+#[derive(Clone, Copy, Debug, Default, PartialEq, Eq)]
 pub struct Present {
     pub n: usize,
     pub left: [u64; 4],
 }
 
-// No item, and none that has left.
-pub fn none_present() -> Present
-    ensures { result ≡ none_present }
-{
-    Present { n: 0, left: [0; 4] }
+impl Present {
+    // Refused, on a line of the text, if the item is not there (6) or has left (20).
+    #[tactic(auto, unfolding(marks::specs::Marks::bit, marks::specs::Marks::marked))]
+    pub fn known(&self, item: u32, line: u32) -> Result<(), Refusal>
+        requires { self.now.n ≤ 256 }
+        ensures { answer_told result ≡ told_as (known_number self.now item) line item }
+    {
+        let i = item as usize;
+        if self.n <= i {
+            return Err(Refusal::UnknownItem { line, item });
+        }
+        if (self.left[i / 64] >> (i % 64)) % 2 == 1 {
+            return Err(Refusal::RetiredItem { line, item });
+        }
+        Ok(())
+    }
+
+    // What the table of refusals says of the item of a read or write: 6, 20, 7, or nothing.
+    fn item_refused(&self, k: u32, catalog: &[u8], item: u32, line: u32) -> Result<(), Refusal>
+        requires { Lookable self.now catalog.now }
+        ensures { TellsRefusal k self.now catalog.now (Read item) line result }
+    {
+        self.known(item, line)?;
+        if k < u32::from(catalog_bytes::get(catalog, item as usize).blocks) {
+            return Err(Refusal::ItemTooLarge { line, item });
+        }
+        Ok(())
+    }
+
+    // And of a step: a flush has no item, and an arrival's must be the next, or 19 is told.
+    pub fn step_refused(&self, k: u32, catalog: &[u8], step: Step, line: u32) -> Result<(), Refusal>
+        requires { Lookable self.now catalog.now }
+        ensures { TellsRefusal k self.now catalog.now step line result }
+    {
+        match step {
+            Step::Read { item } | Step::Write { item, .. } => self.item_refused(
+                k, catalog, item, line,
+            ),
+            Step::Flush => Ok(()),
+            Step::Arrive { item, .. } if item as usize == self.n => Ok(()),
+            Step::Arrive { item, .. } => Err(Refusal::NotNextNumber { line, item }),
+            Step::Retire { item } => self.known(item, line),
+        }
+    }
+
+    // The items after one more step. An item that is not there cannot leave.
+    pub fn advance(&mut self, step: Step)
+        requires { self.old.n ≤ 256 }
+        ensures { Advanced self.old step self.new }
+    {
+        match step {
+            Step::Arrive { .. } => self.n += 1,
+            Step::Retire { item } if (item as usize) < self.n => {
+                self.left = marks::mark(self.left, item as usize);
+            }
+            _ => {}
+        }
+    }
+
+    // The items as the steps before step `to` have left them, where they are known before step `from`.
+    pub fn catch_up(&mut self, calls: &[u32], from: usize, to: usize)
+        requires { Walkable self.old calls.now from to }
+        ensures { CatchesUp self.old calls.now from to self.new }
+    {
+        for s in from..to {
+            self.advance(noted_step(calls, s));
+        }
+    }
 }
 
-// 6 for an item that is not there, 20 for one that has left, or 0.
-pub fn known(p: Present, item: u32) -> u32
-    requires { p.n ≤ 256 }
-    ensures { result ≡ known_number p item }
+// Step `s` of those that are noted.
+pub fn noted_step(calls: &[u32], s: usize) -> Step
+    requires { (call_width * s + call_width ≤ length calls.now) × (s ≤ most_noted) }
+    ensures { result ≡ step_of (numbers_behind calls.now (call_width * s)) }
 {
-    let i = item as usize;
-    if p.n <= i {
-        return 6;
-    }
-    if (p.left[i / 64] >> (i % 64)) % 2 == 1 {
-        return 20;
-    }
-    0
-}
-
-// The number that the table of refusals gives the item of a read or write: 6, 20, 7, or 0.
-fn item_refused(k: u32, p: Present, catalog: &[u8], item: u32) -> u32
-    requires { Lookable p catalog.now }
-    ensures { TellsRefusal k p catalog.now (Read item) result }
-{
-    let number = known(p, item);
-    if number != 0 {
-        return number;
-    }
-    if k < (catalog_bytes::blocks(catalog, item as usize) as u32) {
-        return 7;
-    }
-    0
-}
-
-// And a step: a flush has no item, and an arrival's must be the next, or 19 is told.
-pub fn step_refused(k: u32, p: Present, catalog: &[u8], step: Step) -> u32
-    requires { Lookable p catalog.now }
-    ensures { TellsRefusal k p catalog.now step result }
-{
-    match step {
-        Step::Read { item } => item_refused(k, p, catalog, item),
-        Step::Write { item, minutes: _ } => item_refused(k, p, catalog, item),
-        Step::Flush => 0,
-        Step::Arrive {
-            item,
-            blocks: _,
-            load: _,
-            write: _,
-        } => if item as usize == p.n { 0 } else { 19 },
-        Step::Retire { item } => known(p, item),
-    }
-}
-
-// The items after one more step. An item that is not there cannot leave.
-pub fn advanced(p: Present, step: Numbers) -> Present
-    requires { p.n ≤ 256 }
-    ensures { Advanced p step result }
-{
-    let mut q = p;
-    if step.kind == types::ARRIVE {
-        q.n = p.n + 1;
-        return q;
-    }
-    let i = step.item as usize;
-    if step.kind == types::RETIRE && i < p.n {
-        let before = p.left;
-        let left = marks::mark(before, i);
-        q.left = left;
-    }
-    q
-}
-
-// The numbers of a step, noted as a call from place `i` on.
-fn numbers_behind(calls: &[u32], i: usize) -> Numbers
-    requires { (i + call_width ≤ length calls.now) × (i ≤ call_width * most_noted) }
-    ensures { result ≡ numbers_behind calls.now i }
-{
-    Numbers {
+    let i = CALL_NUMBERS * s;
+    types::step_of(Numbers {
         kind: calls[i + 1],
         item: calls[i + 2],
         minutes: calls[i + 3],
         blocks: calls[i + 4],
         load: calls[i + 5],
         write: calls[i + 6],
-    }
+    })
 }
 
-// The items as the steps before step `to` have left them, where they are known before step `from`.
-pub fn caught_up(p: Present, calls: &[u32], from: usize, to: usize) -> Present
-    requires { Walkable p calls.now from to }
-    ensures { CatchesUp p calls.now from to result }
+// Act `a` of those that are noted.
+pub fn noted_act(acts: &[u32], a: usize) -> Act
+    requires { (act_width * a + act_width ≤ length acts.now) × (a ≤ most_noted) }
+    ensures { result ≡ act_of (get_or acts.now (act_width * a + 1) 0) (get_or acts.now (act_width * a + 2) 0) }
 {
-    let mut q = p;
-    let mut s = from;
-    while s < to {
-        let step = numbers_behind(calls, CALL_NUMBERS * s);
-        q = advanced(q, step);
-        s += 1;
+    let item = acts[ACT_NUMBERS * a + 2];
+    if acts[ACT_NUMBERS * a + 1] == types::EVICT {
+        Act::Evict { item }
+    } else {
+        Act::Fetch { item }
     }
-    q
 }
 
 // Stores the item of an arrival behind the others.
-pub fn put_arrival(catalog: &mut [u8], step: Numbers)
-    requires { (in_range step ≡ true) × (item_room ≤ length catalog.old) }
-    ensures { catalog.new ≡ with_arrival (step_of step) catalog.old }
+pub fn put_arrival(catalog: &mut [u8], step: Step)
+    requires { (in_range (numbers_of step) ≡ true) × (item_room ≤ length catalog.old) }
+    ensures { catalog.new ≡ with_arrival step catalog.old }
 {
-    if step.kind == types::ARRIVE {
-        catalog_bytes::put(
-            catalog,
-            step.item as usize,
-            step.blocks as u8,
-            step.load as u16,
-            step.write as u16,
-        );
+    if let Step::Arrive {
+        item,
+        blocks,
+        load,
+        write,
+    } = step
+    {
+        let listed = Item {
+            blocks: blocks as u8,
+            load: load as u16,
+            write: write as u16,
+        };
+        catalog_bytes::put(catalog, item as usize, listed);
     }
 }
 
 // Notes a step as a call's seven numbers, from place `i` on.
+#[tactic(auto, using(crate::proofs::Notes::put_part), unfolding(landlord::specs::CallNumbers::call_numbers))]
 pub fn put_step(calls: &mut [u32], i: usize, step: Step)
     requires { (i + call_width ≤ length calls.old) × (i ≤ call_width * most_noted) }
     ensures { calls.new ≡ put_at calls.old i (call_numbers (step ∷ [])) }
 {
     let n = step.numbers();
-    calls[i] = 0;
-    calls[i + 1] = n.kind;
-    calls[i + 2] = n.item;
-    calls[i + 3] = n.minutes;
-    calls[i + 4] = n.blocks;
-    calls[i + 5] = n.load;
-    calls[i + 6] = n.write;
+    calls[i..i + CALL_NUMBERS].copy_from_slice(&[
+        0, n.kind, n.item, n.minutes, n.blocks, n.load, n.write,
+    ]);
 }
 
 // Notes an act's three numbers, from place `i` on.
+#[tactic(auto, using(crate::proofs::Notes::put_part))]
 pub fn put_act(acts: &mut [u32], i: usize, place: u32, act: Act)
     requires { (i + act_width ≤ length acts.old) × (i ≤ act_width * most_noted) }
     ensures { acts.new ≡ put_at acts.old i (act_noted place act) }
 {
-    acts[i] = place;
-    acts[i + 1] = act.kind();
-    acts[i + 2] = act.item();
+    acts[i..i + ACT_NUMBERS].copy_from_slice(&[place, act.kind(), act.item()]);
 }

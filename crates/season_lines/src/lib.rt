@@ -12,7 +12,7 @@ use line_fields::Field;
 use types::{Act, Deduction, Numbers, Refusal, Step};
 
 // What a value line says: a line of one of the four tables.
-#[derive(Clone, Copy)]
+#[derive(Clone, Copy, Debug, PartialEq, Eq)]
 pub enum Line {
     Sizes {
         k: u32,

@@ -2,12 +2,12 @@
 -- `OneText` in specs/Log.antt.
 -- Assumes nothing.
 use mathlib.Core.Path.{◌≡◌, refl, sym, ap, ◌∙◌}
-use mathlib.Core.Bool.{Bool, true, false, cond}
+use mathlib.Core.Bool.{true, cond}
 use mathlib.Core.List.{List, [], ◌∷◌, ◌++◌, append_assoc}
 use Prim.Native.Nat.{ℕ, zero, suc, ◌+◌, ◌*◌, ◌/◌, ◌≤◌}
 use native.Mathlib.Omega.{arith}
-use borrow.Author.Tests.{le-leb, leb-true, eqb-true}
-use lib.Dec.{leb, eqb}
+use borrow.Author.Tests.{le-leb, leb-true}
+use lib.Dec.{eqb}
 use lib.ListN.{length, drop, length-append}
 use lib.Seq.{append_snoc}
 use Rattle.decimal.specs.Decimal.{same_text}
@@ -15,25 +15,19 @@ use Rattle.decimal.proofs.Texts.{same_true}
 use Rattle.fields.specs.LittleEndian.{number_at, to_bytes}
 use Rattle.fields.proofs.Laws.{length_to, from_front, past}
 use Rattle.types.specs.declared.Refusal.{Refusal}
-use Rattle.types.specs.declared.Refusal.TheVariants.{Malformed, Heading, OutOfRange, InputTooLong}
 use Rattle.types.specs.declared.Step.{Step}
-use Rattle.types.specs.declared.Step.TheVariants.{Read, Write, Flush, Arrive, Retire}
 use Rattle.types.specs.declared.Numbers.{Numbers}
 use Rattle.types.specs.Types.{numbers_from, numbers_of, step_of, telling, refusal_from}
 use Rattle.types.proofs.Steps.{same_step}
-use Rattle.landlord.specs.Catalog.{listed, item_in_range}
-use Rattle.landlord.specs.Steps.{is_item_number, in_range}
-use Rattle.landlord.proofs.Ranges.{item_facts}
+use Rattle.landlord.specs.Steps.{in_range}
 use Rattle.season_lines.specs.declared.Line.{Line}
-use Rattle.season_lines.specs.declared.Line.TheVariants.{Sizes, Item as ItemLine, Step as StepLine, Act as ActLine, Refused}
-use Rattle.season_lines.specs.declared.Names.{Names}
-use Rattle.season_lines.specs.declared.Names.TheVariants.{Known, Unknown}
+use Rattle.season_lines.specs.declared.Line.TheVariants.{Sizes, Item as ItemLine, Step as StepLine, Act as ActLine}
+use Rattle.std.specs.Prelude.{Option, Some, None, Result, Ok, Err}
 use Rattle.line_fields.specs.Fields.{split, fields_of}
 use Rattle.season_lines.specs.Lines.{headings, heading_text, heading_among, heading_of, numbers_under, range_under, line_in}
 use Rattle.line_fields.proofs.Laws.{and_parts}
-use Rattle.season_lines.proofs.Laws.{both_yes}
 use Rattle.line_fields.proofs.Pieces.{split_some}
-use Rattle.season_log.specs.Log.{Logged, steps, fault, ahead, is_heading, step_text, step_lines, log_text, list_number, list_numbers, told_line, lent_from, lent_under, lent_log, numbers_onto, list_of, line_ahead, read_lines, headed, read_table, read_log, steps_in_range, OneText}
+use Rattle.season_log.specs.Log.{Logged, steps, fault, ahead, is_heading, step_text, step_lines, log_text, list_number, list_numbers, told_line, lent_from, lent_log, numbers_onto, list_of, line_ahead, read_lines, headed, read_table, read_log, steps_in_range, OneText}
 pub use Rattle.season_log.specs.Inner.{onward}
 use Rattle.season_log.proofs.Lines.{lacks, joined, split_first, join_split, ranged, ranged_in, line_of, step_line_lem, line_lacks, kind_kept, under_same, step_ranged, step_written, step_reads}
 
@@ -87,9 +81,9 @@ names_lack : (heading : ℕ) → is_heading heading ≡ true → lacks 10 (headi
 unfolding headings lacks
 names_lack = heading_is (λ f. lacks 10 (heading_text 2 f) ≡ true) refl refl
 
-names_heading : (heading : ℕ) → is_heading heading ≡ true → heading_of 2 (heading_text 2 heading) ≡ Known heading
+names_heading : (heading : ℕ) → is_heading heading ≡ true → heading_of 2 (heading_text 2 heading) ≡ Some heading
 unfolding heading_of heading_among headings same_text
-names_heading = heading_is (λ f. heading_of 2 (heading_text 2 f) ≡ Known f) refl refl
+names_heading = heading_is (λ f. heading_of 2 (heading_text 2 f) ≡ Some f) refl refl
 
 log_split : (heading : ℕ) (ss : List Step) → is_heading heading ≡ true → split 10 (log_text heading ss) ≡ heading_text 2 heading ∷ split 10 (step_lines heading ss)
 unfolding log_text
@@ -106,7 +100,7 @@ written_reads heading ss h r few =
     rw (le-leb (length (log_text heading ss)) 65536 few)
     (ap read_table (log_split heading ss h)
     ∙ table_first (heading_text 2 heading) (step_lines heading ss)
-    ∙ ap (λ (x : Names). headed x (split 10 (step_lines heading ss))) (names_heading heading h)
+    ∙ ap (λ (x : Option ℕ). headed x (split 10 (step_lines heading ss))) (names_heading heading h)
     ∙ lines_read heading 2 ss r)
 
 -- ## What is read is written
@@ -120,10 +114,7 @@ Written heading ls read ss = (step_lines heading ss ≡ joined 10 ls) × (steps_
 
 none_written : (heading : ℕ) (l : List ℕ) (f : ℕ) (ss : List Step) → length l ≡ 0 → steps heading [] ≡ steps f ss → Written heading (l ∷ []) f ss
 unfolding joined step_lines steps_in_range
-none_written heading [] f ss h e =
-    let same : [] ≡ ss = cc in
-    let named : heading ≡ f = cc in
-    rw (← same) (refl, refl, named)
+none_written heading [] f ss h e = grind arith
 none_written heading (x ∷ l) f ss h e = absurd (omega arith)
 
 one_written :
@@ -134,58 +125,36 @@ one_written :
     Written heading (l ∷ m ∷ rest) f ss
 unfolding joined step_lines steps_in_range
 one_written heading l m rest s g later f ss a w e =
-    let same : s ∷ later ≡ ss = cc in
-    let named : g ≡ f = cc in
     let text : step_text heading s ++ step_lines heading later ≡ l ++ (10 ∷ joined 10 (m ∷ rest)) =
     (λ i. a.0 i ++ w.0 i) ∙ append_assoc l (10 ∷ []) (joined 10 (m ∷ rest)) in
-    rw (← same) (text, both_yes (ranged heading s) (steps_in_range heading later) a.1 w.1, w.2 ∙ named)
+    let same : s ∷ later ≡ ss = cc in
+    rw (← same) (text, grind arith, grind arith)
 
 lines_written : (heading n : ℕ) (ls : List (List ℕ)) (f : ℕ) (ss : List Step) → read_lines heading n ls ≡ steps f ss → Written heading ls f ss
-unfolding read_lines
-lines_written heading n [] f ss e =
-    unfold joined step_lines steps_in_range in
-    (let same : [] ≡ ss = cc in
-    let named : heading ≡ f = cc in
-    rw (← same) (refl, refl, named))
-lines_written heading n (l ∷ []) f ss e = go (eqb (length l) 0) refl e
-  where
-    go : (t : Bool) → eqb (length l) 0 ≡ t → cond t (steps heading []) (fault (Malformed n)) ≡ steps f ss → Written heading (l ∷ []) f ss
-    go true b e = none_written heading l f ss (eqb-true (length l) 0 b) e
-    go false b e = absurd (no_steps_lem (Malformed n) f ss e)
+unfolding read_lines joined step_lines steps_in_range
+lines_written heading n [] f ss e = grind arith
+lines_written heading n (l ∷ []) f ss e = none_written heading l f ss (grind arith) (grind arith)
 lines_written heading n (l ∷ m ∷ rest) f ss e =
-    go (line_in 2 heading (fields_of l) n) (read_lines heading (suc n) (m ∷ rest)) (λ s. step_written heading l n s)
-    (λ g later. lines_written heading (suc n) (m ∷ rest) g later) e
+    go (line_in 2 heading (fields_of l) n) refl (read_lines heading (suc n) (m ∷ rest)) (lines_written heading (suc n) (m ∷ rest)) e
   where
     go :
-        (line : Line) (below : Logged) →
-        ((s : Step) → line ≡ StepLine s → (step_text heading s ≡ l ++ (10 ∷ [])) × (ranged heading s ≡ true)) →
+        (line : Result Line Refusal) →
+        line_in 2 heading (fields_of l) n ≡ line →
+        (below : Logged) →
         ((g : ℕ) (later : List Step) → below ≡ steps g later → Written heading (m ∷ rest) g later) →
         line_ahead line below ≡ steps f ss →
         Written heading (l ∷ m ∷ rest) f ss
-    go (StepLine s) (steps g later) a b e = one_written heading l m rest s g later f ss (a s refl) (b g later refl) e
-    go (StepLine s) (fault r) a b e = absurd (no_steps_lem r f ss e)
-    go (Refused r) below a b e = absurd (no_steps_lem r f ss e)
-    go (Sizes k h r) below a b e = absurd (no_steps_lem (Malformed 0) f ss e)
-    go (ItemLine i blocks load write) below a b e = absurd (no_steps_lem (Malformed 0) f ss e)
-    go (ActLine place act) below a b e = absurd (no_steps_lem (Malformed 0) f ss e)
+    go (Ok (StepLine s)) h (steps g later) k e = one_written heading l m rest s g later f ss (step_written heading l n s h) (k g later refl) e
+    go (Ok (StepLine s)) h (fault r) k e = cc
+    go (Ok (Sizes _ _ _)) h below k e = cc
+    go (Ok (ItemLine _ _ _ _)) h below k e = cc
+    go (Ok (ActLine _ _)) h below k e = cc
+    go (Err r) h below k e = cc
 
 -- a line that is a heading is that one, word for word
-heading_names : (l : List ℕ) (f : ℕ) → heading_of 2 l ≡ Known f → (l ≡ heading_text 2 f) × (is_heading f ≡ true)
+heading_names : (l : List ℕ) (f : ℕ) → heading_of 2 l ≡ Some f → (l ≡ heading_text 2 f) × (is_heading f ≡ true)
 unfolding heading_of heading_among headings
-heading_names l f e = go (same_text l (heading_text 2 0)) (same_text l (heading_text 2 1)) refl refl e
-  where
-    is : (g : ℕ) → l ≡ heading_text 2 g → is_heading g ≡ true → Known g ≡ Known f → (l ≡ heading_text 2 f) × (is_heading f ≡ true)
-    is g h k e = let same : g ≡ f = cc in (h ∙ ap (heading_text 2) same, ap is_heading (sym same) ∙ k)
-
-    go :
-        (t u : Bool) →
-        same_text l (heading_text 2 0) ≡ t →
-        same_text l (heading_text 2 1) ≡ u →
-        cond t (Known 0) (cond u (Known 1) Unknown) ≡ Known f →
-        (l ≡ heading_text 2 f) × (is_heading f ≡ true)
-    go true u h k e = is 0 (same_true l (heading_text 2 0) h) refl e
-    go false true h k e = is 1 (same_true l (heading_text 2 1) k) refl e
-    go false false h k e = let z : ◌≡◌ {A = ℕ} 0 1 = cc in absurd (omega arith)
+heading_names l f e = grind (arith, same_true l)
 
 -- what a text that is read is
 abbrev Read-is : List ℕ → ℕ → List Step → Type 0
@@ -193,8 +162,8 @@ Read-is s heading ss = (log_text heading ss ≡ s) × (is_heading heading ≡ tr
 
 table_written : (ls : List (List ℕ)) (heading : ℕ) (ss : List Step) → read_table ls ≡ steps heading ss → Read-is (joined 10 ls) heading ss
 unfolding read_table
-table_written [] heading ss e = absurd (no_steps_lem (Heading 1) heading ss e)
-table_written (l ∷ []) heading ss e = absurd (no_steps_lem _ heading ss e)
+table_written [] heading ss e = cc
+table_written (l ∷ []) heading ss e = cc
 table_written (l ∷ m ∷ rest) heading ss e = go (heading_of 2 l) refl e
   where
     below : (f : ℕ) → (l ≡ heading_text 2 f) × (is_heading f ≡ true) → Written f (m ∷ rest) heading ss → Read-is (joined 10 (l ∷ m ∷ rest)) heading ss
@@ -202,75 +171,35 @@ table_written (l ∷ m ∷ rest) heading ss e = go (heading_of 2 l) refl e
         unfold log_text joined in
         (rw (← w.2) ((λ i. sym a.0 i ++ (10 ∷ w.0 i)), a.1, w.1))
 
-    go : (x : Names) → heading_of 2 l ≡ x → headed x (m ∷ rest) ≡ steps heading ss → Read-is (joined 10 (l ∷ m ∷ rest)) heading ss
-    go (Known f) h e = below f (heading_names l f h) (lines_written f 2 (m ∷ rest) heading ss e)
-    go Unknown h e = absurd (no_steps_lem (Heading 1) heading ss e)
+    go : (x : Option ℕ) → heading_of 2 l ≡ x → headed x (m ∷ rest) ≡ steps heading ss → Read-is (joined 10 (l ∷ m ∷ rest)) heading ss
+    go (Some f) h e = below f (heading_names l f h) (lines_written f 2 (m ∷ rest) heading ss e)
+    go None h e = cc
 
 reads_written : (s : List ℕ) (heading : ℕ) (ss : List Step) → read_log s ≡ steps heading ss → Read-is s heading ss
 unfolding read_log
-reads_written s heading ss e = go (leb (length s) 65536) e
-  where
-    go : (t : Bool) → cond t (read_table (split 10 s)) (fault (InputTooLong 0)) ≡ steps heading ss → Read-is s heading ss
-    go true e =
-        let w = table_written (split 10 s) heading ss e in
-        (w.0 ∙ join_split 10 s, w.1, w.2)
-    go false e = absurd (no_steps_lem (InputTooLong 0) heading ss e)
+reads_written s heading ss e = rw join_split at (table_written (split 10 s) heading ss (grind arith))
 
 -- ## Steps as they are lent
 
-lent_ranged :
+pub lent_ranged :
     (heading m n : ℕ) (list : List ℕ) (f : ℕ) (ss : List Step) → lent_from heading m n list ≡ steps f ss → (f ≡ heading) × (steps_in_range heading ss ≡ true)
 unfolding lent_from steps_in_range
-lent_ranged heading zero n list f ss e = go (eqb (length list) 0) e
+lent_ranged heading zero n list f ss e = grind arith
+lent_ranged heading (suc m) n list f ss e = go (lent_from heading m (suc n) (drop 24 list)) refl (lent_ranged heading m (suc n) (drop 24 list))
   where
-    go : (t : Bool) → cond t (steps heading []) (fault (OutOfRange (told_line n))) ≡ steps f ss → (f ≡ heading) × (steps_in_range heading ss ≡ true)
-    go true e =
-        let same : [] ≡ ss = cc in
-        let named : heading ≡ f = cc in
-        (sym named, rw (← same) refl)
-    go false e = absurd (no_steps_lem (OutOfRange (told_line n)) f ss e)
-lent_ranged heading (suc m) n list f ss e =
-    go (eqb (range_under heading numbers) 0) (lent_from heading m (suc n) (drop 24 list)) refl
-    (λ g later. lent_ranged heading m (suc n) (drop 24 list) g later) e
-  where
-    numbers : Numbers
-    numbers = list_numbers 0 list
-
-    step : Step
-    step = step_of (numbers_under heading numbers)
-
-    no : Refusal
-    no = refusal_from (telling (range_under heading numbers) (told_line n) 0)
-
     go :
-        (t : Bool) (below : Logged) →
-        eqb (range_under heading numbers) 0 ≡ t →
-        ((g : ℕ) (later : List Step) → below ≡ steps g later → (g ≡ heading) × (steps_in_range heading later ≡ true)) →
-        cond t (ahead step below) (fault no) ≡ steps f ss →
+        (below : Logged) →
+        lent_from heading m (suc n) (drop 24 list) ≡ below →
+        ((g : ℕ) (later : List Step) → lent_from heading m (suc n) (drop 24 list) ≡ steps g later → (g ≡ heading) × (steps_in_range heading later ≡ true)) →
         (f ≡ heading) × (steps_in_range heading ss ≡ true)
-    go true (steps g later) r a e =
-        let same : step ∷ later ≡ ss = cc in
-        let named : g ≡ f = cc in
-        let rest = a g later refl in
-        (sym named ∙ rest.0, rw (← same) (both_yes _ _ (step_ranged heading numbers (eqb-true _ 0 r)) rest.1))
-    go true (fault q) r a e = absurd (no_steps_lem q f ss e)
-    go false below r a e = absurd (no_steps_lem no f ss e)
+    go (steps g later) k rest = grind (arith, rest g later k, step_ranged heading (list_numbers 0 list))
+    go (fault q) k rest = grind arith
 
 lent_in_range :
     (asked : ℕ) (list : List ℕ) (heading : ℕ) (ss : List Step) →
     lent_log asked list ≡ steps heading ss →
     (heading ≡ asked) × (is_heading heading ≡ true) × (steps_in_range heading ss ≡ true)
-lent_in_range asked list heading ss e = go (is_heading asked) refl e
-  where
-    go :
-        (t : Bool) →
-        is_heading asked ≡ t →
-        cond t (lent_under asked list) (fault (OutOfRange 1)) ≡ steps heading ss →
-        (heading ≡ asked) × (is_heading heading ≡ true) × (steps_in_range heading ss ≡ true)
-    go true h e =
-        let w = lent_ranged asked (length list / 24) 2 list heading ss e in
-        (w.0, ap is_heading w.0 ∙ h, ap (λ (f : ℕ). steps_in_range f ss) w.0 ∙ w.1)
-    go false h e = absurd (no_steps_lem (OutOfRange 1) heading ss e)
+lent_in_range asked list heading ss e = grind (arith, lent_ranged asked (length list / 24) 2 list heading ss)
 
 -- a heading keeps the numbers of a step that its log may have
 under_kept : (heading : ℕ) (s : Step) → ranged heading s ≡ true → numbers_under heading (numbers_of s) ≡ numbers_of s
@@ -286,22 +215,10 @@ pub record Small (n : Numbers) : Type 0 where
   pub write : n.write ≤ 65535
 
 pub step_small : (heading : ℕ) (s : Step) → ranged heading s ≡ true → Small (numbers_of s)
-step_small heading s r = go s (sym (ap in_range (under_kept heading s r)) ∙ ranged_in heading s r)
+step_small heading s r = small s (sym (ap in_range (under_kept heading s r)) ∙ ranged_in heading s r)
   where
-    go : (s : Step) → in_range (numbers_of s) ≡ true → Small (numbers_of s)
-    go (Read i) r =
-        record { kind = omega arith; item = leb-true i 255 r; minutes = omega arith; blocks = omega arith; load = omega arith; write = omega arith }
-    go (Write i m) r =
-        let both = and_parts (is_item_number i) (leb m 1440) r in
-        record { kind = omega arith; item = leb-true i 255 both.0; minutes = leb-true m 1440 both.1; blocks = omega arith; load = omega arith; write = omega arith }
-    go Flush r =
-        record { kind = omega arith; item = omega arith; minutes = omega arith; blocks = omega arith; load = omega arith; write = omega arith }
-    go (Arrive i b l w) r =
-        let both = and_parts (is_item_number i) (item_in_range (listed b l w)) r in
-        let f = item_facts (listed b l w) both.1 in
-        record { kind = omega arith; item = leb-true i 255 both.0; minutes = omega arith; blocks = f.small; load = f.load; write = f.write }
-    go (Retire i) r =
-        record { kind = omega arith; item = leb-true i 255 r; minutes = omega arith; blocks = omega arith; load = omega arith; write = omega arith }
+    small : (s : Step) → in_range (numbers_of s) ≡ true → Small (numbers_of s)
+    small s r = record { kind = grind arith; item = grind arith; minutes = grind arith; blocks = grind arith; load = grind arith; write = grind arith }
 
 -- a number in front of others, and behind it
 number_first : (v : ℕ) (rest : List ℕ) → v ≤ 65535 → list_number 0 (to_bytes 4 v ++ rest) ≡ v

@@ -1,195 +1,34 @@
--- The laws of the writer: the line of a step, the steps that a list has from a place on, how many bytes their text has or what refuses it,
--- their lines on a page, and what writing answers. Assumes nothing.
+-- The laws of the writer: the steps that a list has from a place on, how many bytes their text has or what refuses it, their lines on a
+-- page, and what writing answers. The line of one step is in proofs/Sizes.antt. Assumes nothing.
 use mathlib.Core.Path.{◌≡◌, refl, sym, ap, subst, ◌∙◌}
-use mathlib.Core.Bool.{Bool, true, false, cond, ◌&&◌, ◌||◌, false≢true}
-use mathlib.Core.List.{List, [], ◌++◌, append_assoc}
-use mathlib.Core.Logic.{◌≢◌, ◌⊎◌, ⊎_elim}
-use Prim.Native.Nat.{ℕ, zero, suc, ◌+◌, ◌-◌, ◌*◌, ◌/◌, ◌%◌, ◌≤◌, ◌<◌}
-use native.Mathlib.Decide.{ℕ_discrete}
+use mathlib.Core.Bool.{Bool, true, false, cond, false≢true}
+use mathlib.Core.List.{List, [], ◌++◌, append_assoc, append-nil}
+use mathlib.Core.Logic.{◌≢◌, ◌⊎◌}
+use Prim.Native.Nat.{ℕ, suc, ◌+◌, ◌-◌, ◌*◌, ◌/◌, ◌%◌, ◌≤◌, ◌<◌}
 use native.Mathlib.Omega.{arith}
-use borrow.Author.Tests.{leb-true, leb-false, le-leb, lt-leb, eq-eqb, ne_eqb}
+use borrow.Author.Tests.{le-leb, eq-eqb, ne_eqb, eqb-true, eqb-false}
 use borrow.Rule.Slice.PartMut.{mid_of, put_mid}
-use lib.Dec.{leb, eqb}
+use lib.Dec.{eqb}
 use lib.ListN.{length, drop, length-append, length-drop}
 use lib.Seq.{drop-drop}
-use Rattle.decimal.specs.Decimal.{text_of, digits_of, page_of}
+use Rattle.std.specs.Prelude.{Result, Ok, Err}
+use Rattle.decimal.specs.Decimal.{text_of}
 use Rattle.decimal.specs.InnerPages.{text_over}
-use Rattle.decimal.proofs.Laws.{digits_length, page_all, page_none}
-use Rattle.decimal.proofs.Pages.{TextGoing, go_start, go_as, go_room, go_next, go_end}
+use Rattle.decimal.proofs.Laws.{page_all, page_none}
+use Rattle.decimal.proofs.Pages.{TextGoing, go_start, go_first, go_as, go_room, go_next, go_end}
 use Rattle.fields.specs.LittleEndian.{number_at}
 use Rattle.types.specs.declared.Step.{Step}
-use Rattle.types.specs.declared.Step.TheVariants.{Flush}
 use Rattle.types.specs.declared.Numbers.{Numbers}
 use Rattle.types.specs.declared.Refusal.{Refusal}
 use Rattle.types.specs.declared.Refusal.TheVariants.{OutOfRange, ShortBuffer}
-use Rattle.types.specs.Types.{numbers_from, step_of, telling, told, refusal_from}
-use Rattle.types.proofs.Refusals.{refusal_is}
-use Rattle.types.proofs.Steps.{step_read, step_write, step_arrive, step_retire, step_flush}
-use Rattle.landlord.specs.Catalog.{listed}
+use Rattle.types.specs.Types.{numbers_from, step_of, telling, refusal_from}
 use Rattle.landlord.specs.Steps.{in_range, range_refusal}
-use Rattle.landlord.proofs.Ranges.{item_facts, range_write, range_arrive, range_wide}
-use Rattle.landlord.proofs.Steps.{free_range}
-use Rattle.season_lines.specs.Lines.{headings, heading_text, kind_under, numbers_under, range_under}
-use Rattle.season_log.specs.declared.LogAnswer.{LogAnswer}
-use Rattle.season_log.specs.declared.LogAnswer.TheVariants.{Count, Refused as Not}
-use Rattle.season_log.specs.Log.{Logged, steps, fault, ahead, no_values, step_text, step_lines, log_text, list_number, list_numbers, told_line, lent_from, lent_under, lent_log, write_answer, written_page}
-use Rattle.season_log.specs.Inner.{names_text, named_text, arrival_text, range_at, step_at, Arrives, text_size, LineFits, LinesFit, LinesOn}
-use Rattle.season_log.proofs.Lines.{by_kind, kind_kept, under_same}
-
--- ## Numbers in range
-
-pub item_range : (n : Numbers) → n.kind ≢ 76 → in_range n ≡ true → n.item ≤ 255
-item_range n f r = go (leb n.item 255) refl
-  where
-    go : (t : Bool) → leb n.item 255 ≡ t → n.item ≤ 255
-    go true e = leb-true n.item 255 e
-    go false e = absurd (false≢true (range_wide n f (leb-false n.item 255 e) ∙ r))
-
-pub minutes_range : (n : Numbers) → n.kind ≡ 87 → in_range n ≡ true → n.minutes ≤ 1440
-minutes_range n e r = leb-true n.minutes 1440 (range_write n e (item_range n (λ z. omega arith) r) ∙ r)
-
-pub arrives : (n : Numbers) → n.kind ≡ 65 → in_range n ≡ true → Arrives n
-arrives n e r =
-    let item = item_range n (λ z. omega arith) r in
-    (le-leb n.item 255 item, range_arrive n e item ∙ r)
-
--- what else is in range is a read or a retirement, and their lines differ by their letter
-pub named_step :
-    (heading : ℕ) (n : Numbers) → n.kind ≢ 76 → n.kind ≢ 87 → n.kind ≢ 65 → in_range n ≡ true → named_text heading n.kind n.item ≡ step_text heading (step_of n)
-unfolding step_text
-named_step heading n l w a r =
-    by_kind (λ m. named_text heading m.kind m.item ≡ step_text heading (step_of m)) n r
-    (λ e. rw (step_read n e, e)) (λ e. absurd (w e)) (λ e. absurd (a e)) (λ e. rw (step_retire n e, e)) (λ e. absurd (l e))
-
-pub named_letter : (n : Numbers) → in_range n ≡ true → n.kind ≤ 87
-named_letter n r = by_kind (λ m. m.kind ≤ 87) n r (λ e. omega arith) (λ e. omega arith) (λ e. omega arith) (λ e. omega arith) (λ e. omega arith)
-
--- ## Numbers under a heading
-
--- every kind but A and Q is kept
-pub old_kind : (heading k : ℕ) → (eqb k 65 || eqb k 81) ≡ false → kind_under heading k ≡ k
-old_kind heading k e = rw e (go (eqb heading 1))
-  where
-    go : (t : Bool) → cond t k k ≡ k
-    go true = refl
-    go false = refl
-
--- numbers in range under a heading are so as they are
-pub kept : (heading : ℕ) (n : Numbers) → range_under heading n ≡ 0 → (numbers_under heading n ≡ n) × (in_range n ≡ true)
-kept heading n r =
-    let near = free_range (numbers_under heading n) r in
-    let e = under_same heading n (kind_kept heading n near) in
-    (e, ap in_range (sym e) ∙ near)
-
--- and what is out of range as it is, is so under a heading
-pub range_stays : (heading : ℕ) (n : Numbers) → range_refusal n ≢ 0 → range_refusal n ≡ range_under heading n
-unfolding range_refusal
-range_stays heading n some = go (in_range n) (in_range (numbers_under heading n)) refl refl
-  where
-    go : (t u : Bool) → in_range n ≡ t → in_range (numbers_under heading n) ≡ u → ◌≡◌ {A = ℕ} (cond (in_range n) 0 3) (cond (in_range (numbers_under heading n)) 0 3)
-    go true u e d = absurd (some (rw e))
-    go false true e d = absurd (false≢true (sym e ∙ (kept heading n (rw d)).1))
-    go false false e d = rw (e, d)
-
--- ## The line of a step
-
--- how many bytes it has, by its kind
-module _ (heading : ℕ) (n : Numbers) where
-  pub arrive_line : n.kind ≡ 65 → length (arrival_text n) ≡ length (step_text heading (step_of n))
-  unfolding step_text
-  arrive_line e = ap (λ (s : Step). length (step_text heading s)) (sym (step_arrive n e))
-
-  pub flush_line : n.kind ≡ 76 → 5 + length (no_values heading) ≡ length (step_text heading (step_of n))
-  unfolding step_text
-  flush_line e =
-      omega arith
-      ∙ ap (λ (s : Step). length (step_text heading s)) (sym (step_flush n (λ z. omega arith) (λ z. omega arith) (λ z. omega arith) (λ z. omega arith)))
-
-  pub write_line : n.kind ≡ 87 → 3 + length (digits_of n.item) + length (digits_of n.minutes) + length (no_values heading) ≡ length (step_text heading (step_of n))
-  unfolding step_text
-  write_line e =
-      omega (arith, length-append (digits_of n.item) (text_of " " ++ (digits_of n.minutes ++ no_values heading)), length-append (digits_of n.minutes) (no_values heading))
-      ∙ ap (λ (s : Step). length (step_text heading s)) (sym (step_write n e))
-
-  pub named_line :
-      n.kind ≢ 76 → n.kind ≢ 87 → n.kind ≢ 65 → in_range n ≡ true → 4 + length (digits_of n.item) + length (no_values heading) ≡ length (step_text heading (step_of n))
-  named_line l w a r =
-      omega (arith, length-append (digits_of n.item) (text_of " -" ++ no_values heading)) ∙ ap length (named_step heading n l w a r)
-
--- the digits of each number
-pub item_digits : (i : ℕ) → i ≤ 255 → length (digits_of i) ≤ 3
-item_digits i h = digits_length i 3 (omega arith) (omega arith)
-
-pub minutes_digits : (m : ℕ) → m ≤ 1440 → length (digits_of m) ≤ 4
-minutes_digits m h = digits_length m 4 (omega arith) (omega arith)
-
-pub blocks_digits : (b : ℕ) → b ≤ 16 → length (digits_of b) ≤ 2
-blocks_digits b h = digits_length b 2 (omega arith) (omega arith)
-
-pub cost_digits : (c : ℕ) → c ≤ 65535 → length (digits_of c) ≤ 5
-cost_digits c h = digits_length c 5 (omega arith) (omega arith)
-
--- the numbers of an arrival, and how many bytes its line has
-pub arrival_small : (n : Numbers) → Arrives n → (n.item ≤ 255) × (n.blocks ≤ 16) × (n.load ≤ 65535) × (n.write ≤ 65535)
-arrival_small n a =
-    let f = item_facts (listed n.blocks n.load n.write) a.1 in
-    (leb-true n.item 255 a.0, f.small, f.load, f.write)
-
-pub arrival_count :
-    (n : Numbers) →
-    8 + length (digits_of n.item) + length (digits_of n.blocks) + length (digits_of n.load) + length (digits_of n.write) ≡ length (arrival_text n)
-arrival_count n =
-    let w = digits_of n.write ++ text_of "\n" in
-    let l = digits_of n.load ++ (text_of " " ++ w) in
-    let b = digits_of n.blocks ++ (text_of " " ++ l) in
-    omega (
-      arith,
-      length-append (digits_of n.item) (text_of " - " ++ b),
-      length-append (digits_of n.blocks) (text_of " " ++ l),
-      length-append (digits_of n.load) (text_of " " ++ w),
-      length-append (digits_of n.write) (text_of "\n"),
-    )
-
-pub arrival_few : (n : Numbers) → Arrives n → length (arrival_text n) ≤ 23
-arrival_few n a =
-    let s = arrival_small n a in
-    omega (
-      arith,
-      arrival_count n,
-      item_digits n.item s.0,
-      blocks_digits n.blocks s.1,
-      cost_digits n.load s.2,
-      cost_digits n.write s.3,
-    )
-
--- the end of a line, and the names, under each heading
-pub end_new : (heading : ℕ) → heading ≡ 1 → no_values heading ≡ text_of " - - -\n"
-end_new heading e = rw e
-
-pub end_old : (heading : ℕ) → heading ≢ 1 → no_values heading ≡ text_of "\n"
-end_old heading n = rw (ne_eqb heading 1 n)
-
-pub flush_new : (heading : ℕ) → heading ≡ 1 → step_text heading Flush ≡ text_of "L - - - - -\n"
-unfolding step_text
-flush_new heading e = rw e
-
-pub flush_old : (heading : ℕ) → heading ≢ 1 → step_text heading Flush ≡ text_of "L - -\n"
-unfolding step_text
-flush_old heading n = rw (ne_eqb heading 1 n)
-
-pub names_new : (heading : ℕ) → heading ≡ 1 → names_text heading ≡ text_of "step sail minutes blocks load write\n"
-unfolding headings
-names_new heading e = rw e
-
-pub names_old : (heading : ℕ) → heading ≢ 1 → names_text heading ≡ text_of "step sail minutes\n"
-unfolding headings
-names_old zero n = refl
-names_old (suc zero) n = absurd (n refl)
-names_old (suc (suc heading)) n = refl
-
--- a text on a page: how many bytes it has, and the page with it at its start
-abbrev pub TextOn : List ℕ → List ℕ → ℕ → List ℕ → Type 0
-TextOn text before n after = (n ≡ length text) × (after ≡ text_over text before)
+use Rattle.season_lines.specs.Lines.{heading_text, numbers_under, range_under}
+use Rattle.season_log.specs.Log.{Logged, steps, fault, ahead, step_text, step_lines, log_text, list_number, list_numbers, told_line, lent_from, lent_under, lent_log, write_answer, written_page, LogWritten}
+use Rattle.season_log.proofs.OneText.{lent_ranged}
+use Rattle.season_log.proofs.Sizes.{under_kept, go_last}
+use Rattle.season_log.proofs.Answers.{log_written}
+use Rattle.season_log.specs.Inner.{names_text, range_at, step_at, text_size, LineFits, LinesFit, LinesOn}
 
 -- ## The steps that a list has from a place on
 
@@ -200,59 +39,57 @@ module _ (heading : ℕ) where
   rest_start : (list : List ℕ) → rest_at 0 list ≡ lent_under heading list
   rest_start list = let e : length list - 0 ≡ length list = omega arith in ap (λ (n : ℕ). lent_from heading (n / 24) 2 list) e
 
-  -- the refusal of a number for the step of line n
-  abbrev refused_at : ℕ → ℕ → Refusal
-  refused_at number n = refusal_from (telling number (told_line n) 0)
+  -- the fault of a step that is out of range or not whole
+  abbrev fault_at : ℕ → Logged
+  fault_at at = fault (OutOfRange (told_line (at / 24 + 2)))
 
-  -- a step of these numbers, and what follows it
-  abbrev step_then : Numbers → ℕ → Logged → Logged
-  step_then m n x = cond (eqb (range_under heading m) 0) (ahead (step_of (numbers_under heading m)) x) (fault (refused_at (range_under heading m) n))
+  -- the first step of a list, of these numbers, and what follows it
+  abbrev first_is : Numbers → ℕ → Logged → Logged
+  first_is m n x = cond (eqb (range_under heading m) 0) (ahead (step_of (numbers_under heading m)) x) (fault (OutOfRange (told_line n)))
 
-  first_step : (w n : ℕ) (l : List ℕ) → lent_from heading (suc w) n l ≡ step_then (list_numbers 0 l) n (lent_from heading w (suc n) (drop 24 l))
-  unfolding lent_from
-  first_step w n l = refl
+  first_step : (w n : ℕ) (l : List ℕ) → lent_from heading (suc w) n l ≡ first_is (list_numbers 0 l) n (lent_from heading w (suc n) (drop 24 l))
+  unfolding lent_from range_refusal refusal_from
+  first_step w n l = out_of_range (in_range (numbers_under heading (list_numbers 0 l))) _
+    where
+      out_of_range :
+          (t : Bool) (x : Logged) →
+          cond (eqb (cond t 0 3) 0) x (fault (refusal_from (telling (cond t 0 3) (told_line n) 0))) ≡ cond (eqb (cond t 0 3) 0) x (fault (OutOfRange (told_line n)))
+      out_of_range true x = refl
+      out_of_range false x = refl
+
+  numbers_here : (at : ℕ) (list : List ℕ) → list_numbers 0 (drop at list) ≡ list_numbers at list
+  unfolding number_at
+  numbers_here at list =
+      let number : (n : ℕ) → list_number n (drop at list) ≡ list_number (at + n) list = λ n. rw (drop-drop n at list) in
+      λ j. numbers_from (list_number at list) (number 4 j) (number 8 j) (number 12 j) (number 16 j) (number 20 j)
 
   module _ (list : List ℕ) (at : ℕ) (more : at + 24 ≤ length list) where
-    step_here : rest_at at list ≡ step_then (list_numbers at list) (at / 24 + 2) (rest_at (at + 24) list)
-    unfolding number_at
-    step_here =
+    rest_step : rest_at at list ≡ cond (eqb (range_at heading at list) 0) (ahead (step_at heading at list) (rest_at (at + 24) list)) (fault_at at)
+    rest_step =
         let count : (length list - at) / 24 ≡ suc ((length list - (at + 24)) / 24) = omega arith in
         let line : suc (at / 24 + 2) ≡ (at + 24) / 24 + 2 = omega arith in
-        let number : (n : ℕ) → list_number n (drop at list) ≡ list_number (at + n) list = λ n. rw (drop-drop n at list) in
-        let numbers : list_numbers 0 (drop at list) ≡ list_numbers at list =
-        λ j. numbers_from (list_number at list) (number 4 j) (number 8 j) (number 12 j) (number 16 j) (number 20 j) in
-        let rest : lent_from heading ((length list - (at + 24)) / 24) (suc (at / 24 + 2)) (drop 24 (drop at list)) ≡ rest_at (at + 24) list =
-        λ j. lent_from heading ((length list - (at + 24)) / 24) (line j) (drop-drop 24 at list j) in
         ap (λ (w : ℕ). lent_from heading w (at / 24 + 2) (drop at list)) count
-        ∙ first_step ((length list - (at + 24)) / 24) (at / 24 + 2) (drop at list)
-        ∙ (λ j. step_then (numbers j) (at / 24 + 2) (rest j))
+        ∙ first_step _ _ (drop at list)
+        ∙ (λ j. first_is (numbers_here at list j) (at / 24 + 2) (lent_from heading ((length list - (at + 24)) / 24) (line j) (drop-drop 24 at list j)))
 
     rest_next : range_at heading at list ≡ 0 → rest_at at list ≡ ahead (step_at heading at list) (rest_at (at + 24) list)
-    rest_next r = step_here ∙ rw (eq-eqb (range_at heading at list) 0 r)
+    rest_next r = rest_step ∙ rw r
 
-    rest_fault : range_at heading at list ≢ 0 → rest_at at list ≡ fault (refused_at (range_at heading at list) (at / 24 + 2))
-    rest_fault r = step_here ∙ rw (ne_eqb (range_at heading at list) 0 r)
-
-  -- the fault of a step that is not whole
-  abbrev torn_at : ℕ → Logged
-  torn_at at = fault (OutOfRange (told_line (at / 24 + 2)))
+    rest_fault : range_at heading at list ≢ 0 → rest_at at list ≡ fault_at at
+    rest_fault r = rest_step ∙ rw (ne_eqb (range_at heading at list) 0 r)
 
   -- no whole step is left
-  rest_few :
-      (list : List ℕ) (at : ℕ) → length list < at + 24 →
-      rest_at at list ≡ cond (eqb (length (drop at list)) 0) (steps heading []) (torn_at at)
+  rest_few : (list : List ℕ) (at : ℕ) → length list < at + 24 → rest_at at list ≡ cond (eqb (length list - at) 0) (steps heading []) (fault_at at)
   unfolding lent_from
   rest_few list at h =
       let none : (length list - at) / 24 ≡ 0 = omega arith in
-      ap (λ (w : ℕ). lent_from heading w (at / 24 + 2) (drop at list)) none
+      rw (none, length-drop at list)
 
   rest_end : (list : List ℕ) (at : ℕ) → length list ≤ at → rest_at at list ≡ steps heading []
-  rest_end list at h =
-      rest_few list at (omega arith) ∙ ap (λ (t : Bool). cond t (steps heading []) (torn_at at)) (eq-eqb (length (drop at list)) 0 (omega (arith, length-drop at list)))
+  rest_end list at h = rest_few list at (omega arith) ∙ rw (eq-eqb (length list - at) 0 (omega arith))
 
-  rest_torn : (list : List ℕ) (at : ℕ) → at < length list → length list < at + 24 → rest_at at list ≡ torn_at at
-  rest_torn list at h k =
-      rest_few list at k ∙ ap (λ (t : Bool). cond t (steps heading []) (torn_at at)) (ne_eqb (length (drop at list)) 0 (λ e. omega (arith, length-drop at list)))
+  rest_torn : (list : List ℕ) (at : ℕ) → at < length list → length list < at + 24 → rest_at at list ≡ fault_at at
+  rest_torn list at h k = rest_few list at k ∙ rw (ne_eqb (length list - at) 0 (λ e. omega arith))
 
   -- ## Whole lists
 
@@ -261,25 +98,12 @@ module _ (heading : ℕ) where
   Under (steps f ss) = f ≡ heading
   Under (fault r) = Unit {0}
 
-  under_then : (m : Numbers) (n : ℕ) (x : Logged) → Under x → Under (step_then m n x)
-  under_then m n x u = go (eqb (range_under heading m) 0) x u
-    where
-      go : (t : Bool) (x : Logged) → Under x → Under (cond t (ahead (step_of (numbers_under heading m)) x) (fault (refused_at (range_under heading m) n)))
-      go true (steps f ss) u = u
-      go true (fault r) u = u
-      go false x u = tt
-
-  from_under : (m n : ℕ) (list : List ℕ) → Under (lent_from heading m n list)
-  unfolding lent_from
-  from_under zero n list = go (eqb (length list) 0)
-    where
-      go : (t : Bool) → Under (cond t (steps heading []) (fault (OutOfRange (told_line n))))
-      go true = refl
-      go false = tt
-  from_under (suc m) n list = under_then (list_numbers 0 list) n (lent_from heading m (suc n) (drop 24 list)) (from_under m (suc n) (drop 24 list))
-
   pub list_under : (list : List ℕ) → Under (lent_under heading list)
-  list_under list = from_under (length list / 24) 2 list
+  list_under list = go (lent_under heading list) refl
+    where
+      go : (x : Logged) → lent_under heading list ≡ x → Under x
+      go (steps f ss) e = (lent_ranged heading (length list / 24) 2 list f ss e).0
+      go (fault r) e = tt
 
   -- whether a list is one of whole steps in range, and which they are
   abbrev is_whole : Logged → Bool
@@ -304,17 +128,17 @@ module _ (heading : ℕ) where
   log_count ss = ap length (log_is ss) ∙ length-append (names_text heading) (step_lines heading ss)
 
   -- the size of the whole, b bytes of it being passed
-  abbrev size_from : ℕ → Logged → LogAnswer
-  size_from b (steps f ss) = Count (b + length (step_lines heading ss))
-  size_from b (fault r) = Not r
+  abbrev size_from : ℕ → Logged → Result ℕ Refusal
+  size_from b (steps f ss) = Ok (b + length (step_lines heading ss))
+  size_from b (fault r) = Err r
 
   size_start : (x : Logged) → Under x → text_size x ≡ size_from (length (names_text heading)) x
-  size_start (steps f ss) u = rw u (ap Count (log_count ss))
+  size_start (steps f ss) u = rw u (ap Ok (log_count ss))
   size_start (fault r) u = refl
 
   size_next : (s : Step) (b : ℕ) (x : Logged) → size_from b (ahead s x) ≡ size_from (b + length (step_text heading s)) x
   unfolding step_lines
-  size_next s b (steps f ss) = ap Count (omega (arith, length-append (step_text heading s) (step_lines heading ss)))
+  size_next s b (steps f ss) = ap Ok (omega (arith, length-append (step_text heading s) (step_lines heading ss)))
   size_next s b (fault r) = refl
 
   -- The loop's invariant: the size of what is left, the bytes of the passed steps being counted, is the size of the whole. A line has at most
@@ -335,34 +159,27 @@ module _ (heading : ℕ) where
       }
 
   module _ {list : List ℕ} {at b : ℕ} (g : Counting list at b) where
-    -- a whole step is left, of these numbers as the heading takes them
-    module _ (more : at + 24 ≤ length list) {x : Numbers} (is : x ≡ numbers_under heading (list_numbers at list)) where
-      range_is : range_refusal x ≡ range_at heading at list
-      range_is = ap range_refusal is
-
-      pub counting_next : {n : ℕ} → range_refusal x ≡ 0 → n ≡ length (step_text heading (step_of x)) → n ≤ 23 → Counting list (at + 24) (b + n)
+    -- a whole step is left, of these numbers
+    module _ (more : at + 24 ≤ length list) {x : Numbers} (is : x ≡ list_numbers at list) where
+      pub counting_next : {n : ℕ} → eqb (range_under heading x) 0 ≡ true → n ≡ length (step_text heading (step_of x)) → n ≤ 23 → Counting list (at + 24) (b + n)
       counting_next {n} free e l =
+          let range : range_at heading at list ≡ 0 = eqb-true _ 0 (rw is at free) in
+          let line : n ≡ length (step_text heading (step_at heading at list)) = e ∙ rw (is, under_kept heading (list_numbers at list) range) in
           record {
             within = more;
             even = omega (arith, g.even);
             small = omega (arith, g.small);
             leads =
-                g.leads ∙ ap (size_from b) (rest_next list at more (sym range_is ∙ free)) ∙ size_next (step_at heading at list) b (rest_at (at + 24) list)
-                ∙ ap (λ (m : ℕ). size_from (b + m) (rest_at (at + 24) list)) (sym (e ∙ ap (λ (y : Numbers). length (step_text heading (step_of y))) is));
+                g.leads ∙ ap (size_from b) (rest_next list at more range)
+                ∙ size_next (step_at heading at list) b (rest_at (at + 24) list)
+                ∙ ap (λ (m : ℕ). size_from (b + m) (rest_at (at + 24) list)) (sym line);
           }
 
       pub counted_fault :
-          {number : ℕ} {line : ℕ} →
-          number ≡ range_refusal x →
-          number ≢ 0 →
-          line ≡ told_line (at / 24 + 2) →
-          (r : Refusal) →
-          told r ≡ telling number line 0 →
-          Not r ≡ text_size (lent_under heading list)
-      counted_fault {number} {line} e f l r t =
-          let same : number ≡ range_at heading at list = e ∙ range_is in
-          ap Not (refusal_is r (telling number line 0) t ∙ (λ j. refusal_from (telling (same j) (l j) 0)))
-          ∙ sym (g.leads ∙ ap (size_from b) (rest_fault list at more (λ z. f (same ∙ z))))
+          {line : ℕ} → eqb (range_under heading x) 0 ≡ false → line ≡ told_line (at / 24 + 2) → Err (OutOfRange line) ≡ text_size (lent_under heading list)
+      counted_fault f l =
+          ap (λ (n : ℕ). Err (OutOfRange n)) l
+          ∙ sym (g.leads ∙ ap (size_from b) (rest_fault list at more (eqb-false _ 0 (rw is at f))))
 
     -- a whole step is left before the end of the whole ones
     pub counting_more : at < length list - length list % 24 → at + 24 ≤ length list
@@ -371,16 +188,16 @@ module _ (heading : ℕ) where
     -- and behind it none, but bytes of one
     pub counted_torn :
         {whole line : ℕ} → whole ≡ length list - length list % 24 → whole ≤ at → whole < length list → line ≡ told_line (whole / 24 + 2) →
-        Not (OutOfRange line) ≡ text_size (lent_under heading list)
+        Err (OutOfRange line) ≡ text_size (lent_under heading list)
     counted_torn {whole} e h k l =
         let here : whole ≡ at = omega (arith, g.even, g.within) in
-        ap (λ (n : ℕ). Not (OutOfRange n)) (l ∙ ap (λ (w : ℕ). told_line (w / 24 + 2)) here)
+        ap (λ (n : ℕ). Err (OutOfRange n)) (l ∙ ap (λ (w : ℕ). told_line (w / 24 + 2)) here)
         ∙ sym (g.leads ∙ ap (size_from b) (rest_torn list at (omega arith) (omega arith)))
 
     -- or nothing
-    pub counted_whole : length list ≤ at → Count b ≡ text_size (lent_under heading list)
+    pub counted_whole : length list ≤ at → Ok b ≡ text_size (lent_under heading list)
     unfolding step_lines
-    counted_whole h = let e : b + 0 ≡ b = omega arith in sym (g.leads ∙ ap (size_from b) (rest_end list at h) ∙ ap Count e)
+    counted_whole h = let e : b + 0 ≡ b = omega arith in sym (g.leads ∙ ap (size_from b) (rest_end list at h) ∙ ap Ok e)
 
   -- ## The lines of a list on a page
 
@@ -392,19 +209,11 @@ module _ (heading : ℕ) where
   module _ (list : List ℕ) (at : ℕ) (w : is_whole (rest_at at list) ≡ true) where
     -- a step that is left is whole
     pub whole_more : at < length list → at + 24 ≤ length list
-    whole_more h = go (leb (at + 24) (length list)) refl
-      where
-        go : (t : Bool) → leb (at + 24) (length list) ≡ t → at + 24 ≤ length list
-        go true e = leb-true (at + 24) (length list) e
-        go false e = absurd (false≢true (sym (ap is_whole (rest_torn list at h (leb-false (at + 24) (length list) e))) ∙ w))
+    whole_more h = grind (arith, rest_torn list at h)
 
     -- and in range
     whole_range : at + 24 ≤ length list → range_at heading at list ≡ 0
-    whole_range more = go (ℕ_discrete (range_at heading at list) 0)
-      where
-        go : Dec (range_at heading at list ≡ 0) → range_at heading at list ≡ 0
-        go (yes e) = e
-        go (no e) = absurd (false≢true (sym (ap is_whole (rest_fault list at more e)) ∙ w))
+    whole_range more = grind (arith, rest_fault list at more)
 
     -- and what is behind it is whole too
     whole_next :
@@ -483,63 +292,72 @@ module _ (heading : ℕ) where
 
 -- ## What writing answers
 
-abbrev pub Answers : Logged → List ℕ → LogAnswer → List ℕ → Type 0
-Answers x page r after = (r ≡ write_answer x page) × (after ≡ written_page x page)
-
-pub told_fault : (x : Logged) (r : Refusal) (page : List ℕ) → Not r ≡ text_size x → Answers x page (Not r) page
-told_fault (steps f ss) r page e = absurd (let z : ◌≡◌ {A = ℕ} 0 1 = cc in omega arith)
-told_fault (fault q) r page e = (e, refl)
-
 -- a list whose text has so many bytes has no fault
 abbrev pub Sized : Logged → ℕ → Type 0
-Sized x n = Count n ≡ text_size x
-
-no_size : {n : ℕ} {q : Refusal} → Sized (fault q) n → ⊥
-no_size e = let z : ◌≡◌ {A = ℕ} 0 1 = cc in omega arith
+Sized x n = Ok n ≡ text_size x
 
 pub sized_whole : (heading : ℕ) (x : Logged) (n : ℕ) → Under heading x → Sized x n → (x ≡ steps heading (steps_of heading x)) × (n ≡ length (log_text heading (steps_of heading x)))
-sized_whole heading (steps f ss) n u z =
-    let same : n ≡ length (log_text f ss) = cc in
-    (ap (λ (g : ℕ). steps g ss) u, same ∙ ap (λ (g : ℕ). length (log_text g ss)) u)
-sized_whole heading (fault q) n u z = absurd (no_size z)
+sized_whole heading (steps f ss) n u z = grind arith
+sized_whole heading (fault q) n u z = cc
 
-pub told_short :
-    (x : Logged) (n : ℕ) (page : List ℕ) → Sized x n → (65536 < n) ⊎ (length page < n) → Answers x page (Not (ShortBuffer 0)) page
-told_short (fault q) n page z d = absurd (no_size z)
-told_short (steps f ss) n page z d = go (leb (length (log_text f ss)) 65536) refl (leb (length (log_text f ss)) (length page)) refl
-  where
-    go :
-        (a : Bool) → leb (length (log_text f ss)) 65536 ≡ a →
-        (b : Bool) → leb (length (log_text f ss)) (length page) ≡ b →
-        (Not (ShortBuffer 0) ≡ cond (a && b) (Count (length (log_text f ss))) (Not (ShortBuffer 0)))
-        × (page ≡ cond a (page_of (log_text f ss) page) page)
-    go false e b h = (refl, refl)
-    go true e false h = (refl, sym (page_none (log_text f ss) page (leb-false (length (log_text f ss)) (length page) h)))
-    go true e true h =
-        let l = leb-true (length (log_text f ss)) 65536 e in
-        let k = leb-true (length (log_text f ss)) (length page) h in
-        let n-is : n ≡ length (log_text f ss) = cc in
-        absurd (⊎_elim (λ y. omega arith) (λ y. omega arith) d)
+answers_short :
+    (x : Logged) (n : ℕ) (page : List ℕ) → Sized x n → (65536 < n) ⊎ (length page < n) → (Err (ShortBuffer 0) ≡ write_answer x page) × (page ≡ written_page x page)
+answers_short (fault q) n page z d = cc
+answers_short (steps f ss) n page z d = grind (arith, page_none (log_text f ss) page)
 
-pub told_text :
-    (heading : ℕ) (x : Logged) (n : ℕ) (page after : List ℕ) →
+answers_text :
+    (heading : ℕ) (x : Logged) (n : ℕ) (page : List ℕ) →
     Under heading x →
     Sized x n →
     n ≤ 65536 →
     n ≤ length page →
-    after ≡ text_over (log_text heading (steps_of heading x)) page →
-    Answers x page (Count n) after
-told_text heading (fault q) n page after u z small room e = absurd (no_size z)
-told_text heading (steps f ss) n page after u z small room e =
-    let t = log_text f ss in
-    let n-is : n ≡ length t = cc in
-    let put : after ≡ text_over t page = e ∙ ap (λ (g : ℕ). text_over (log_text g ss) page) (sym u) in
-    rw (le-leb (length t) 65536 (omega arith), le-leb (length t) (length page) (omega arith))
-    (ap Count n-is, put ∙ sym (page_all t page (omega arith)))
+    (Ok n ≡ write_answer x page) × (text_over (log_text heading (steps_of heading x)) page ≡ written_page x page)
+answers_text heading (fault q) n page u z small room = cc
+answers_text heading (steps f ss) n page u z small room = grind (arith, page_all (log_text f ss) page)
 
--- a number that is a heading's, and one that is none's
-pub under_heading : (heading : ℕ) (list : List ℕ) → heading ≤ 1 → lent_under heading list ≡ lent_log heading list
-under_heading heading list h = rw (le-leb heading 1 h)
+-- of a list under a number that is a heading's, whose text has so many bytes
+module _ (heading : ℕ) (list page : List ℕ) (n : ℕ) (sized : Sized (lent_under heading list) n) where
+  -- they are too many
+  pub told_short : heading ≤ 1 → (65536 < n) ⊎ (length page < n) → LogWritten (lent_log heading list) page (Err (ShortBuffer 0)) page
+  told_short low d =
+      let a = answers_short (lent_under heading list) n page sized d in
+      rw (le-leb heading 1 low) (log_written a.0 a.1)
 
-pub told_heading : (heading : ℕ) (list page : List ℕ) → 1 < heading → Answers (lent_log heading list) page (Not (OutOfRange 1)) page
-told_heading heading list page h = rw (lt-leb heading 1 h) (refl, refl)
+  abbrev all_lines : List ℕ
+  all_lines = step_lines heading (steps_of heading (lent_under heading list))
+
+  -- or there is room for the names and the lines
+  module _ (room : n ≤ length page) where
+    all_room : length (names_text heading ++ all_lines) ≤ length page
+    all_room =
+        let whole = sized_whole heading (lent_under heading list) n (list_under heading list) sized in
+        omega (arith, whole.1, ap length (log_is heading (steps_of heading (lent_under heading list))))
+
+    pub names_fit : length (names_text heading) ≤ length page
+    names_fit = omega (arith, all_room, length-append (names_text heading) all_lines)
+
+    -- the names are written, and the lines are left
+    module _ {w : ℕ} {named : List ℕ} (count : w ≡ length (names_text heading)) (is : named ≡ text_over (names_text heading) page) where
+      going : TextGoing (names_text heading ++ all_lines) page w all_lines named
+      going = go_first (names_text heading) all_lines page all_room count is
+
+      pub lines_fit : LinesFit heading list (mid_of w (length named - w) named)
+      lines_fit =
+          record {
+            taken = steps_of heading (lent_under heading list);
+            whole = (sized_whole heading (lent_under heading list) n (list_under heading list) sized).0;
+            room = go_room all_room w all_lines [] named (go_as (sym (append-nil all_lines)) going);
+          }
+
+      pub told_text :
+          heading ≤ 1 →
+          n ≤ 65536 →
+          (after : List ℕ) →
+          LinesOn (lent_under heading list) (mid_of w (length named - w) named) after →
+          LogWritten (lent_log heading list) page (Ok n) (put_mid w (length named - w) named after)
+      told_text low small after on =
+          let under = list_under heading list in
+          let a = answers_text heading (lent_under heading list) n page under sized small room in
+          let put = go_last all_room all_lines going refl (lines_on heading (lent_under heading list) _ _ under on) in
+          rw (le-leb heading 1 low)
+          (log_written a.0 (put ∙ ap (λ (t : List ℕ). text_over t page) (sym (log_is heading (steps_of heading (lent_under heading list)))) ∙ a.1))

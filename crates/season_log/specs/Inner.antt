@@ -1,12 +1,11 @@
 -- What the inner functions of `season_log` ask and give. Assumes nothing.
 use mathlib.Core.{Path.◌≡◌, Bool.true, List.{List, ◌∷◌, ◌++◌}}
-use Rattle.std.specs.Prelude.{ℕ, ◌+◌, ◌≤◌, length}
+use Rattle.std.specs.Prelude.{ℕ, ◌+◌, ◌≤◌, length, Result, Ok, Err}
 use Rattle.decimal.specs.{Decimal.{text_of, digits_of}, InnerPages.text_over}
-use Rattle.types.specs.declared.{Step.Step, Numbers.Numbers}
+use Rattle.types.specs.declared.{Step.Step, Numbers.Numbers, Refusal.Refusal}
 use Rattle.types.specs.Types.{step_of}
 use Rattle.landlord.specs.{Catalog.{listed, item_in_range}, Steps.is_item_number}
 use Rattle.season_lines.specs.Lines.{heading_text, numbers_under, range_under}
-use Rattle.season_log.specs.declared.LogAnswer.{LogAnswer, TheVariants.{Count, Refused as Not}}
 use Rattle.season_log.specs.Log.{Logged, steps, fault, no_values, step_text, step_lines, log_text, list_numbers, lent_under}
 
 -- steps in front of what follows them
@@ -39,9 +38,9 @@ abbrev pub Arrives : Numbers → Type 0
 Arrives n = (is_item_number n.item ≡ true) × (item_in_range (listed n.blocks n.load n.write) ≡ true)
 
 -- how many bytes the text of a list has, or the refusal of its first fault
-abbrev pub text_size : Logged → LogAnswer
-text_size (steps heading ss) = Count (length (log_text heading ss))
-text_size (fault r) = Not r
+abbrev pub text_size : Logged → Result ℕ Refusal
+text_size (steps heading ss) = Ok (length (log_text heading ss))
+text_size (fault r) = Err r
 
 -- a step in range at a place of a list whose line has room on the page
 pub record LineFits (heading : ℕ) (list : List ℕ) (at : ℕ) (page : List ℕ) : Type 0 where

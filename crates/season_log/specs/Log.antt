@@ -1,15 +1,14 @@
 -- The third table alone: the text that is written from a list of steps, and its reading. Paper 02, 'Two' and 'Six'. Assumes nothing.
 use mathlib.Core.{Path.◌≡◌, Bool.{Bool, true, cond, ◌&&◌}, List.{List, [], ◌∷◌, ◌++◌}}
-use Rattle.std.specs.Prelude.{ℕ, zero, suc, ◌+◌, ◌/◌, ◌≤◌}
+use Rattle.std.specs.Prelude.{ℕ, zero, suc, ◌+◌, ◌/◌, ◌≤◌, Option, Some, None, Result, Ok, Err}
 use lib.{ListN.{length, drop}, Dec.{leb, eqb}}
 use Rattle.decimal.specs.Decimal.{text_of, digits_of, fits, page_of}
 use Rattle.fields.specs.LittleEndian.{number_at, to_bytes}
 use Rattle.types.specs.declared.{Step.{Step, TheVariants.{Read, Write, Flush, Arrive, Retire}}, Numbers.Numbers, Refusal.{Refusal, TheVariants.{Malformed, Heading, OutOfRange, ShortBuffer, InputTooLong}}}
-use Rattle.types.specs.Types.{numbers_from, numbers_of, step_of, Told, telling, nothing_told, told, refusal_from}
-use Rattle.season_lines.specs.declared.{Names.{Names, TheVariants.{Known, Unknown}}, Line.{Line, TheVariants.{Sizes, Item as ItemLine, Step as StepLine, Act as ActLine, Refused}}}
+use Rattle.types.specs.Types.{numbers_from, numbers_of, step_of, telling, answer_told, refusal_from}
+use Rattle.season_lines.specs.declared.Line.{Line, TheVariants.{Sizes, Item as ItemLine, Step as StepLine, Act as ActLine}}
 use Rattle.line_fields.specs.Fields.{split, fields_of}
 use Rattle.season_lines.specs.Lines.{heading_text, heading_of, numbers_under, range_under, line_in}
-use Rattle.season_log.specs.declared.LogAnswer.{LogAnswer, TheVariants.{Count, Refused as Not}}
 
 -- the heading and the steps of a list or of a text, or the refusal of its first fault
 pub data Logged : Type 0 where
@@ -95,12 +94,12 @@ list_of (s ∷ rest) = numbers_onto (numbers_of s) (list_of rest)
 -- ## The reading of a text
 
 -- a value line in front of what follows it; a line of this table is a step or refused
-abbrev pub line_ahead : Line → Logged → Logged
-line_ahead (StepLine s) rest = ahead s rest
-line_ahead (Refused r) rest = fault r
-line_ahead (Sizes k h r) rest = fault (Malformed 0)
-line_ahead (ItemLine i b l w) rest = fault (Malformed 0)
-line_ahead (ActLine place act) rest = fault (Malformed 0)
+abbrev pub line_ahead : Result Line Refusal → Logged → Logged
+line_ahead (Ok (StepLine s)) rest = ahead s rest
+line_ahead (Ok (Sizes k h r)) rest = fault (Malformed 0)
+line_ahead (Ok (ItemLine i b l w)) rest = fault (Malformed 0)
+line_ahead (Ok (ActLine place act)) rest = fault (Malformed 0)
+line_ahead (Err r) rest = fault r
 
 -- The lines under a heading from line n on. The last piece is what stands behind the last line feed: bytes there are a line without one.
 unfoldable pub read_lines : ℕ → ℕ → List (List ℕ) → Logged
@@ -109,9 +108,9 @@ read_lines heading n (l ∷ []) = cond (eqb (length l) 0) (steps heading []) (fa
 read_lines heading n (l ∷ m ∷ rest) = line_ahead (line_in 2 heading (fields_of l) n) (read_lines heading (suc n) (m ∷ rest))
 
 -- the line of names, and the lines that follow it
-abbrev pub headed : Names → List (List ℕ) → Logged
-headed (Known heading) rest = read_lines heading 2 rest
-headed Unknown rest = fault (Heading 1)
+abbrev pub headed : Option ℕ → List (List ℕ) → Logged
+headed (Some heading) rest = read_lines heading 2 rest
+headed None rest = fault (Heading 1)
 
 -- "the heading being line 1"
 unfoldable pub read_table : List (List ℕ) → Logged
@@ -126,11 +125,11 @@ read_log s = cond (leb (length s) 65536) (read_table (split 10 s)) (fault (Input
 -- ## What writing answers
 
 -- "A buffer too short, or a text over 65,536 bytes, is the short page"
-abbrev pub write_answer : Logged → List ℕ → LogAnswer
+abbrev pub write_answer : Logged → List ℕ → Result ℕ Refusal
 write_answer (steps heading ss) page =
     let text = log_text heading ss in
-    cond (leb (length text) 65536 && fits text page) (Count (length text)) (Not (ShortBuffer 0))
-write_answer (fault r) page = Not r
+    cond (leb (length text) 65536 && fits text page) (Ok (length text)) (Err (ShortBuffer 0))
+write_answer (fault r) page = Err r
 
 -- and the page then
 abbrev pub written_page : Logged → List ℕ → List ℕ
@@ -139,18 +138,14 @@ written_page (steps heading ss) page =
     cond (leb (length text) 65536) (page_of text page) page
 written_page (fault r) page = page
 
--- the number and the line that an answer tells, and how many bytes were written
-abbrev pub log_told : LogAnswer → Told
-log_told (Count n) = nothing_told
-log_told (Not r) = told r
-
-abbrev pub log_count : LogAnswer → ℕ
-log_count (Count n) = n
-log_count (Not r) = 0
+-- how many bytes an answer says were written
+abbrev pub log_count : Result ℕ Refusal → ℕ
+log_count (Ok n) = n
+log_count (Err r) = 0
 
 -- the log of a list, written on a page
-pub record LogWritten (log : Logged) (before : List ℕ) (r : LogAnswer) (after : List ℕ) : Type 0 where
-  pub tells : log_told r ≡ log_told (write_answer log before)
+pub record LogWritten (log : Logged) (before : List ℕ) (r : Result ℕ Refusal) (after : List ℕ) : Type 0 where
+  pub tells : answer_told r ≡ answer_told (write_answer log before)
   pub count : log_count r ≡ log_count (write_answer log before)
   pub page : after ≡ written_page log before
 

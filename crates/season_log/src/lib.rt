@@ -3,7 +3,7 @@
 // kind, item, minutes, blocks, load and write, four bytes each, the low byte first.
 #![tactic(auto)]
 
-ghost use Rattle.std.specs.Prelude.{◌≡◌, true, ◌+◌, ◌/◌, ◌≤◌, ◌<◌, length};
+ghost use Rattle.std.specs.Prelude.{◌≡◌, true, eqb, ◌+◌, ◌/◌, ◌≤◌, ◌<◌, length};
 ghost use Rattle.decimal.specs.InnerPages.{labelled, text_over};
 ghost use Rattle.types.specs.declared.Step.TheVariants.{Write, Flush};
 ghost use Rattle.types.specs.Types.{step_of};
@@ -16,13 +16,6 @@ use types::{Numbers, Refusal};
 
 // The most bytes that a text may have.
 pub const LIMIT: usize = 65536;
-
-// What writing a log answers: how many bytes were written, or why none were.
-#[derive(Clone, Copy)]
-pub enum LogAnswer {
-    Count(usize),
-    Refused(Refusal),
-}
 
 // Four bytes of a list, as a number. They are read by two functions of their own, so that the compiler makes one load of them before it
 // sees what is asked of the number (docs/DECISIONS.md).
@@ -63,16 +56,13 @@ fn list_numbers(list: &[u8], at: usize) -> Numbers
     }
 }
 
-// What the table says to a step by its numbers, as the heading takes them. What is out of range as it is, is so under both headings;
-// where that is asked first, the compiler makes a way of its own for each kind.
-fn range_under(heading: u32, n: Numbers) -> u32
-    ensures { result ≡ range_under heading n }
+// Whether a step's numbers are in range, as the heading takes them. What is out of range as it is, is so under both headings; where that
+// is asked first, the compiler makes a way of its own for each kind.
+#[tactic(auto, using(crate::proofs::Sizes::range_kept), unfolding(landlord::specs::Steps::range_refusal))]
+fn in_range_under(heading: u32, n: Numbers) -> bool
+    ensures { result ≡ eqb (range_under heading n) 0 }
 {
-    let number = landlord::range_refusal(n);
-    if number != 0 {
-        return number;
-    }
-    landlord::range_refusal(season_lines::numbers_under(heading, n))
+    landlord::in_range(n) && landlord::in_range(season_lines::numbers_under(heading, n))
 }
 
 // The line of the step at a place of a list, as far as 32 bits hold it.
@@ -80,10 +70,7 @@ fn line_of(at: usize) -> u32
     ensures { result ≡ told_line (at / 24 + 2) }
 {
     let line = at / 24 + 2;
-    if line <= 4294967295 {
-        return line as u32;
-    }
-    4294967295
+    line.min(u32::MAX as usize) as u32
 }
 
 // How many bytes the end of a line has that has none of the three last values.
@@ -91,13 +78,11 @@ fn end_bytes(heading: u32) -> usize
     ensures value { result ≡ length (no_values heading) }
     ensures upper_bound { result ≤ 7 }
 {
-    if heading == 1 {
-        return 7;
-    }
-    1
+    if heading == 1 { 7 } else { 1 }
 }
 
 // How many bytes the line of an arrival in range has.
+#[tactic(auto, using(crate::proofs::Sizes::item_digits, crate::proofs::Sizes::blocks_digits, crate::proofs::Sizes::cost_digits, crate::proofs::Sizes::joined_length))]
 fn arrival_bytes(n: Numbers) -> usize
     requires { Arrives n }
     ensures value { result ≡ length (arrival_text n) }
@@ -105,77 +90,75 @@ fn arrival_bytes(n: Numbers) -> usize
 {
     let item = decimal::short_width(n.item);
     let blocks = decimal::short_width(n.blocks);
-    let load = decimal::width(n.load as u64);
-    let write = decimal::width(n.write as u64);
+    let load = decimal::width(u64::from(n.load));
+    let write = decimal::width(u64::from(n.write));
     8 + item + blocks + load + write
 }
 
 // How many bytes the line of a step in range has.
+#[tactic(auto, using(crate::proofs::Sizes::item_digits, crate::proofs::Sizes::minutes_digits, crate::proofs::Sizes::item_range, crate::proofs::Sizes::minutes_range, crate::proofs::Sizes::joined_length), unfolding(crate::specs::Log::step_text, types::specs::Types::step_of))]
 fn line_bytes(heading: u32, n: Numbers) -> usize
     requires { in_range n ≡ true }
     ensures value { result ≡ length (step_text heading (step_of n)) }
     ensures upper_bound { result ≤ 23 }
 {
-    if n.kind == types::ARRIVE {
-        return arrival_bytes(n);
+    match n.kind {
+        types::ARRIVE => arrival_bytes(n),
+        types::FLUSH => 5 + end_bytes(heading),
+        types::WRITE => {
+            let digits = decimal::short_width(n.item) + decimal::short_width(n.minutes);
+            3 + digits + end_bytes(heading)
+        }
+        _ => 4 + decimal::short_width(n.item) + end_bytes(heading),
     }
-    let end = end_bytes(heading);
-    if n.kind == types::FLUSH {
-        return 5 + end;
-    }
-    let digits = decimal::short_width(n.item);
-    if n.kind == types::WRITE {
-        return 3 + digits + decimal::short_width(n.minutes) + end;
-    }
-    4 + digits + end
 }
 
 // How many bytes the names have, with their line feed.
+#[tactic(auto, using(crate::proofs::Sizes::names_are))]
 fn names_bytes(heading: u32) -> usize
     ensures value { result ≡ length (names_text heading) }
     ensures upper_bound { result ≤ 36 }
 {
-    if heading == 1 {
-        return 36;
-    }
-    18
+    if heading == 1 { 36 } else { 18 }
 }
 
 // How many bytes the text of a list has, or the refusal of its first step that is out of range or not whole. A line has fewer bytes than
 // its step in the list, so that no sum can wrap, however long the list is.
-fn text_size(heading: u32, list: &[u8]) -> LogAnswer
+fn text_size(heading: u32, list: &[u8]) -> Result<usize, Refusal>
     ensures { result ≡ text_size (lent_under heading list.now) }
 {
     let whole = list.len() - list.len() % 24;
     let mut bytes = names_bytes(heading);
+    // Kept by hand: a `for` over the steps counts its turns beside the place, an instruction more for each step.
     let mut at = 0;
     while at < whole {
         let step = list_numbers(list, at);
-        let number = range_under(heading, step);
-        if number != 0 {
-            return LogAnswer::Refused(types::refusal_of(number, line_of(at), 0));
+        if !in_range_under(heading, step) {
+            return Err(Refusal::OutOfRange { line: line_of(at) });
         }
         bytes += line_bytes(heading, step);
         at += 24;
     }
     if whole < list.len() {
-        return LogAnswer::Refused(Refusal::OutOfRange {
+        return Err(Refusal::OutOfRange {
             line: line_of(whole),
         });
     }
-    LogAnswer::Count(bytes)
+    Ok(bytes)
 }
 
 // Writes the names at the start of the page, which has room for them.
+#[tactic(auto, using(crate::proofs::Sizes::names_are))]
 fn put_names(heading: u32, page: &mut [u8]) -> usize
     requires { length (names_text heading) ≤ length page.old }
     ensures value { result ≡ length (names_text heading) }
     ensures page_after { page.new ≡ text_over (names_text heading) page.old }
 {
     if heading == 1 {
-        return decimal::put_text(b"step sail minutes blocks load write\n", page);
+        decimal::put_text(b"step sail minutes blocks load write\n", page)
+    } else {
+        decimal::put_text(b"step sail minutes\n", page)
     }
-    decimal::put_text(b"step sail minutes\n", page)
 }
 
 // Writes the end of a line that has none of the three last values at the start of the page, which has room for it.
@@ -185,21 +168,24 @@ fn put_end(heading: u32, page: &mut [u8]) -> usize
     ensures page_after { page.new ≡ text_over (no_values heading) page.old }
 {
     if heading == 1 {
-        return decimal::put_text(b" - - -\n", page);
+        decimal::put_text(b" - - -\n", page)
+    } else {
+        decimal::put_text(b"\n", page)
     }
-    decimal::put_text(b"\n", page)
 }
 
 // Writes the line of a flush at the start of the page, which has room for it.
+#[tactic(auto, unfolding(crate::specs::Log::step_text))]
 fn put_flush(heading: u32, page: &mut [u8]) -> usize
     requires { length (step_text heading Flush) ≤ length page.old }
     ensures value { result ≡ length (step_text heading Flush) }
     ensures page_after { page.new ≡ text_over (step_text heading Flush) page.old }
 {
     if heading == 1 {
-        return decimal::put_text(b"L - - - - -\n", page);
+        decimal::put_text(b"L - - - - -\n", page)
+    } else {
+        decimal::put_text(b"L - -\n", page)
     }
-    decimal::put_text(b"L - -\n", page)
 }
 
 // Writes the line of a read or of a retirement at the start of the page, which has room for it.
@@ -216,6 +202,7 @@ fn put_named(heading: u32, letter: u8, item: u32, page: &mut [u8]) -> usize
 }
 
 // Writes the line of a write at the start of the page, which has room for it.
+#[tactic(auto, using(crate::proofs::Sizes::joined_length), unfolding(crate::specs::Log::step_text))]
 fn put_write(heading: u32, item: u32, minutes: u32, page: &mut [u8]) -> usize
     requires { (item ≤ 255) × (minutes ≤ 1440) × (length (step_text heading (Write item minutes)) ≤ length page.old) }
     ensures value { result ≡ length (step_text heading (Write item minutes)) }
@@ -234,7 +221,7 @@ fn put_value(label: &[u8], v: u32, page: &mut [u8]) -> usize
     ensures value { result ≡ length (labelled label.now v) }
     ensures page_after { page.new ≡ text_over (labelled label.now v) page.old }
 {
-    decimal::put_labelled(label, v as u64, page)
+    decimal::put_labelled(label, u64::from(v), page)
 }
 
 // Writes the line of an arrival at the start of the page, which has room for it.
@@ -251,23 +238,24 @@ fn put_arrival(n: Numbers, page: &mut [u8]) -> usize
 }
 
 // Writes the line of the step at a place of a list, which is in range, at the start of the page, which has room for it.
+#[tactic(auto, using(crate::proofs::Sizes::line_at, crate::proofs::Sizes::kind_at, crate::proofs::Sizes::item_at, crate::proofs::Sizes::minutes_at))]
 fn put_step(heading: u32, list: &[u8], at: usize, page: &mut [u8]) -> usize
     requires { LineFits heading list.now at page.old }
     ensures value { result ≡ length (step_text heading (step_at heading at list.now)) }
     ensures page_after { page.new ≡ text_over (step_text heading (step_at heading at list.now)) page.old }
 {
     let kind = number_at(list, at);
-    if kind == types::FLUSH {
-        return put_flush(heading, page);
+    match kind {
+        types::FLUSH => put_flush(heading, page),
+        types::WRITE => put_write(
+            heading,
+            number_at(list, at + 4),
+            number_at(list, at + 8),
+            page,
+        ),
+        types::ARRIVE => put_arrival(list_numbers(list, at), page),
+        _ => put_named(heading, kind as u8, number_at(list, at + 4), page),
     }
-    let item = number_at(list, at + 4);
-    if kind == types::WRITE {
-        return put_write(heading, item, number_at(list, at + 8), page);
-    }
-    if kind == types::ARRIVE {
-        return put_arrival(list_numbers(list, at), page);
-    }
-    put_named(heading, kind as u8, item, page)
 }
 
 // Writes the lines of a list of steps in range at the start of the page, which has room for them.
@@ -275,6 +263,7 @@ fn put_lines(heading: u32, list: &[u8], page: &mut [u8])
     requires { LinesFit heading list.now page.old }
     ensures { LinesOn (lent_under heading list.now) page.old page.new }
 {
+    // Kept by hand: a `for` over the steps, by `as_chunks` or by their count, takes two instructions more for each.
     let mut at = 0;
     let mut to = 0;
     while at < list.len() {
@@ -286,21 +275,17 @@ fn put_lines(heading: u32, list: &[u8], page: &mut [u8])
 // Writes the third table of a list of steps on the page, under a heading: 3 for a number that is no heading's, on line 1, or for the first
 // step out of range or not whole, then 15 if the text has too many bytes, for the page or for any reader; else the text. A refused page is
 // as it was.
-pub fn write_log(heading: u32, list: &[u8], page: &mut [u8]) -> LogAnswer
+pub fn write_log(heading: u32, list: &[u8], page: &mut [u8]) -> Result<usize, Refusal>
     ensures { LogWritten (lent_log heading list.now) page.old result page.new }
 {
     if 1 < heading {
-        return LogAnswer::Refused(Refusal::OutOfRange { line: 1 });
+        return Err(Refusal::OutOfRange { line: 1 });
     }
-    match text_size(heading, list) {
-        LogAnswer::Refused(r) => LogAnswer::Refused(r),
-        LogAnswer::Count(bytes) => {
-            if LIMIT < bytes || page.len() < bytes {
-                return LogAnswer::Refused(Refusal::ShortBuffer { line: 0 });
-            }
-            let at = put_names(heading, page);
-            put_lines(heading, list, &mut page[at..]);
-            LogAnswer::Count(bytes)
-        }
+    let bytes = text_size(heading, list)?;
+    if LIMIT < bytes || page.len() < bytes {
+        return Err(Refusal::ShortBuffer { line: 0 });
     }
+    let at = put_names(heading, page);
+    put_lines(heading, list, &mut page[at..]);
+    Ok(bytes)
 }

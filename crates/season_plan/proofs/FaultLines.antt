@@ -10,15 +10,15 @@ use lib.Dec.{ltb, eqb}
 use borrow.Author.Tests.{ltb-true, eqb-true}
 use Rattle.types.specs.declared.Step.{Step}
 use Rattle.types.specs.declared.Act.{Act}
-use Rattle.types.specs.Types.{step_item, act_item}
 use Rattle.landlord.specs.Fold.{tab}
 use Rattle.landlord.specs.Catalog.{Catalog, catalog_next}
 use Rattle.landlord.specs.Plan.{Plan, Copy, no_copy, Fault, unknown_item, retired_item, not_held, already_held, request_not_held, over_capacity, Done, done, faulty, Priced, costs, fault, plan_acts, and_paid, and_then, all_acts, plan_serves, priced_with, price_then, price_from}
-use Rattle.season_tables.specs.Tables.{Placed, Tables, gives, reading_of}
+use Rattle.std.specs.Prelude.{Ok}
+use Rattle.season_tables.specs.Tables.{Placed, Tables, reading_of}
 use Rattle.season_tables.proofs.LineNumbers.{accepted_lines}
 use Rattle.season_plan.specs.Plans.{acts_at, acts_before, fault_line, price_of}
-use Rattle.season_plan.specs.Inner.{plan_of, of_act}
-use Rattle.season_plan.proofs.Costs.{Faults, of_step, act_faults, serve_fault}
+use Rattle.season_plan.specs.Inner.{plan_of}
+use Rattle.season_plan.proofs.Costs.{Faults, faults_are, of_act, of_step, act_faults, serve_fault}
 
 -- a fault of an act that its step has, or of one of the first n steps
 abbrev InPlan : Plan → ℕ → Fault → Type 0
@@ -33,11 +33,6 @@ InPlan plan n (over_capacity s) = s < n
 abbrev PriceFaults : (Fault → Type 0) → Priced → Type 0
 PriceFaults P (costs c) = Unit {0}
 PriceFaults P (fault f) = P f
-
--- faults of one sort are of another, if each such fault is
-faults_are : (P Q : Fault → Type 0) (d : Done) → ((f : Fault) → P f → Q f) → Faults P d → Faults Q d
-faults_are P Q (done q c) so h = tt
-faults_are P Q (faulty f) so h = so f h
 
 -- a fault of two parts of a plan, and of what is priced after them, is of one of the three
 turn_faults :
@@ -63,21 +58,21 @@ alone P (done q c) h = tt
 alone P (faulty f) h = h
 
 module _ (h : ℕ) (plan : Plan) (n : ℕ) where
-  act_in_plan : (s a i : ℕ) → a < length (plan s) → (f : Fault) → of_act s 0 a i f → InPlan plan n f
-  act_in_plan s a i l (unknown_item t b j) of = omega (arith, of.1, ap (λ u. length (plan u)) of.0)
-  act_in_plan s a i l (retired_item t b j) of = omega (arith, of.1, ap (λ u. length (plan u)) of.0)
-  act_in_plan s a i l (not_held t b j) of = omega (arith, of.1, ap (λ u. length (plan u)) of.0)
-  act_in_plan s a i l (already_held t b j) of = omega (arith, of.1, ap (λ u. length (plan u)) of.0)
-  act_in_plan s a i l (request_not_held t j) of = absurd of
-  act_in_plan s a i l (over_capacity t) of = absurd of
+  act_in_plan : (s a : ℕ) → a < length (plan s) → (f : Fault) → of_act s 0 a f → InPlan plan n f
+  act_in_plan s a l (unknown_item t b j) of = omega (arith, of.1, ap (λ u. length (plan u)) of.0)
+  act_in_plan s a l (retired_item t b j) of = omega (arith, of.1, ap (λ u. length (plan u)) of.0)
+  act_in_plan s a l (not_held t b j) of = omega (arith, of.1, ap (λ u. length (plan u)) of.0)
+  act_in_plan s a l (already_held t b j) of = omega (arith, of.1, ap (λ u. length (plan u)) of.0)
+  act_in_plan s a l (request_not_held t j) of = absurd of
+  act_in_plan s a l (over_capacity t) of = absurd of
 
-  step_in_plan : (s i : ℕ) → s < n → (f : Fault) → of_step s i f → InPlan plan n f
-  step_in_plan s i l (unknown_item t a j) of = absurd of
-  step_in_plan s i l (retired_item t a j) of = absurd of
-  step_in_plan s i l (not_held t a j) of = absurd of
-  step_in_plan s i l (already_held t a j) of = absurd of
-  step_in_plan s i l (request_not_held t j) of = omega (arith, of.0)
-  step_in_plan s i l (over_capacity t) of = omega (arith, of)
+  step_in_plan : (s : ℕ) → s < n → (f : Fault) → of_step s f → InPlan plan n f
+  step_in_plan s l (unknown_item t a j) of = absurd of
+  step_in_plan s l (retired_item t a j) of = absurd of
+  step_in_plan s l (not_held t a j) of = absurd of
+  step_in_plan s l (already_held t a j) of = absurd of
+  step_in_plan s l (request_not_held t j) of = omega (arith, of)
+  step_in_plan s l (over_capacity t) of = omega (arith, of)
 
   -- the acts from act a of step s on
   acts_in_plan : (cat : Catalog) (s a : ℕ) (acts : List Act) (q : List Copy) → a + length acts ≤ length (plan s) → Faults (InPlan plan n) (all_acts cat s a acts q)
@@ -86,8 +81,8 @@ module _ (h : ℕ) (plan : Plan) (n : ℕ) where
   acts_in_plan cat s a (act ∷ acts) q l =
       alone (InPlan plan n) (and_then (plan_acts cat s a act q) (all_acts cat s (suc a) acts))
       (turn_faults (InPlan plan n) (plan_acts cat s a act q) (all_acts cat s (suc a) acts) (λ r. costs 0)
-      (faults_are (of_act s 0 a (act_item act)) (InPlan plan n) (plan_acts cat s a act q)
-      (act_in_plan s a (act_item act) (omega arith)) (act_faults cat s 0 a a act q (omega arith)))
+      (faults_are (of_act s 0 a) (InPlan plan n) (plan_acts cat s a act q)
+      (act_in_plan s a (omega arith)) (act_faults cat s 0 a a act q (omega arith)))
       (λ r. acts_in_plan cat s (suc a) acts r (omega arith)) (λ r. tt))
 
   -- the plan from step s on
@@ -97,8 +92,8 @@ module _ (h : ℕ) (plan : Plan) (n : ℕ) where
   price_in_plan cat s (step ∷ steps) q l =
       turn_faults (InPlan plan n) (all_acts cat s 0 (plan s) q) (plan_serves cat h s step) (price_from (catalog_next cat step) h plan (suc s) steps)
       (acts_in_plan cat s 0 (plan s) q (omega arith))
-      (λ r. faults_are (of_step s (step_item step)) (InPlan plan n) (plan_serves cat h s step r)
-      (step_in_plan s (step_item step) (omega arith)) (serve_fault cat h s step r))
+      (λ r. faults_are (of_step s) (InPlan plan n) (plan_serves cat h s step r)
+      (step_in_plan s (omega arith)) (serve_fault cat h s step r))
       (λ r. price_in_plan (catalog_next cat step) (suc s) steps r (omega arith))
 
 -- the acts before those of a step, and those, are no more than all acts
@@ -132,7 +127,7 @@ in_plan_line b v (request_not_held s i) l p = omega (arith, p)
 in_plan_line b v (over_capacity s) l p = omega (arith, p)
 
 -- a plan's fault is told on a line that is at most one more than the text's bytes
-pub fault_line_lem : (s : List ℕ) (v : Tables) (f : Fault) → reading_of s ≡ gives v → price_of v ≡ fault f → fault_line v f ≤ length s + 1
+pub fault_line_lem : (s : List ℕ) (v : Tables) (f : Fault) → reading_of s ≡ Ok v → price_of v ≡ fault f → fault_line v f ≤ length s + 1
 fault_line_lem s v f is faults =
     let all = length v.steps in
     let plan = plan_of v.acts in

@@ -8,4 +8,3 @@ pub mod Costs
 pub mod Acting
 pub mod Pricing
 pub mod FaultLines
-pub mod InPlace

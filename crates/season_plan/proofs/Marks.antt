@@ -1,24 +1,26 @@
 -- Laws of the catalog and of the copies as the program holds them: read at an item, changed at one, and with an item more. Assumes
 -- nothing.
-use mathlib.Core.Path.{◌≡◌, sym, ap, ◌∙◌}
+use mathlib.Core.Path.{◌≡◌, refl, sym, ap, ◌∙◌}
+use mathlib.Core.Logic.{◌≢◌}
 use mathlib.Core.Bool.{Bool, true, false, cond}
 use mathlib.Core.List.{List, [], ◌∷◌, ◌++◌}
 use Prim.Native.Nat.{ℕ, zero, suc, ◌+◌, ◌*◌, ◌≤◌, ◌<◌}
 use native.Mathlib.Numerals.{add-one}
 use native.Mathlib.Omega.{arith}
-use lib.ListN.{length, get_or, set, get_or-eq_default}
+use lib.ListN.{length, set, get_or-eq_default}
 use lib.Seq.{get_or-set_same, get_or-set_other}
-use borrow.Author.Tests.{eq-eqb, ne_eqb}
 use Rattle.types.specs.declared.Step.TheVariants.{Retire}
 use Rattle.landlord.specs.Fold.{sum_to, tab}
 use Rattle.landlord.specs.Catalog.{Item, Catalog, item_at, catalog_next}
-use Rattle.landlord.specs.Plan.{Copy, no_copy, clean_copy, dirty_copy, has, copy_at, plan_used}
+use Rattle.landlord.specs.Plan.{Copy, no_copy, has, copy_at, plan_used}
 use Rattle.landlord.proofs.Folds.{tab_length, tab_at, tab_set, tab_more}
 use Rattle.landlord.proofs.Sums.{sum_eq, sum_change, sum_longer}
 use Rattle.landlord.proofs.Catalogs.{padded, one_longer, arrived_other, retired_length, retired_alike}
 use Rattle.catalog_bytes.specs.Catalogs.{item_in}
 use Rattle.season_items.specs.Inner.{HasItems}
-use Rattle.season_plan.specs.Inner.{copy_from, copies_of}
+use Rattle.season_plan.specs.declared.Mark.{Mark}
+use Rattle.season_plan.specs.declared.Mark.TheVariants.{Absent, Clean, Dirty}
+use Rattle.season_plan.specs.Inner.{copy_from, mark_at, copies_of}
 
 -- a sum of so many terms, none of which is above m
 pub sum_most : (n m : ℕ) (f : ℕ → ℕ) → ((i : ℕ) → i < n → f i ≤ m) → sum_to n f ≤ m * n
@@ -41,42 +43,38 @@ module _ (cat : Catalog) (xs : List ℕ) (items : HasItems cat xs) (i : ℕ) (l 
   pub write_at : (item_at cat i).write ≡ (item_in xs i).write
   write_at = sym (ap (λ (t : Item). t.write) (items i l))
 
--- marks, as copies
-pub copy_none : (m : ℕ) → m ≡ 0 → copy_from m ≡ no_copy
-copy_none m e = rw (eq-eqb m 0 e)
+-- the copy of an item whose mark is not absent is held
+pub held_mark : (m : Mark) → m ≢ Absent → has (copy_from m) ≡ true
+held_mark Absent e = absurd (e refl)
+held_mark Clean e = refl
+held_mark Dirty e = refl
 
-pub copy_clean : (m : ℕ) → m ≡ 1 → copy_from m ≡ clean_copy
-copy_clean m e = rw (ne_eqb m 0 (λ (z : m ≡ 0). omega arith), eq-eqb m 1 e)
-
-pub copy_dirty : (m : ℕ) → 1 < m → copy_from m ≡ dirty_copy
-copy_dirty m l = rw (ne_eqb m 0 (λ (z : m ≡ 0). omega arith), ne_eqb m 1 (λ (z : m ≡ 1). omega arith))
-
-pub copies_length : (n : ℕ) (marks : List ℕ) → length (copies_of n marks) ≡ n
+pub copies_length : (n : ℕ) (marks : List Mark) → length (copies_of n marks) ≡ n
 unfolding copies_of
 copies_length n marks = tab_length n _
 
-pub copy_at_lem : (n : ℕ) (marks : List ℕ) (i : ℕ) → i < n → copy_at (copies_of n marks) i ≡ copy_from (get_or marks i 0)
+pub copy_at_lem : (n : ℕ) (marks : List Mark) (i : ℕ) → i < n → copy_at (copies_of n marks) i ≡ copy_from (mark_at marks i)
 unfolding copies_of
-copy_at_lem n marks i l = tab_at n (λ j. copy_from (get_or marks j 0)) i no_copy l
+copy_at_lem n marks i l = tab_at n (λ j. copy_from (mark_at marks j)) i no_copy l
 
 -- one mark stored
 pub copies_set :
-    (n : ℕ) (marks : List ℕ) (i m : ℕ) →
+    (n : ℕ) (marks : List Mark) (i : ℕ) (m : Mark) →
     i < n →
     i < length marks →
     copies_of n (set marks i m) ≡ set (copies_of n marks) i (copy_from m)
 unfolding copies_of
 copies_set n marks i m l b =
-    sym (tab_set n (λ j. copy_from (get_or marks j 0)) (λ j. copy_from (get_or (set marks i m) j 0)) i l
-    (λ j k e. ap copy_from (sym (get_or-set_other marks i j m 0 e))))
-    ∙ ap (λ t. set (tab n (λ j. copy_from (get_or marks j 0))) i (copy_from t)) (get_or-set_same marks i m 0 b)
+    sym (tab_set n (λ j. copy_from (mark_at marks j)) (λ j. copy_from (mark_at (set marks i m) j)) i l
+    (λ j k e. ap copy_from (sym (get_or-set_other marks i j m Absent e))))
+    ∙ ap (λ t. set (tab n (λ j. copy_from (mark_at marks j))) i (copy_from t)) (get_or-set_same marks i m Absent b)
 
 -- one item more, without a mark
-pub copies_more : (n : ℕ) (marks : List ℕ) → get_or marks n 0 ≡ 0 → copies_of (n + 1) marks ≡ copies_of n marks ++ (no_copy ∷ [])
+pub copies_more : (n : ℕ) (marks : List Mark) → mark_at marks n ≡ Absent → copies_of (n + 1) marks ≡ copies_of n marks ++ (no_copy ∷ [])
 unfolding copies_of
 copies_more n marks e =
     rw add-one
-    (tab_more n (λ j. copy_from (get_or marks j 0)) ∙ ap (λ t. tab n (λ j. copy_from (get_or marks j 0)) ++ (t ∷ [])) (copy_none (get_or marks n 0) e))
+    (tab_more n (λ j. copy_from (mark_at marks j)) ∙ ap (λ t. tab n (λ j. copy_from (mark_at marks j)) ++ (copy_from t ∷ [])) e)
 
 -- the blocks of one copy
 abbrev blocks_of : Catalog → List Copy → ℕ → ℕ

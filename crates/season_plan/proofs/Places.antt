@@ -14,15 +14,15 @@ use Rattle.types.specs.declared.Step.{Step}
 use Rattle.types.specs.declared.Step.TheVariants.{Flush}
 use Rattle.types.specs.declared.Act.{Act}
 use Rattle.types.specs.declared.Act.TheVariants.{Evict, Fetch}
-use Rattle.types.specs.declared.Numbers.{Numbers}
-use Rattle.types.specs.Types.{numbers_of, step_item, act_kind, act_item, act_of}
+use Rattle.types.specs.Types.{step_of, act_kind, act_item, act_of}
+use Rattle.types.proofs.Steps.{same_step}
 use Rattle.landlord.specs.Fold.{fold}
 use Rattle.landlord.specs.Catalog.{CatalogOk, catalog_next}
 use Rattle.landlord.proofs.Keeps.{Served, next_ok}
 use Rattle.landlord.proofs.Logs.{allowed_served}
 use Rattle.season_tables.specs.declared.Seen.{Seen}
 use Rattle.season_tables.specs.Tables.{Placed, Tables}
-use Rattle.landlord.specs.CallNumbers.{call_numbers}
+use Rattle.landlord.specs.CallNumbers.{call_numbers, numbers_behind}
 use Rattle.season_items.specs.Inner.{HasItems}
 use Rattle.season_items.proofs.Presence as kept
 use Rattle.season_items.proofs.Notes as notes
@@ -56,14 +56,14 @@ act_numbers_lem (x ∷ acts) (suc a) l =
       item = ap (λ t. get_or all t 0) g ∙ rest.item;
     }
 
--- the two numbers of step s that pricing reads
-pub record NotedStep (l : List ℕ) (x : Step) (s : ℕ) : Type 0 where
-  pub kind : get_or l (7 * s + 1) 0 ≡ (numbers_of x).kind
-  pub item : get_or l (7 * s + 2) 0 ≡ step_item x
-
 -- what stands in the front of a list
 front : (l m : List ℕ) (n i : ℕ) → take n l ≡ m → i < n → get_or l i 0 ≡ get_or m i 0
 front l m n i e b = sym (get_or-take n l i 0 b) ∙ ap (λ t. get_or t i 0) e
+
+-- the letter and the item say which act it was
+pub act_again : (a : Act) → act_of (act_kind a) (act_item a) ≡ a
+act_again (Evict i) = refl
+act_again (Fetch i) = refl
 
 module _ (x : Seen) (xs calls acts : List ℕ) (v : Tables) (h : Holds x xs calls acts v) where
   -- the bytes have the items that there are before a step
@@ -79,16 +79,17 @@ module _ (x : Seen) (xs calls acts : List ℕ) (v : Tables) (h : Holds x xs call
         item = front acts (act_numbers v.acts) (3 * x.acts) (3 * a + 2) h.acts_noted (omega arith) ∙ here.item;
       }
 
-  pub noted_step : (s : ℕ) → s < x.steps → NotedStep calls (step_at v.steps s) s
-  noted_step s l =
+  -- a step and an act, by the numbers that are noted
+  pub step_is : (s : ℕ) → s < x.steps → step_of (numbers_behind calls (7 * s)) ≡ step_at v.steps s
+  step_is s l =
       let all : take (7 * length v.steps) calls ≡ call_numbers v.steps = rw h.step_count at h.steps_noted in
-      let noted = notes.noted_step calls v.steps s all (omega (arith, h.step_count)) in
-      record { kind = ap (λ (n : Numbers). n.kind) noted; item = ap (λ (n : Numbers). n.item) noted }
+      ap step_of (notes.noted_step calls v.steps s all (omega (arith, h.step_count))) ∙ same_step (step_at v.steps s)
 
--- the letter and the item say which act it was
-pub act_again : (a : Act) → act_of (act_kind a) (act_item a) ≡ a
-act_again (Evict i) = refl
-act_again (Fetch i) = refl
+  pub act_is : (a : ℕ) → a < x.acts → act_of (get_or acts (3 * a + 1) 0) (get_or acts (3 * a + 2) 0) ≡ (placed_at v.acts a).act
+  act_is a l =
+      let noted = noted_act a l in
+      let act = (placed_at v.acts a).act in
+      ap (λ t. act_of t (get_or acts (3 * a + 2) 0)) noted.kind ∙ ap (act_of (act_kind act)) noted.item ∙ act_again act
 
 module _ (v : Tables) where
   -- a step leads from the catalog before it to the one before the next

@@ -1,24 +1,30 @@
 -- How the program holds what a plan has, and what its functions give. Assumes nothing.
-use Rattle.types.specs.{declared.Step.Step, Types.{read_kind, write_kind, flush_kind, arrive_kind, numbers_of, step_item, act_item, act_of}}
-use Rattle.landlord.specs.{Plan.{Plan, Copy, no_copy, clean_copy, dirty_copy, copy_at, is_changed, cleaned, owed, Done, done, faulty, Fault, unknown_item, retired_item, not_held, already_held, request_not_held, over_capacity, fault_number, plan_used, plan_evicts, plan_fetches, plan_acts, all_acts, plan_serves}, Fold.tab, Catalog.{Catalog, CatalogOk, item_at, catalog_next}}
+use Rattle.types.specs.{declared.{Step.{Step, TheVariants.{Read, Write, Flush, Arrive, Retire}}, Act.Act, Refusal.{Refusal, TheVariants.RequestNotHeld}}, Types.act_item}
+use Rattle.landlord.specs.{Plan.{Plan, Copy, no_copy, clean_copy, dirty_copy, copy_at, is_changed, cleaned, owed, Done, done, faulty, fault_refusal, plan_used, plan_evicts, plan_fetches, plan_acts, all_acts, plan_serves}, Fold.tab, Catalog.{Catalog, CatalogOk, item_at, catalog_next}}
 use Rattle.season_items.specs.Inner.{item_room, HasItems}
-use Rattle.season_tables.specs.{Tables.{Placed, Tables}, declared.Seen.Seen, Inner.{Holds, Roomy, FewRead}, InnerSound.{Sound, placed_at, catalog_before}}
-use Rattle.season_plan.specs.declared.{Copies.Copies, Did.Did, Acted.Acted, Price.{Price, TheVariants.{Cost, Refused}}}
-use Rattle.season_plan.specs.Plans.{acts_at, acts_before, price_of, PricedBy}
-use mathlib.Core.{Path.◌≡◌, Logic.◌≢◌, Bool.{Bool, false, cond, ◌||◌}, List.List}
-use Rattle.std.specs.Prelude.{ℕ, suc, ◌+◌, ◌*◌, ◌≤◌, ◌<◌}
-use lib.{ListN.{length, get_or, set}, Dec.{eqb, leb}}
+use Rattle.season_tables.specs.{Tables.{Placed, Tables}, declared.Seen.Seen, Inner.{Holds, Roomy, FewRead}, InnerSound.{Sound, catalog_before}}
+use Rattle.season_plan.specs.declared.{Copies.Copies, Mark.{Mark, TheVariants.{Absent, Clean, Dirty}}}
+use Rattle.season_plan.specs.Plans.{acts_at, acts_before, fault_line, price_of, PricedBy}
+use mathlib.Core.{Path.◌≡◌, Bool.{false, cond}, List.List}
+use Rattle.std.specs.Prelude.{ℕ, suc, ◌+◌, ◌*◌, ◌≤◌, ◌<◌, Result, Ok, Err}
+use lib.ListN.{length, get_or, set}
 
 -- the text's acts as a plan
 abbrev pub plan_of : List Placed → Plan
 plan_of acts = λ i. acts_at i acts
 
--- 0 no copy, 1 a clean one, else a dirty one
-abbrev pub copy_from : ℕ → Copy
-copy_from m = cond (eqb m 0) no_copy (cond (eqb m 1) clean_copy dirty_copy)
+-- what a mark says that the plan has
+abbrev pub copy_from : Mark → Copy
+copy_from Absent = no_copy
+copy_from Clean = clean_copy
+copy_from Dirty = dirty_copy
 
-unfoldable pub copies_of : ℕ → List ℕ → List Copy
-copies_of n marks = tab n (λ i. copy_from (get_or marks i 0))
+-- the mark of an item
+abbrev pub mark_at : List Mark → ℕ → Mark
+mark_at marks i = get_or marks i Absent
+
+unfoldable pub copies_of : ℕ → List Mark → List Copy
+copies_of n marks = tab n (λ i. copy_from (mark_at marks i))
 
 -- the copies that the marks stand for, of the items that there are
 abbrev pub copies_in : Copies → List Copy
@@ -29,17 +35,19 @@ pub record HoldsCopies (cat : Catalog) (p : Copies) (q : List Copy) (paid : ℕ)
   pub count : p.n ≡ length cat
   pub copies : copies_in p ≡ q
   pub used : p.used ≡ plan_used cat q
-  pub past : (i : ℕ) → p.n ≤ i → get_or p.marks i 0 ≡ 0
+  pub past : (i : ℕ) → p.n ≤ i → mark_at p.marks i ≡ Absent
   pub sum : p.paid ≡ paid
 
 -- the program stands where its marks say
 abbrev pub PlanStands : Catalog → Copies → Type 0
 PlanStands cat p = HoldsCopies cat p (copies_in p) p.paid
 
--- a part of the plan was done at a cost, or ended in the fault's number
-abbrev pub Does : Catalog → Done → ℕ → Did → Type 0
-Does cat (done q c) before r = (r.number ≡ 0) × HoldsCopies cat r.copies q (before + c)
-Does cat (faulty f) before r = r.number ≡ fault_number f
+-- a part of the plan was done at a cost, or ended in a fault, which is told on a line
+abbrev pub Does : Catalog → Done → ℕ → ℕ → Result (Unit {0}) Refusal → Copies → Type 0
+Does cat (done q c) before line (Ok _) p = HoldsCopies cat p q (before + c)
+Does cat (done q c) before line (Err y) p = ⊥
+Does cat (faulty f) before line (Ok _) p = ⊥
+Does cat (faulty f) before line (Err y) p = y ≡ fault_refusal f line
 
 -- what a part of the plan asks: the bytes of a catalog in range, where the program stands, and sums far from the end of their words
 pub record PlanReady (xs : List ℕ) (p : Copies) : Type 0 where
@@ -64,29 +72,29 @@ Loses xs p i r =
     HoldsCopies cat r (set q i no_copy) (paid + cond (is_changed (copy_at q i)) (item_at cat i).write 0)
 
 -- D of an item; s and j are the places of the step and of the act, which a fault names
-abbrev pub Evicts : List ℕ → Copies → ℕ → Did → Type 0
-Evicts xs p i r =
+abbrev pub Evicts : List ℕ → Copies → ℕ → ℕ → Result (Unit {0}) Refusal → Copies → Type 0
+Evicts xs p i line r after =
     (cat : Catalog) (s j paid : ℕ) (q : List Copy) →
     HasItems cat xs →
     HoldsCopies cat p q paid →
-    Does cat (plan_evicts cat s j i q) paid r
+    Does cat (plan_evicts cat s j i q) paid line r after
 
 -- F of an item
-abbrev pub Fetches : List ℕ → Copies → ℕ → Did → Type 0
-Fetches xs p i r =
+abbrev pub Fetches : List ℕ → Copies → ℕ → ℕ → Result (Unit {0}) Refusal → Copies → Type 0
+Fetches xs p i line r after =
     (cat : Catalog) (s j paid : ℕ) (q : List Copy) →
     HasItems cat xs →
     HoldsCopies cat p q paid →
-    Does cat (plan_fetches cat s j i q) paid r
+    Does cat (plan_fetches cat s j i q) paid line r after
 
--- an act, by the code of its letter, with an item that has not left
-abbrev pub Acts : List ℕ → Copies → ℕ → ℕ → Did → Type 0
-Acts xs p kind i r =
+-- an act, with an item that has not left
+abbrev pub Acts : List ℕ → Copies → Act → ℕ → Result (Unit {0}) Refusal → Copies → Type 0
+Acts xs p act line r after =
     (cat : Catalog) (s j paid : ℕ) (q : List Copy) →
     HasItems cat xs →
-    (item_at cat i).left ≡ false →
+    (item_at cat (act_item act)).left ≡ false →
     HoldsCopies cat p q paid →
-    Does cat (plan_acts cat s j (act_of kind i) q) paid r
+    Does cat (plan_acts cat s j act q) paid line r after
 
 -- the write costs that a flush makes it pay
 abbrev pub Owes : List ℕ → Copies → ℕ → Type 0
@@ -97,48 +105,50 @@ pub record Cleans (p r : Copies) : Type 0 where
   pub count : r.n ≡ p.n
   pub copies : copies_in r ≡ tab p.n (λ i. cleaned (copy_at (copies_in p) i))
   pub used : r.used ≡ p.used
-  pub past : (i : ℕ) → p.n ≤ i → get_or r.marks i 0 ≡ get_or p.marks i 0
+  pub past : (i : ℕ) → p.n ≤ i → mark_at r.marks i ≡ mark_at p.marks i
   pub sum : r.paid ≡ p.paid
 
--- the step is a read or a write, and the plan has no copy of its item
-abbrev pub lacking : ℕ → ℕ → Bool
-lacking kind mark = cond (eqb kind read_kind || eqb kind write_kind) (eqb mark 0) false
+-- the item that a step asks for, marks or loses is known
+abbrev pub StepKnown : Copies → Step → Type 0
+StepKnown p (Read i) = i < p.n
+StepKnown p (Write i minutes) = i < p.n
+StepKnown p Flush = Unit {0}
+StepKnown p (Arrive i b l w) = Unit {0}
+StepKnown p (Retire i) = i < p.n
 
--- the step is a read or a write, the plan has a copy of its item, and it is within its capacity
-abbrev pub hitting : ℕ → ℕ → ℕ → ℕ → Bool
-hitting h kind mark used = cond (eqb mark 0) false (cond (leb used h) (eqb kind read_kind || eqb kind write_kind) false)
+-- the answer to a read or write by its item's mark: it is held, or 14 is told
+abbrev pub request_of : Mark → ℕ → ℕ → Result (Unit {0}) Refusal
+request_of Absent line i = Err (RequestNotHeld line i)
+request_of Clean line i = Ok tt
+request_of Dirty line i = Ok tt
 
--- a step that is in the log: a flush, an arrival, or of a known item; what stands for a flush's item has a place too
-pub record PlanServable (xs : List ℕ) (p : Copies) (kind item : ℕ) : Type 0 where
+-- and to any step
+abbrev pub request : Copies → Step → ℕ → Result (Unit {0}) Refusal
+request p (Read i) line = request_of (mark_at p.marks i) line i
+request p (Write i minutes) line = request_of (mark_at p.marks i) line i
+request p Flush line = Ok tt
+request p (Arrive i b l w) line = Ok tt
+request p (Retire i) line = Ok tt
+
+-- a step that is in the log
+pub record PlanServable (xs : List ℕ) (p : Copies) (st : Step) : Type 0 where
   pub ready : PlanReady xs p
-  pub known : kind ≢ flush_kind → kind ≢ arrive_kind → item < p.n
-  pub place : item < 256
+  pub known : StepKnown p st
 
--- a step of this kind and item is served; the catalog is then as the step leaves it
-abbrev pub Serves : List ℕ → ℕ → Copies → ℕ → ℕ → Did → Type 0
-Serves xs h p kind i r =
-    (cat : Catalog) (st : Step) (s paid : ℕ) (q : List Copy) →
+-- a step is served; the catalog is then as the step leaves it
+abbrev pub Serves : List ℕ → ℕ → Copies → Step → ℕ → Result (Unit {0}) Refusal → Copies → Type 0
+Serves xs h p st line r after =
+    (cat : Catalog) (s paid : ℕ) (q : List Copy) →
     HasItems cat xs →
-    kind ≡ (numbers_of st).kind →
-    i ≡ step_item st →
     HoldsCopies cat p q paid →
-    Does (catalog_next cat st) (plan_serves cat h s st q) paid r
+    Does (catalog_next cat st) (plan_serves cat h s st q) paid line r after
 
--- the fault is of an act before step s, of act n with item i, where the acts before the step begin at act `first`
-abbrev pub of_act : ℕ → ℕ → ℕ → ℕ → Fault → Type 0
-of_act s first n i (unknown_item t a j) = (s ≡ t) × (n ≡ first + a) × (i ≡ j)
-of_act s first n i (retired_item t a j) = (s ≡ t) × (n ≡ first + a) × (i ≡ j)
-of_act s first n i (not_held t a j) = (s ≡ t) × (n ≡ first + a) × (i ≡ j)
-of_act s first n i (already_held t a j) = (s ≡ t) × (n ≡ first + a) × (i ≡ j)
-of_act s first n i (request_not_held t j) = ⊥
-of_act s first n i (over_capacity t) = ⊥
-
--- the acts before step s were done, and `next` is the first behind them; or act `next` is at fault
-abbrev pub ActsDone : Tables → ℕ → Done → ℕ → Acted → Type 0
-ActsDone v s (done q c) before r =
-    (r.number ≡ 0) × HoldsCopies (catalog_before v s) r.copies q (before + c) × (r.next ≡ acts_before (suc s) v.acts)
-ActsDone v s (faulty f) before r =
-    (r.number ≡ fault_number f) × of_act s (acts_before s v.acts) r.next (act_item (placed_at v.acts r.next).act) f
+-- the acts before step s were done, and the answer is the first behind them; or the fault of one of them is told on its line
+abbrev pub ActsDone : Tables → ℕ → Done → ℕ → Result ℕ Refusal → Copies → Type 0
+ActsDone v s (done q c) before (Ok next) p = HoldsCopies (catalog_before v s) p q (before + c) × (next ≡ acts_before (suc s) v.acts)
+ActsDone v s (done q c) before (Err y) p = ⊥
+ActsDone v s (faulty f) before (Ok next) p = ⊥
+ActsDone v s (faulty f) before (Err y) p = y ≡ fault_refusal f (fault_line v f)
 
 -- what pricing asks: the slices hold an accepted text
 pub record Priceable (x : Seen) (xs calls acts : List ℕ) : Type 0 where
@@ -170,23 +180,12 @@ pub record Before (x : Seen) (xs : List ℕ) (p : Copies) (acts : List ℕ) (fir
   pub stands : PlanStands (catalog_before v s) p
 
 -- for every such text, its acts before step s are done, or the first fault among them is told
-abbrev pub RunsActs : Seen → List ℕ → Copies → List ℕ → ℕ → ℕ → Acted → Type 0
-RunsActs x xs p acts first s r =
+abbrev pub RunsActs : Seen → List ℕ → Copies → List ℕ → ℕ → ℕ → Result ℕ Refusal → Copies → Type 0
+RunsActs x xs p acts first s r after =
     (calls : List ℕ) (v : Tables) →
     Before x xs p acts first s calls v →
-    ActsDone v s (all_acts (catalog_before v s) s 0 (plan_of v.acts s) (copies_in p)) p.paid r
-
--- `next` is no further than behind the last act, an act at fault is one of them, and the sum grows by what an act may cost
-pub record ActsWithin (x : Seen) (s : ℕ) (r : Acted) : Type 0 where
-  pub next : r.next ≤ x.acts
-  pub inside : r.number ≢ 0 → r.next < x.acts
-  pub paid : r.number ≡ 0 → r.copies.paid ≤ most r.next s
+    ActsDone v s (all_acts (catalog_before v s) s 0 (plan_of v.acts s) (copies_in p)) p.paid r after
 
 -- whatever text the slices hold, this is the price of its plan
-abbrev pub PricedAs : Seen → List ℕ → List ℕ → List ℕ → Price → Type 0
+abbrev pub PricedAs : Seen → List ℕ → List ℕ → List ℕ → Result ℕ Refusal → Type 0
 PricedAs x xs calls acts r = (v : Tables) → Holds x xs calls acts v → Sound v → PricedBy v (price_of v) r
-
--- and it is far from the end of its word
-abbrev pub PriceSmall : Price → Type 0
-PriceSmall (Cost c) = c ≤ 1000000000000
-PriceSmall (Refused r) = Unit {0}

@@ -1,13 +1,11 @@
 -- The plan of a text, priced by the definition that the wear bound cites, and the line of its first fault. Paper 01, 'The rival
 -- plan' and 'When the library says no', and paper 02, 'Six'. Assumes nothing.
 use mathlib.Core.{Path.◌≡◌, Bool.cond, List.{List, [], ◌∷◌}}
-use Rattle.std.specs.Prelude.{ℕ, suc, ◌+◌}
+use Rattle.std.specs.Prelude.{ℕ, suc, ◌+◌, Result, Ok, Err}
 use lib.{ListN.length, Dec.{ltb, eqb}}
-use Rattle.types.specs.declared.Act.{Act}
-use Rattle.types.specs.Types.{Told, nothing_told, told}
+use Rattle.types.specs.declared.{Act.Act, Refusal.Refusal}
 use Rattle.landlord.specs.Plan.{Fault, unknown_item, retired_item, not_held, already_held, request_not_held, over_capacity, fault_refusal, Priced, costs, fault, price}
 use Rattle.season_tables.specs.Tables.{Placed, Tables}
-use Rattle.season_plan.specs.declared.Price.{Price, TheVariants.{Cost, Refused}}
 
 -- the acts that stand before step i, in order
 unfoldable pub acts_at : ℕ → List Placed → List Act
@@ -41,17 +39,7 @@ fault_line v (over_capacity s) = line_of_step v s
 abbrev pub price_of : Tables → Priced
 price_of v = price v.catalog v.h (λ i. acts_at i v.acts) v.steps
 
--- what an answer tells
-abbrev pub price_told : Price → Told
-price_told (Cost c) = nothing_told
-price_told (Refused r) = told r
-
--- the cost that it tells; a refused plan has none
-abbrev pub price_cost : Price → ℕ
-price_cost (Cost c) = c
-price_cost (Refused r) = 0
-
--- "the plan runs; its first fault decides": its price is answered, or that fault's number, line and item
-abbrev pub PricedBy : Tables → Priced → Price → Type 0
-PricedBy v (costs c) r = (price_told r ≡ nothing_told) × (price_cost r ≡ c)
-PricedBy v (fault f) r = price_told r ≡ told (fault_refusal f (fault_line v f))
+-- "the plan runs; its first fault decides": its price is answered, or that fault's refusal on its line
+abbrev pub PricedBy : Tables → Priced → Result ℕ Refusal → Type 0
+PricedBy v (costs c) r = r ≡ Ok c
+PricedBy v (fault f) r = r ≡ Err (fault_refusal f (fault_line v f))

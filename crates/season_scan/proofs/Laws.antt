@@ -1,14 +1,14 @@
 -- Laws of the reading that a scan by positions cites: how the first line of what is left leads, what a line that leads on adds, and
 -- how the first field of what is left of a line is found. Assumes nothing.
-use mathlib.Core.Path.{◌≡◌, refl, sym, ◌∙◌}
-use mathlib.Core.Bool.{Bool, true, false, cond, not, false≢true}
+use mathlib.Core.Path.{◌≡◌, refl, sym, subst, ◌∙◌}
+use mathlib.Core.Bool.{Bool, true, false, cond, not, ◌&&◌}
 use mathlib.Core.List.{List, [], ◌∷◌, ◌++◌}
 use mathlib.Core.Logic.{◌⊎◌, inl, inr}
 use Prim.Native.Nat.{ℕ, zero, suc, ◌+◌, ◌-◌, ◌≤◌, ◌<◌}
 use native.Mathlib.Nat.{zero-sub}
 use native.Mathlib.Numerals.{unary_clauses}
 use native.Mathlib.Omega.{arith}
-use borrow.Author.Tests.{ltb-true, ltb-false, eqb-true, ne_eqb}
+use borrow.Author.Tests.{ltb-true, ltb-false, ne_eqb}
 use lib.Dec.{leb, ltb, eqb}
 use lib.ListN.{length, take, drop, length-append, length-drop, drop_of_length-le}
 use lib.Seq.{drop-drop, take-take, length-take-le, take-nil, take_all}
@@ -21,15 +21,14 @@ use Rattle.landlord.specs.Catalog.{Catalog, listed, catalog_next, catalog_after}
 use Rattle.landlord.specs.Steps.{if_known, item_refusal}
 use Rattle.landlord.proofs.Catalogs.{next_length, next_keeps, after_more}
 use Rattle.line_fields.specs.declared.Field.{Field}
-use Rattle.season_lines.specs.declared.Names.{Names}
-use Rattle.season_lines.specs.declared.Names.TheVariants.{Known, Unknown}
+use Rattle.std.specs.Prelude.{Option, Some, None, Result, Ok, Err, is_some}
 use Rattle.season_lines.specs.declared.Line.{Line}
-use Rattle.season_lines.specs.declared.Line.TheVariants.{Sizes, Item as ItemLine, Step as StepLine, Act as ActLine, Refused}
+use Rattle.season_lines.specs.declared.Line.TheVariants.{Sizes, Item as ItemLine, Step as StepLine, Act as ActLine}
 use Rattle.line_fields.specs.Fields.{split, field_of, fields_of}
 use Rattle.season_lines.specs.Lines.{heading_of, line_in}
 use Rattle.line_fields.specs.Inner.{before}
-use Rattle.season_tables.specs.Tables.{Tables, Sofar, OrRefusal, gives, stops, goes_on, may_end, must_end, named_by, next_table, with_sizes, with_item, with_step, with_act, in_turn, takes, read_line, at_end, read_from}
-use Rattle.season_tables.specs.Inner.{is_blank, is_sized, wants_values}
+use Rattle.season_tables.specs.Tables.{Tables, Sofar, goes_on, may_end, must_end, named_by, next_table, with_sizes, with_item, with_step, with_act, in_turn, takes, read_under, read_line, at_end, read_from}
+use Rattle.season_tables.specs.Inner.{is_blank, wants_values}
 use Rattle.season_scan.specs.Inner.{onward, read_until}
 use Rattle.season_tables.proofs.Leads.{leads_values}
 use Rattle.line_fields.proofs.Pieces.{before_le, before_take, split_last, split_more, split_some, fields_last, fields_more}
@@ -74,7 +73,7 @@ pub no_feed :
     (upto n : ℕ) (s : List ℕ) (v : Sofar) →
     0 < length s →
     length s ≤ length (before 10 s) →
-    read_from upto n (split 10 s) v ≡ stops (Malformed n)
+    read_from upto n (split 10 s) v ≡ Err (Malformed n)
 unfolding read_from
 no_feed upto n s v p h = rw (split_last 10 s h, ne_eqb (length (before 10 s)) 0 (λ e. omega arith))
 
@@ -90,12 +89,12 @@ wants_here upto v l = wants_values upto v.stage v.read.k (length l)
 
 -- a line that is torn by its fields alone
 pub malformed_line :
-    (upto : ℕ) (v : Sofar) (l : List ℕ) (n : ℕ) →
+    (upto : ℕ) (v : Sofar) (l : List ℕ) (n heading : ℕ) →
+    v.stage.heading ≡ Some heading →
     wants_here upto v l ≡ true →
-    line_in v.stage.table v.stage.heading (fields_of l) n ≡ Refused (Malformed n) →
-    read_line upto v l n ≡ stops (Malformed n)
-unfolding takes
-malformed_line upto v l n h e = leads_values upto v l n h ∙ rw e
+    line_in v.stage.table heading (fields_of l) n ≡ Err (Malformed n) →
+    read_line upto v l n ≡ Err (Malformed n)
+malformed_line upto v l n heading h due e = leads_values upto v l n heading h due ∙ rw e
 
 -- ## What a line that leads on adds
 
@@ -124,29 +123,30 @@ pub record Grows (table : ℕ) (v w : Tables) (wants : Bool) (fields : ℕ) : Ty
 grows_not : (table : ℕ) (v : Tables) (wants : Bool) (fields : ℕ) → Grows table v v wants fields
 grows_not table v wants fields = record { items = omega arith; steps = inl refl; acts = inl refl; early = λ l. refl }
 
-no_two : {A : Type 0} (r : Refusal) (w : A) → stops r ≡ gives w → ⊥
+no_two : {A : Type 0} (r : Refusal) (w : A) → Err r ≡ Ok w → ⊥
 no_two r w e = let z : ◌≡◌ {A = ℕ} 0 1 = cc in omega arith
 
-if_gives : {A : Type 0} (t : Bool) (x w : A) (r : Refusal) → cond t (gives x) (stops r) ≡ gives w → x ≡ w
+if_gives : {A : Type 0} (t : Bool) (x w : A) (r : Refusal) → cond t (Ok x) (Err r) ≡ Ok w → x ≡ w
 if_gives true x w r e = cc
 if_gives false x w r e = absurd (no_two r w e)
 
-if_both : {A : Type 0} (t u : Bool) (x w : A) (r q : Refusal) → cond t (cond u (gives x) (stops r)) (stops q) ≡ gives w → x ≡ w
+if_both : {A : Type 0} (t u : Bool) (x w : A) (r q : Refusal) → cond t (cond u (Ok x) (Err r)) (Err q) ≡ Ok w → x ≡ w
 if_both true u x w r q e = if_gives u x w r e
 if_both false u x w r q e = absurd (no_two q w e)
 
 -- a value line
 grown_by :
-    (v w : Tables) (table heading : ℕ) (fs : List Field) (n : ℕ) →
-    takes v (line_in table heading fs n) n ≡ gives w →
-    Grows table v w true (length fs)
+    (v w : Tables) (table fields n : ℕ) (line : Line) →
+    Says table fields n (Ok line) →
+    takes v line n ≡ Ok w →
+    Grows table v w true fields
 unfolding takes
-grown_by v w table heading fs n e = go (line_in table heading fs n) (line_says table heading fs n) e
+grown_by v w table fields n line says e = go line says e
   where
-    to : (x : Tables) → x ≡ w → Grows table v x true (length fs) → Grows table v w true (length fs)
+    to : (x : Tables) → x ≡ w → Grows table v x true fields → Grows table v w true fields
     to x e g = rw e at g
 
-    go : (line : Line) → Says table (length fs) n line → takes v line n ≡ gives w → Grows table v w true (length fs)
+    go : (line : Line) → Says table fields n (Ok line) → takes v line n ≡ Ok w → Grows table v w true fields
     go (Sizes k h r) l e =
         to (with_sizes v k h r) (if_gives (leb h k) (with_sizes v k h r) w (PlanTooLarge n) e)
         (record { items = omega arith; steps = inl refl; acts = inl refl; early = λ l. refl })
@@ -171,16 +171,10 @@ grown_by v w table heading fs n e = go (line_in table heading fs n) (line_says t
           acts = inr (length-append v.acts _, refl, l.1);
           early = λ l. refl;
         })
-    go (Refused r) l e = absurd (no_two r w e)
 
 -- the last table has no blank line behind it
-may_end_lem : (b : Bool) (upto table k : ℕ) → 1 ≤ upto → cond b (may_end upto table k) false ≡ true → table < upto
-may_end_lem b upto table k low e = go b (eqb table 0) (is_sized k) (ltb table upto) refl refl e
-  where
-    go : (b z s t : Bool) → eqb table 0 ≡ z → ltb table upto ≡ t → cond b (cond z s t) false ≡ true → table < upto
-    go true true s t ez et e = let x = eqb-true table 0 ez in omega arith
-    go true false s t ez et e = ltb-true table upto (et ∙ e)
-    go false z s t ez et e = absurd (false≢true e)
+may_end_lem : (b : Bool) (upto table k : ℕ) → 1 ≤ upto → (b && may_end upto table k) ≡ true → table < upto
+may_end_lem b upto table k low e = grind arith
 
 -- where a line leads that leads on: no further than the last table, and no table back; and what it adds
 pub record Moves (upto : ℕ) (v w : Sofar) (wants : Bool) (fields : ℕ) : Type 0 where
@@ -188,43 +182,64 @@ pub record Moves (upto : ℕ) (v w : Sofar) (wants : Bool) (fields : ℕ) : Type
   pub onward : v.stage.table ≤ w.stage.table
   pub adds : Grows v.stage.table v.read w.read wants fields
 
-pub grown : (upto : ℕ) (v w : Sofar) (l : List ℕ) (n : ℕ) → read_line upto v l n ≡ gives w → Moves upto v w (wants_here upto v l) (length (fields_of l))
-unfolding wants_values read_line
-grown upto v w l n e =
-    go v.stage.named (cond (is_blank l) (may_end upto v.stage.table v.read.k) false) (must_end v.stage.table v.read.k) (heading_of v.stage.table l)
-    (may_end_lem (is_blank l) upto v.stage.table v.read.k) e
-  where
-    to : (x : Sofar) (wants : Bool) → x ≡ w → Moves upto v x wants (length (fields_of l)) → Moves upto v w wants (length (fields_of l))
-    to x wants e g = rw e at g
+module _ (upto : ℕ) (v w : Sofar) (l : List ℕ) (n : ℕ) where
+  abbrev fields : ℕ
+  fields = length (fields_of l)
 
-    values :
-        (x : OrRefusal Tables) →
-        takes v.read (line_in v.stage.table v.stage.heading (fields_of l) n) n ≡ x →
-        goes_on x (λ t. gives (record { stage = v.stage; read = t })) ≡ gives w →
-        Moves upto v w true (length (fields_of l))
-    values (gives t) is e =
-        to (record { stage = v.stage; read = t }) true (cc)
-        (record { within = λ u b. b; onward = omega arith; adds = grown_by v.read t v.stage.table v.stage.heading (fields_of l) n is })
-    values (stops r) is e = absurd (no_two r w e)
+  moved : (x : Sofar) (wants : Bool) → x ≡ w → Moves upto v x wants fields → Moves upto v w wants fields
+  moved x wants e g = rw e at g
 
-    go :
-        (a p m : Bool) (names : Names) →
-        (1 ≤ upto → p ≡ true → v.stage.table < upto) →
-        cond a (cond p (gives (record { stage = next_table v.stage; read = v.read }))
-        (cond m (stops (Malformed n))
-        (goes_on (takes v.read (line_in v.stage.table v.stage.heading (fields_of l) n) n) (λ t. gives (record { stage = v.stage; read = t })))))
-        (goes_on (named_by v.stage names n) (λ q. gives (record { stage = q; read = v.read })))
-        ≡ gives w →
-        Moves upto v w (cond a (cond p false (not m)) false) (length (fields_of l))
-    go true true m names below e =
-        to (record { stage = next_table v.stage; read = v.read }) false (cc)
-        (record { within = λ u b. below u refl; onward = omega arith; adds = grows_not v.stage.table v.read false (length (fields_of l)) })
-    go true false true names below e = absurd (no_two (Malformed n) w e)
-    go true false false names below e = values _ refl e
-    go false p m (Known f) below e =
-        to (record { stage = record { table = v.stage.table; named = true; heading = f }; read = v.read }) false (cc)
-        (record { within = λ u b. b; onward = omega arith; adds = grows_not v.stage.table v.read false (length (fields_of l)) })
-    go false p m Unknown below e = absurd (no_two (Heading n) w e)
+  -- a line that only leads to another stage
+  names_move : (names : Option ℕ) (wants : Bool) → goes_on (named_by v.stage names n) (λ q. Ok (record { stage = q; read = v.read })) ≡ Ok w → Moves upto v w wants fields
+  names_move (Some f) wants e =
+      moved (record { stage = record { table = v.stage.table; heading = Some f }; read = v.read }) wants (cc)
+      (record { within = λ u b. b; onward = omega arith; adds = grows_not v.stage.table v.read wants fields })
+  names_move None wants e = absurd (no_two (Heading n) w e)
+
+  takes_move :
+      (line : Line) (x : Result Tables Refusal) →
+      Says v.stage.table fields n (Ok line) →
+      takes v.read line n ≡ x →
+      goes_on x (λ t. Ok (record { stage = v.stage; read = t })) ≡ Ok w →
+      Moves upto v w true fields
+  takes_move line (Ok t) says is e =
+      moved (record { stage = v.stage; read = t }) true (cc)
+      (record { within = λ u b. b; onward = omega arith; adds = grown_by v.read t v.stage.table fields n line says is })
+  takes_move line (Err r) says is e = absurd (no_two r w e)
+
+  values_move :
+      (x : Result Line Refusal) →
+      Says v.stage.table fields n x →
+      goes_on x (λ line. goes_on (takes v.read line n) (λ t. Ok (record { stage = v.stage; read = t }))) ≡ Ok w →
+      Moves upto v w true fields
+  values_move (Ok line) says e = takes_move line (takes v.read line n) says refl e
+  values_move (Err r) says e = absurd (no_two r w e)
+
+  -- a line behind the names, by its two tests
+  behind_move :
+      (end must : Bool) (x : Result Line Refusal) →
+      (1 ≤ upto → end ≡ true → v.stage.table < upto) →
+      Says v.stage.table fields n x →
+      cond end (Ok (record { stage = next_table v.stage; read = v.read }))
+      (cond must (Err (Malformed n)) (goes_on x (λ line. goes_on (takes v.read line n) (λ t. Ok (record { stage = v.stage; read = t })))))
+      ≡ Ok w →
+      Moves upto v w (not end && not must) fields
+  behind_move true must x below says e =
+      moved (record { stage = next_table v.stage; read = v.read }) false (cc)
+      (record { within = λ u b. below u refl; onward = omega arith; adds = grows_not v.stage.table v.read false fields })
+  behind_move false true x below says e = absurd (no_two (Malformed n) w e)
+  behind_move false false x below says e = values_move x says e
+
+  pub grown : read_line upto v l n ≡ Ok w → Moves upto v w (wants_here upto v l) fields
+  unfolding wants_values read_line read_under
+  grown e = go v.stage.heading refl e
+    where
+      go : (heading : Option ℕ) → v.stage.heading ≡ heading → read_under heading upto v l n ≡ Ok w → Moves upto v w (wants_here upto v l) fields
+      go None h e = names_move (heading_of v.stage.table l) _ e
+      go (Some f) h e =
+          subst (λ (o : Option ℕ). Moves upto v w (is_some o && not (is_blank l && may_end upto v.stage.table v.read.k) && not (must_end v.stage.table v.read.k)) fields) (sym h)
+          (behind_move (is_blank l && may_end upto v.stage.table v.read.k) (must_end v.stage.table v.read.k) (line_in v.stage.table f (fields_of l) n)
+          (λ u b. may_end_lem (is_blank l) upto v.stage.table v.read.k u b) (line_says v.stage.table f (fields_of l) n) e)
 
 -- ## The first field of what is left of a line
 

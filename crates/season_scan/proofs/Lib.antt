@@ -1,3 +1,3 @@
--- The laws of a scan, and the proof of the function. Assumes nothing.
+-- The laws that the scan's proof cites.
 pub mod Laws
 pub mod Turns

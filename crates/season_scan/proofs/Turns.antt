@@ -1,7 +1,7 @@
 -- What holds whenever the scan comes to a line, and to a field of it, and the laws by which one turn leads to the next.
 -- Assumes nothing.
 use mathlib.Core.Path.{◌≡◌, refl, sym, ap, subst, ◌∙◌}
-use mathlib.Core.Bool.{Bool, true, false, cond, ◌&&◌, false≢true}
+use mathlib.Core.Bool.{Bool, true, false, not, ◌&&◌, false≢true}
 use mathlib.Core.List.{List, [], ◌∷◌, ◌++◌, map, append_assoc, append-nil}
 use mathlib.Core.Logic.{◌⊎◌, ⊎_elim}
 use Prim.Native.Nat.{ℕ, zero, suc, ◌+◌, ◌*◌, ◌-◌, ◌≤◌, ◌<◌}
@@ -12,25 +12,22 @@ use lib.Dec.{ltb, eqb}
 use lib.ListN.{length, take, drop, set, length-append, length-drop, length-set, length-map}
 use lib.Seq.{take-suc-set, length-take-le, get_or_at, drop-drop}
 use Rattle.types.specs.declared.Refusal.{Refusal}
-use Rattle.types.specs.declared.Refusal.TheVariants.{Malformed, Heading}
+use Rattle.types.specs.declared.Refusal.TheVariants.{Malformed}
 use Rattle.line_fields.specs.declared.Field.{Field}
 use Rattle.line_fields.specs.declared.Field.TheVariants.{Empty}
-use Rattle.season_lines.specs.declared.Line.TheVariants.{Refused as Torn}
 use Rattle.line_fields.specs.Fields.{split, field_of, fields_of, field_at, is_empty, none_empty}
 use Rattle.season_lines.specs.Lines.{names_in, line_in}
 use Rattle.line_fields.specs.Inner.{before, held_field}
 use Rattle.season_tables.specs.declared.Stage.{Stage}
 use Rattle.season_tables.specs.declared.Seen.{Seen}
-use Rattle.season_tables.specs.declared.Scanned.{Scanned}
-use Rattle.season_tables.specs.declared.LineRead.{LineRead}
-use Rattle.season_tables.specs.declared.Verdict.TheVariants.{Taken, Refused}
-use Rattle.season_tables.specs.Tables.{Tables, Sofar, OrRefusal, gives, stops, goes_on, at_start, read_line, at_end, read_from, reading_to}
-use Rattle.season_tables.specs.Inner.{Holds, nothing_read, Leads, LeadsBy, Untouched, LeadsTo, ReadsLine, KeepsLine, Roomy, LineReadable, wants_values}
-use Rattle.season_scan.specs.Inner.{Few, onward, read_until, read_in, Leaves}
+use Rattle.std.specs.Prelude.{Option, Some, None, Result, Ok, Err, OnOk, IfSome, is_some}
+use Rattle.season_tables.specs.Tables.{Tables, Sofar, goes_on, at_start, may_end, must_end, read_line, at_end, read_from, reading_to}
+use Rattle.season_tables.specs.Inner.{Holds, nothing_read, Leads, LeadsBy, Untouched, LeadsTo, ReadsLine, KeepsLine, Roomy, FewRead, LineReadable, wants_values}
+use Rattle.season_scan.specs.Inner.{onward, read_until, read_in, Leaves}
 use Rattle.line_fields.proofs.Pieces.{before_le, before_take, no_bytes, none_empty_more}
 use Rattle.season_lines.proofs.Pieces.{many_malformed, empty_malformed}
 use Rattle.season_lines.proofs.Held.{held_line}
-use Rattle.season_tables.proofs.Keeps.{not_refused, untouched_later}
+use Rattle.season_tables.proofs.Keeps.{untouched_later}
 use Rattle.season_tables.proofs.Held.{begins as nothing-held}
 use Rattle.season_scan.proofs.Laws.{line_end, line_first, until_first, nothing_left, until_end, no_feed, until_no_feed, wants_here, malformed_line, Adds, grown, fields_from, field_first, length_part}
 
@@ -75,7 +72,7 @@ held_from s i end more = map held_field (fields_from s i end more)
 -- names, none of them empty, and took at least two bytes each. If no line of values is due, none is looked at.
 pub record Fielded (upto : ℕ) (s : List ℕ) (p : Stage) (q : Seen) (at end names : ℕ) (fields : List Field) (count i : ℕ) (more : Bool) : Type 0 where
   pub slots : length fields ≡ 6
-  pub heading : names ≡ names_in p.table p.heading
+  pub heading : IfSome p.heading (λ heading. names ≡ names_in p.table heading)
   pub most : names ≤ 6
   pub few : count ≤ names
   pub some : none_empty (take count fields) ≡ true
@@ -86,10 +83,10 @@ pub record Fielded (upto : ℕ) (s : List ℕ) (p : Stage) (q : Seen) (at end na
       due upto p q at end ≡ true → take count fields ++ held_from s i end more ≡ map held_field (fields_of (line_within s at end))
 
 -- what an answer to the whole text has to be
-abbrev pub ScanAnswers : ℕ → List ℕ → List ℕ → List ℕ → List ℕ → Scanned → List ℕ → List ℕ → List ℕ → Type 0
-ScanAnswers upto s catalog₀ calls₀ acts₀ r catalog calls acts =
-    Leads (reading_to upto s) r catalog calls acts
-    × (Few (reading_to upto s) r × Leaves upto s catalog₀ calls₀ acts₀ r catalog calls acts)
+pub record ScanAnswers (upto : ℕ) (s catalog₀ calls₀ acts₀ : List ℕ) (r : Result (Unit {0}) Refusal) (q : Seen) (catalog calls acts : List ℕ) : Type 0 where
+  pub leads : Leads (reading_to upto s) r q catalog calls acts
+  pub few : OnOk r (FewRead q)
+  pub leaves : Leaves upto s catalog₀ calls₀ acts₀ q catalog calls acts
 
 -- ## The first line
 
@@ -125,22 +122,11 @@ begins upto s catalog calls acts p q low high r e b =
 -- ## The ways out
 
 refuses :
-    (upto : ℕ) (s catalog₀ calls₀ acts₀ catalog calls acts : List ℕ) (r : Scanned) (x : Refusal) →
-    reading_to upto s ≡ stops x →
-    r.verdict ≡ Refused x →
-    Leaves upto s catalog₀ calls₀ acts₀ r catalog calls acts →
-    ScanAnswers upto s catalog₀ calls₀ acts₀ r catalog calls acts
-refuses upto s catalog₀ calls₀ acts₀ catalog calls acts r x e h y = (rw e h, (rw e tt, y))
-
--- the text has no more than 65,536 bytes, six to a step
-few_ended :
-    (t : Bool) (v : Tables) (x : Refusal) (r : Scanned) (catalog calls acts : List ℕ) →
-    6 * length v.steps ≤ 65536 →
-    6 * length v.acts ≤ 65536 →
-    Leads (cond t (gives v) (stops x)) r catalog calls acts →
-    Few (cond t (gives v) (stops x)) r
-few_ended true v x r catalog calls acts a b h = record { steps = omega (arith, h.1.step_count); acts = omega (arith, h.1.act_count) }
-few_ended false v x r catalog calls acts a b h = tt
+    (upto : ℕ) (s catalog₀ calls₀ acts₀ catalog calls acts : List ℕ) (q : Seen) (x : Refusal) →
+    reading_to upto s ≡ Err x →
+    Leaves upto s catalog₀ calls₀ acts₀ q catalog calls acts →
+    ScanAnswers upto s catalog₀ calls₀ acts₀ (Err x) q catalog calls acts
+refuses upto s catalog₀ calls₀ acts₀ catalog calls acts q x e y = record { leads = rw e; few = tt; leaves = y }
 
 module _ (upto : ℕ) (s catalog₀ calls₀ acts₀ catalog calls acts : List ℕ) (p : Stage) (q : Seen) (at n : ℕ)
     (h : Lined upto s catalog₀ calls₀ acts₀ catalog calls acts p q at n)
@@ -149,43 +135,42 @@ module _ (upto : ℕ) (s catalog₀ calls₀ acts₀ catalog calls acts : List �
     abbrev sofar : Sofar
     sofar = record { stage = p; read = h.read }
 
-    -- where the reading ends here, the struct being handed back
-    leaves : (r : Scanned) → r.seen ≡ q → read_until upto n (split 10 (drop at s)) sofar ≡ sofar → Leaves upto s catalog₀ calls₀ acts₀ r catalog calls acts
-    leaves r e u =
+    -- where the reading ends here
+    leaves : read_until upto n (split 10 (drop at s)) sofar ≡ sofar → Leaves upto s catalog₀ calls₀ acts₀ q catalog calls acts
+    leaves u =
         record {
-          holds =
-              subst (λ (z : Seen). Holds z catalog calls acts (read_in upto s)) (sym e)
-              (subst (Holds q catalog calls acts) (sym (ap (λ (z : Sofar). z.read) u) ∙ h.until) h.holds);
-          past = subst (λ (z : Seen). Untouched z catalog₀ calls₀ acts₀ catalog calls acts) (sym e) h.past;
+          holds = subst (Holds q catalog calls acts) (sym (ap (λ (z : Sofar). z.read) u) ∙ h.until) h.holds;
+          past = h.past;
         }
 
+    -- a text has no more than 65,536 bytes, six to a step
+    few_ended : (r : Result (Unit {0}) Refusal) → length s ≤ 65536 → OnOk r (FewRead q)
+    few_ended (Ok u) short = record { steps = omega (arith, h.for_steps, h.within); acts = omega (arith, h.for_acts, h.within) }
+    few_ended (Err x) short = tt
+
     pub ends :
-        (r : Scanned) →
+        (r : Result (Unit {0}) Refusal) →
         length s ≤ 65536 →
         length s ≤ at →
-        r.seen ≡ q →
-        LeadsBy q (λ v. at_end upto (record { stage = p; read = v }) n) r →
-        ScanAnswers upto s catalog₀ calls₀ acts₀ r catalog calls acts
-    ends r short e same f =
+        LeadsBy q (λ v. at_end upto (record { stage = p; read = v }) n) r q →
+        ScanAnswers upto s catalog₀ calls₀ acts₀ r q catalog calls acts
+    ends r short e f =
         let all : reading_to upto s ≡ at_end upto sofar n = sym h.left ∙ nothing_left upto n at s sofar e in
-        let led = f catalog calls acts h.read h.holds in
-        let few =
-        few_ended (p.named && eqb p.table upto) h.read (Heading n) r catalog calls acts (omega (arith, h.holds.step_count))
-        (omega (arith, h.holds.act_count)) led in
-        (rw all led, (rw all few, leaves r same (until_end upto n at s sofar e)))
+        record {
+          leads = rw all (f catalog calls acts h.read h.holds);
+          few = few_ended r short;
+          leaves = leaves (until_end upto n at s sofar e);
+        }
 
     pub no_line_feed :
-        (r : Scanned) →
         at < length s →
         length s ≤ at + length (before 10 (drop at s)) →
-        r.verdict ≡ Refused (Malformed n) →
-        r.seen ≡ q →
-        ScanAnswers upto s catalog₀ calls₀ acts₀ r catalog calls acts
-    no_line_feed r a e f same =
+        ScanAnswers upto s catalog₀ calls₀ acts₀ (Err (Malformed n)) q catalog calls acts
+    no_line_feed a e =
         let size = length-drop at s in
-        let all : reading_to upto s ≡ stops (Malformed n) = sym h.left ∙ no_feed upto n (drop at s) sofar (omega arith) (omega arith) in
-        refuses upto s catalog₀ calls₀ acts₀ catalog calls acts r (Malformed n) all f
-        (leaves r same (until_no_feed upto n (drop at s) sofar (omega arith)))
+        let all : reading_to upto s ≡ Err (Malformed n) = sym h.left ∙ no_feed upto n (drop at s) sofar (omega arith) (omega arith) in
+        refuses upto s catalog₀ calls₀ acts₀ catalog calls acts q (Malformed n) all
+        (leaves (until_no_feed upto n (drop at s) sofar (omega arith)))
 
 -- ## The fields of a line
 
@@ -197,7 +182,7 @@ module _ (upto : ℕ) (s : List ℕ) (p : Stage) (q : Seen) (at end names : ℕ)
   pub field_none :
       (fields : List Field) (more : Bool) →
       length fields ≡ 6 →
-      names ≡ names_in p.table p.heading →
+      IfSome p.heading (λ heading. names ≡ names_in p.table heading) →
       names ≤ 6 →
       at ≤ end →
       more ≡ due upto p q at end →
@@ -267,19 +252,20 @@ module _ (upto : ℕ) (s : List ℕ) (p : Stage) (q : Seen) (at end names : ℕ)
           }
 
       pub field_malformed :
-          (n : ℕ) →
+          (n heading : ℕ) →
+          p.heading ≡ Some heading →
           (is_empty field ≡ true) ⊎ (names ≤ count) →
-          line_in p.table p.heading (fields_of (line_within s at end)) n ≡ Torn (Malformed n)
-      field_malformed n = ⊎_elim empty many
+          line_in p.table heading (fields_of (line_within s at end)) n ≡ Err (Malformed n)
+      field_malformed n heading some = ⊎_elim empty many
         where
           rest : List Field
           rest = field ∷ held_from s (i + m + 1) end (ltb (i + m) end)
 
           -- the line is judged by its fields as they are held
           judged :
-              line_in p.table p.heading (take count fields ++ rest) n ≡ Torn (Malformed n) →
-              line_in p.table p.heading (fields_of (line_within s at end)) n ≡ Torn (Malformed n)
-          judged e = sym (held_line p.table p.heading (fields_of (line_within s at end)) n) ∙ rw fields_here e
+              line_in p.table heading (take count fields ++ rest) n ≡ Err (Malformed n) →
+              line_in p.table heading (fields_of (line_within s at end)) n ≡ Err (Malformed n)
+          judged e = sym (held_line p.table heading (fields_of (line_within s at end)) n) ∙ rw fields_here e
 
           slots : length (take count fields) ≡ count
           slots = filled fields count names f.slots f.few f.most
@@ -290,14 +276,23 @@ module _ (upto : ℕ) (s : List ℕ) (p : Stage) (q : Seen) (at end names : ℕ)
           here : field_at (take count fields ++ rest) count ≡ field
           here = get_or_at (take count fields) field _ Empty count slots
 
-          empty : is_empty field ≡ true → line_in p.table p.heading (fields_of (line_within s at end)) n ≡ Torn (Malformed n)
-          empty o =
-              judged
-              (empty_malformed p.table p.heading (take count fields ++ rest) n count (omega (arith, size)) (rw here o))
+          due_names : names ≡ names_in p.table heading
+          due_names = rw some at f.heading
 
-          many : names ≤ count → line_in p.table p.heading (fields_of (line_within s at end)) n ≡ Torn (Malformed n)
-          many h =
-              judged (many_malformed p.table p.heading (take count fields ++ rest) n (omega (arith, size, f.heading)))
+          empty : is_empty field ≡ true → line_in p.table heading (fields_of (line_within s at end)) n ≡ Err (Malformed n)
+          empty o = judged (empty_malformed p.table heading (take count fields ++ rest) n count (omega (arith, size)) (rw here o))
+
+          many : names ≤ count → line_in p.table heading (fields_of (line_within s at end)) n ≡ Err (Malformed n)
+          many h = judged (many_malformed p.table heading (take count fields ++ rest) n (omega (arith, size, due_names)))
+
+-- a line of values is due behind a line of names
+pub due_heading : (upto : ℕ) (p : Stage) (k bytes : ℕ) → wants_values upto p k bytes ≡ true → (heading : ℕ) × (p.heading ≡ Some heading)
+unfolding wants_values
+due_heading upto p k bytes e = go p.heading refl e
+  where
+    go : (o : Option ℕ) → p.heading ≡ o → (is_some o && not (eqb bytes 0 && may_end upto p.table k) && not (must_end p.table k)) ≡ true → (heading : ℕ) × (p.heading ≡ Some heading)
+    go None h e = absurd (false≢true e)
+    go (Some f) h e = (f, h)
 
 -- ## The next line
 
@@ -339,27 +334,20 @@ module _ (upto : ℕ) (s catalog₀ calls₀ acts₀ catalog calls acts : List �
         ∙ rw (drop-drop (length (before 10 (drop at s)) + 1) at s, behind_is, first_is, ← add-one n)
 
     -- the line stops the reading
-    stops_here :
-        (r : Scanned) (x : Refusal) →
-        read_line upto here (line_within s at end) n ≡ stops x →
-        r.verdict ≡ Refused x →
-        r.seen ≡ q →
-        ScanAnswers upto s catalog₀ calls₀ acts₀ r catalog calls acts
-    stops_here r x is f same =
-        refuses upto s catalog₀ calls₀ acts₀ catalog calls acts r x (next_is ∙ rw is) f
-        (leaves upto s catalog₀ calls₀ acts₀ catalog calls acts p q at n h r same (until_is ∙ rw is))
+    stops_here : (x : Refusal) → read_line upto here (line_within s at end) n ≡ Err x → ScanAnswers upto s catalog₀ calls₀ acts₀ (Err x) q catalog calls acts
+    stops_here x is =
+        refuses upto s catalog₀ calls₀ acts₀ catalog calls acts q x (next_is ∙ rw is)
+        (leaves upto s catalog₀ calls₀ acts₀ catalog calls acts p q at n h (until_is ∙ rw is))
 
     -- a field that no line has here
     pub malformed_here :
-        (r : Scanned) →
         due upto p q at end ≡ true →
-        line_in p.table p.heading (fields_of (line_within s at end)) n ≡ Torn (Malformed n) →
-        r.verdict ≡ Refused (Malformed n) →
-        r.seen ≡ q →
-        ScanAnswers upto s catalog₀ calls₀ acts₀ r catalog calls acts
-    malformed_here r wants bad =
-        stops_here r (Malformed n)
-        (malformed_line upto here (line_within s at end) n (wants_is ∙ wants) bad)
+        ((heading : ℕ) → p.heading ≡ Some heading → line_in p.table heading (fields_of (line_within s at end)) n ≡ Err (Malformed n)) →
+        ScanAnswers upto s catalog₀ calls₀ acts₀ (Err (Malformed n)) q catalog calls acts
+    malformed_here wants bad =
+        let f = due_heading upto p q.k (end - at) wants in
+        stops_here (Malformed n)
+        (malformed_line upto here (line_within s at end) n f.0 f.1 (wants_is ∙ wants) (bad f.0 f.1))
 
     module _ (names : ℕ) (fields : List Field) (count i : ℕ) (f : Fielded upto s p q at end names fields count i false) where
       all_fields : due upto p q at end ≡ true → take count fields ≡ map held_field (fields_of (line_within s at end))
@@ -379,11 +367,11 @@ module _ (upto : ℕ) (s catalog₀ calls₀ acts₀ catalog calls acts : List �
           6 * b ≤ end + 1
       more_bytes a b k = ⊎_elim (λ e. omega arith) (λ w. omega (arith, six_bytes w.1 w.2, w.0))
 
-      pub can_read : length s ≤ 65536 → LineReadable upto p q (line_within s at end) fields count catalog calls acts
+      pub can_read : length s ≤ 65536 → LineReadable upto p q (line_within s at end) (take count fields) catalog calls acts
       can_read short =
           record {
             room = record { few = record { steps = omega (arith, h.for_steps); acts = omega (arith, h.for_acts) }; roomy = h.roomy };
-            judgeable = record { few = omega (arith, f.few, f.most); some = f.some };
+            judgeable = f.some;
             table = omega (arith, h.table, h.high);
             looked = λ t. all_fields (rw size_is at t);
             unstepped = h.unstepped;
@@ -391,83 +379,85 @@ module _ (upto : ℕ) (s catalog₀ calls₀ acts₀ catalog calls acts : List �
             holds = h.holds;
           }
 
-      module _ (r : LineRead) (catalog_then calls_then acts_then : List ℕ)
-          (led : ReadsLine upto p q catalog calls acts (line_within s at end) n r catalog_then calls_then acts_then)
-          (kept : KeepsLine p q catalog calls acts r catalog_then calls_then acts_then)
-        where
-          pub line_refused : (x : Refusal) → r.scanned.verdict ≡ Refused x → ScanAnswers upto s catalog₀ calls₀ acts₀ r.scanned catalog_then calls_then acts_then
-          line_refused x e =
-              let u = kept.kept.refused x e in
-              subst (λ (z : List ℕ). ScanAnswers upto s catalog₀ calls₀ acts₀ r.scanned z calls_then acts_then) (sym u.same_items)
-              (subst (λ (z : List ℕ). ScanAnswers upto s catalog₀ calls₀ acts₀ r.scanned catalog z acts_then) (sym u.same_steps)
-              (subst (ScanAnswers upto s catalog₀ calls₀ acts₀ r.scanned catalog calls) (sym u.same_acts)
-              (go (read_line upto here (line_within s at end) n) refl (led h.read h.holds))))
-            where
-              go :
-                  (y : OrRefusal Sofar) →
-                  read_line upto here (line_within s at end) n ≡ y →
-                  LeadsTo y r catalog_then calls_then acts_then →
-                  ScanAnswers upto s catalog₀ calls₀ acts₀ r.scanned catalog calls acts
-              go (gives w) u k = absurd (not_refused r.scanned.verdict x k.1.0 e)
-              go (stops y) u k = stops_here r.scanned y u k (kept.kept.refused x e).same_seen
+      module _ (p_then : Stage) (q_then : Seen) (catalog_then calls_then acts_then : List ℕ) where
+        -- the line is refused, and so the text
+        pub line_refused :
+            (x : Refusal) →
+            ReadsLine upto p q catalog calls acts (line_within s at end) n (Err x) p_then q_then catalog_then calls_then acts_then →
+            KeepsLine p q catalog calls acts (Err x) p_then q_then catalog_then calls_then acts_then →
+            ScanAnswers upto s catalog₀ calls₀ acts₀ (Err x) q_then catalog_then calls_then acts_then
+        line_refused x led kept =
+            let u = kept.kept.refused in
+            rw (u.same_seen, u.same_items, u.same_steps, u.same_acts) (go (read_line upto here (line_within s at end) n) refl (led h.read h.holds))
+          where
+            go :
+                (y : Result Sofar Refusal) →
+                read_line upto here (line_within s at end) n ≡ y →
+                LeadsTo y (Err x) p_then q_then catalog_then calls_then acts_then →
+                ScanAnswers upto s catalog₀ calls₀ acts₀ (Err x) q catalog calls acts
+            go (Ok w) u k = let z : Err x ≡ Ok tt = k.0 in absurd (cc)
+            go (Err y) u k = let z : ◌≡◌ {A = Result (Unit {0}) Refusal} (Err x) (Err y) = k in stops_here x (u ∙ (cc))
 
-          pub line_taken :
-              AsLong catalog calls acts catalog_then calls_then acts_then →
-              r.scanned.verdict ≡ Taken →
-              Lined upto s catalog₀ calls₀ acts₀ catalog_then calls_then acts_then r.stage r.scanned.seen (end + 1) (n + 1)
-          line_taken long e = go (read_line upto here (line_within s at end) n) refl (led h.read h.holds)
-            where
-              go :
-                  (y : OrRefusal Sofar) →
-                  read_line upto here (line_within s at end) n ≡ y →
-                  LeadsTo y r catalog_then calls_then acts_then →
-                  Lined upto s catalog₀ calls₀ acts₀ catalog_then calls_then acts_then r.stage r.scanned.seen (end + 1) (n + 1)
-              go (gives w) u k =
-                  let m = grown upto here w (line_within s at end) n u in
-                  let g = m.adds in
-                  let old = h.holds in
-                  let new = k.1.1 in
-                  let table : r.stage.table ≡ w.stage.table = ap (λ (z : Stage). z.table) k.0 in
-                  let there : ◌≡◌ {A = Sofar} w (record { stage = r.stage; read = w.read }) = ap (λ (z : Stage). record { stage = z; read = w.read }) (sym k.0) in
-                  let rest = split 10 (drop (end + 1) s) in
-                  let until-then : read_until upto n (split 10 (drop at s)) here ≡ read_until upto (n + 1) rest w = until_is ∙ rw u in
-                  let roomy = h.roomy in
-                  record {
-                    within = omega arith;
-                    counted = omega (arith, h.counted);
-                    for_steps =
-                        rw new.step_count
-                        (more_bytes (length h.read.steps) (length w.read.steps) (omega (arith, old.step_count, h.for_steps))
-                        g.steps);
-                    for_acts =
-                        rw new.act_count
-                        (more_bytes (length h.read.acts) (length w.read.acts) (omega (arith, old.act_count, h.for_acts))
-                        g.acts);
-                    low = h.low;
-                    high = h.high;
-                    table = let t = m.within h.low h.table in omega (arith, table);
-                    unstepped =
-                        λ l.
-                        let first : p.table ≤ 1 = omega (arith, table, m.onward) in
-                        new.step_count ∙ g.early first ∙ sym old.step_count ∙ h.unstepped first;
-                    roomy =
-                        record {
-                          for_items = omega (arith, roomy.for_items, long.0);
-                          for_steps = omega (arith, roomy.for_steps, long.1);
-                          for_acts = omega (arith, roomy.for_acts, long.2);
-                        };
-                    long = (long.0 ∙ h.long.0, long.1 ∙ h.long.1, long.2 ∙ h.long.2);
-                    past =
-                        untouched_later q r.scanned.seen catalog₀ calls₀ acts₀ catalog calls acts catalog_then calls_then acts_then h.past kept.kept.past
-                        (omega (arith, old.present.count, new.present.count, g.items))
-                        (no_fewer q.steps r.scanned.seen.steps old.step_count new.step_count g.steps)
-                        (no_fewer q.acts r.scanned.seen.acts old.act_count new.act_count g.acts);
-                    read = w.read;
-                    holds = new;
-                    left = ap (read_from upto (n + 1) rest) (sym there) ∙ sym (next_is ∙ rw u);
-                    until = ap (λ (z : Sofar). (read_until upto (n + 1) rest z).read) (sym there) ∙ ap (λ (z : Sofar). z.read) (sym until-then) ∙ h.until;
-                  }
-              go (stops y) u k = absurd (not_refused r.scanned.verdict y e k)
+        -- the line is taken, and the next one begins behind it
+        module _ (led : ReadsLine upto p q catalog calls acts (line_within s at end) n (Ok tt) p_then q_then catalog_then calls_then acts_then)
+            (kept : KeepsLine p q catalog calls acts (Ok tt) p_then q_then catalog_then calls_then acts_then)
+          where
+            pub line_taken :
+                AsLong catalog calls acts catalog_then calls_then acts_then →
+                Lined upto s catalog₀ calls₀ acts₀ catalog_then calls_then acts_then p_then q_then (end + 1) (n + 1)
+            line_taken long = go (read_line upto here (line_within s at end) n) refl (led h.read h.holds)
+              where
+                go :
+                    (y : Result Sofar Refusal) →
+                    read_line upto here (line_within s at end) n ≡ y →
+                    LeadsTo y (Ok tt) p_then q_then catalog_then calls_then acts_then →
+                    Lined upto s catalog₀ calls₀ acts₀ catalog_then calls_then acts_then p_then q_then (end + 1) (n + 1)
+                go (Ok w) u k =
+                    let m = grown upto here w (line_within s at end) n u in
+                    let g = m.adds in
+                    let old = h.holds in
+                    let new = k.2 in
+                    let table : p_then.table ≡ w.stage.table = ap (λ (z : Stage). z.table) k.1 in
+                    let there : ◌≡◌ {A = Sofar} w (record { stage = p_then; read = w.read }) = ap (λ (z : Stage). record { stage = z; read = w.read }) (sym k.1) in
+                    let rest = split 10 (drop (end + 1) s) in
+                    let until-then : read_until upto n (split 10 (drop at s)) here ≡ read_until upto (n + 1) rest w = until_is ∙ rw u in
+                    let roomy = h.roomy in
+                    record {
+                      within = omega arith;
+                      counted = omega (arith, h.counted);
+                      for_steps =
+                          rw new.step_count
+                          (more_bytes (length h.read.steps) (length w.read.steps) (omega (arith, old.step_count, h.for_steps))
+                          g.steps);
+                      for_acts =
+                          rw new.act_count
+                          (more_bytes (length h.read.acts) (length w.read.acts) (omega (arith, old.act_count, h.for_acts))
+                          g.acts);
+                      low = h.low;
+                      high = h.high;
+                      table = let t = m.within h.low h.table in omega (arith, table);
+                      unstepped =
+                          λ l.
+                          let first : p.table ≤ 1 = omega (arith, table, m.onward) in
+                          new.step_count ∙ g.early first ∙ sym old.step_count ∙ h.unstepped first;
+                      roomy =
+                          record {
+                            for_items = omega (arith, roomy.for_items, long.0);
+                            for_steps = omega (arith, roomy.for_steps, long.1);
+                            for_acts = omega (arith, roomy.for_acts, long.2);
+                          };
+                      long = (long.0 ∙ h.long.0, long.1 ∙ h.long.1, long.2 ∙ h.long.2);
+                      past =
+                          untouched_later q q_then catalog₀ calls₀ acts₀ catalog calls acts catalog_then calls_then acts_then h.past kept.kept.past
+                          (omega (arith, old.present.count, new.present.count, g.items))
+                          (no_fewer q.steps q_then.steps old.step_count new.step_count g.steps)
+                          (no_fewer q.acts q_then.acts old.act_count new.act_count g.acts);
+                      read = w.read;
+                      holds = new;
+                      left = ap (read_from upto (n + 1) rest) (sym there) ∙ sym (next_is ∙ rw u);
+                      until = ap (λ (z : Sofar). (read_until upto (n + 1) rest z).read) (sym there) ∙ ap (λ (z : Sofar). z.read) (sym until-then) ∙ h.until;
+                    }
+                go (Err y) u k = let z : Ok tt ≡ Err y = k in absurd (cc)
 
 -- ## Where a line and its fields end
 

@@ -1,70 +1,12 @@
--- Laws of what a line leaves as it was: nothing but the place behind what has been noted is written, and a refusal writes nothing.
--- Assumes nothing.
-use mathlib.Core.Path.{◌≡◌, refl, sym, ap, subst, ◌∙◌}
+-- Laws of what a line leaves as it was: nothing but the place behind what has been noted is written. Assumes nothing.
+use mathlib.Core.Path.{◌≡◌, sym, ap, subst, ◌∙◌}
 use mathlib.Core.List.{List}
 use Prim.Native.Nat.{ℕ, ◌+◌, ◌*◌, ◌-◌, ◌≤◌}
 use native.Mathlib.Omega.{arith}
 use lib.ListN.{drop}
 use lib.Seq.{drop-drop}
-use Rattle.types.specs.declared.Refusal.{Refusal}
 use Rattle.season_tables.specs.declared.Seen.{Seen}
-use Rattle.season_tables.specs.declared.Scanned.{Scanned}
-use Rattle.season_tables.specs.declared.Verdict.{Verdict}
-use Rattle.season_tables.specs.declared.Verdict.TheVariants.{Taken, Refused}
-use Rattle.season_tables.specs.Inner.{KeepsSeen, KeepsPast, Untouched, Keeps}
-
-pub not_refused : (v : Verdict) (x : Refusal) → v ≡ Taken → v ≡ Refused x → ⊥
-not_refused v x e f = let z : ◌≡◌ {A = ℕ} 0 1 = cc in omega arith
-
--- the struct alone
-module _ (q : Seen) (r : Scanned) where
-  pub stopped_keeps : r.seen ≡ q → KeepsSeen q r
-  stopped_keeps e x t = e
-
-  pub taken_keeps : r.verdict ≡ Taken → KeepsSeen q r
-  taken_keeps e x t = absurd (not_refused r.verdict x e t)
-
--- one slice, with m numbers noted
-pub taken_past :
-    (m : ℕ) (q : Seen) (before : List ℕ) (r : Scanned) (after : List ℕ) →
-    r.verdict ≡ Taken →
-    drop m after ≡ drop m before →
-    KeepsPast m q before r after
-taken_past m q before r after e d = (d, λ x t. absurd (not_refused r.verdict x e t))
-
--- all three, of which one is noted in, or none, or for a step two
-module _ (q : Seen) (catalog calls acts : List ℕ) (r : Scanned) where
-  pub keeps_all : KeepsSeen q r → Keeps q catalog calls acts r catalog calls acts
-  keeps_all k =
-      record {
-        past = record { past_items = refl; past_steps = refl; past_acts = refl };
-        refused = λ x t. record { same_seen = k x t; same_items = refl; same_steps = refl; same_acts = refl };
-      }
-
-  pub keeps_items : (after : List ℕ) → KeepsPast (5 * r.seen.present.n) q catalog r after → Keeps q catalog calls acts r after calls acts
-  keeps_items after k =
-      record {
-        past = record { past_items = k.0; past_steps = refl; past_acts = refl };
-        refused = λ x t. let s = k.1 x t in record { same_seen = s.0; same_items = s.1; same_steps = refl; same_acts = refl };
-      }
-
-  pub keeps_steps :
-      (catalog_after calls-after : List ℕ) →
-      KeepsPast (5 * r.seen.present.n) q catalog r catalog_after →
-      KeepsPast (7 * r.seen.steps) q calls r calls-after →
-      Keeps q catalog calls acts r catalog_after calls-after acts
-  keeps_steps catalog_after calls-after j k =
-      record {
-        past = record { past_items = j.0; past_steps = k.0; past_acts = refl };
-        refused = λ x t. let s = k.1 x t in record { same_seen = s.0; same_items = (j.1 x t).1; same_steps = s.1; same_acts = refl };
-      }
-
-  pub keeps_acts : (after : List ℕ) → KeepsPast (3 * r.seen.acts) q acts r after → Keeps q catalog calls acts r catalog calls after
-  keeps_acts after k =
-      record {
-        past = record { past_items = refl; past_steps = refl; past_acts = k.0 };
-        refused = λ x t. let s = k.1 x t in record { same_seen = s.0; same_items = refl; same_steps = refl; same_acts = s.1 };
-      }
+use Rattle.season_tables.specs.Inner.{Untouched}
 
 -- further on, what was as it was still is
 later : (m k : ℕ) (before after : List ℕ) → m ≤ k → drop m after ≡ drop m before → drop k after ≡ drop k before

@@ -1,7 +1,6 @@
-pub mod Told
+-- The laws that the functions' proofs cite, and what holds of every text that is read.
 pub mod Keeps
 pub mod Held
-pub mod Due
 pub mod Leads
 pub mod Sound
 pub mod LineNumbers

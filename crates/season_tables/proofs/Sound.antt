@@ -1,7 +1,7 @@
 -- What an accepted text keeps (specs/InnerSound.antt), and that it has no more steps and acts than bytes. What is claimed after i lines
 -- (After) holds before the first line, and each line that leads on keeps it. Assumes nothing.
 use mathlib.Core.Path.{◌≡◌, refl, sym, ap, subst, ◌∙◌}
-use mathlib.Core.Bool.{Bool, true, false, cond, not, ◌&&◌, false≢true}
+use mathlib.Core.Bool.{true, not, ◌&&◌}
 use mathlib.Core.List.{List, [], ◌∷◌, ◌++◌}
 use Prim.Native.Nat.{ℕ, suc, ◌+◌, ◌-◌, ◌≤◌, ◌<◌}
 use native.Mathlib.Omega.{arith}
@@ -9,7 +9,7 @@ use native.Mathlib.Decide.{ℕ_discrete}
 use lib.ListN.{length, get_or, length-append, get_or-append}
 use lib.Seq.{get_or-append_seam, take-append-le, take-append_seam}
 use lib.Dec.{leb, ltb, eqb}
-use borrow.Author.Tests.{eqb-true, eqb-false, leb-true, ltb-true}
+use borrow.Author.Tests.{eqb-true, leb-true, ltb-true}
 use Rattle.types.specs.declared.Step.{Step}
 use Rattle.types.specs.declared.Step.TheVariants.{Flush}
 use Rattle.types.specs.declared.Act.{Act}
@@ -24,23 +24,22 @@ use Rattle.landlord.specs.Inner.{ItemFacts, CatalogFacts}
 use Rattle.landlord.proofs.Folds.{either, fold_append}
 use Rattle.landlord.proofs.Ranges.{item_facts, catalog_ok, capacity_ok}
 use Rattle.landlord.proofs.Steps.{range_free, let_through}
-use Rattle.season_lines.specs.declared.Names.{Names}
-use Rattle.season_lines.specs.declared.Names.TheVariants.{Known, Unknown}
+use Rattle.std.specs.Prelude.{Option, Some, None, Result, Ok, Err, is_some, IfOk}
+use Rattle.types.specs.declared.Refusal.{Refusal}
 use Rattle.season_lines.specs.declared.Line.{Line}
-use Rattle.season_lines.specs.declared.Line.TheVariants.{Sizes, Item as ItemLine, Step as StepLine, Act as ActLine, Refused}
+use Rattle.season_lines.specs.declared.Line.TheVariants.{Sizes, Item as ItemLine, Step as StepLine, Act as ActLine}
 use Rattle.line_fields.specs.Fields.{onto, split, fields_of}
-use Rattle.season_lines.specs.Lines.{heading_of}
+use Rattle.season_lines.specs.Lines.{heading_of, line_in}
 use Rattle.line_fields.proofs.Laws.{and_parts}
 use Rattle.season_lines.proofs.Pieces.{Says, line_says}
-use Rattle.season_tables.specs.Tables.{Placed, Tables, Sofar, OrRefusal, gives, stops, goes_on, at_start, with_sizes, with_item, with_step, with_act, in_turn, takes, may_end, must_end, next_table, named_by, read_line, at_end, read_from, reading_to, reading_of}
+use Rattle.season_tables.specs.Tables.{Placed, Tables, Sofar, goes_on, at_start, with_sizes, with_item, with_step, with_act, in_turn, takes, may_end, must_end, next_table, named_by, read_under, read_line, at_end, read_from, reading_to, reading_of}
 use Rattle.season_tables.specs.Inner.{is_blank, last_place}
 use Rattle.season_tables.specs.InnerSound.{placed_at, catalog_before, Sound}
 use Rattle.season_items.proofs.Items.{known_below, known_stays}
 
 -- what is claimed of a reading where it leads on
-abbrev pub Leading : {A : Type 0} → (A → Type 0) → OrRefusal A → Type 0
-Leading P (gives w) = P w
-Leading P (stops r) = Unit {0}
+abbrev pub Leading : {A : Type 0} → (A → Type 0) → Result A Refusal → Type 0
+Leading P x = IfOk x P
 
 -- a step of a text: in range, and not refused by the catalog as the steps before it have left it
 record StepFits (k : ℕ) (cat : Catalog) (s : Step) : Type 0 where
@@ -143,17 +142,13 @@ act_fits v w a c s p f =
 -- ## Each line that leads on keeps it
 
 -- the line of names
-named_after : (u i : ℕ) (v : Sofar) (f : ℕ) → After u i v → After u (suc i) (record { stage = record { table = v.stage.table; named = true; heading = f }; read = v.read })
+named_after : (u i : ℕ) (v : Sofar) (f : ℕ) → After u i v → After u (suc i) (record { stage = record { table = v.stage.table; heading = Some f }; read = v.read })
 named_after u i v f p =
     record { few = omega (arith, p.few); low = p.low; tables = p.tables; sized = p.sized; no_steps = p.no_steps; no_acts = p.no_acts; fits = p.fits }
 
 -- a blank line ends table 0 only behind the sizes, and never the last table
 may_end_lem : (upto table k : ℕ) → 1 ≤ upto → may_end upto table k ≡ true → (table < upto) × (table ≡ 0 → 1 ≤ k)
-may_end_lem upto table k low e = go (eqb table 0) refl e
-  where
-    go : (t : Bool) → eqb table 0 ≡ t → cond t (leb 1 k) (ltb table upto) ≡ true → (table < upto) × (table ≡ 0 → 1 ≤ k)
-    go true z e = (omega (arith, eqb-true table 0 z), λ q. leb-true 1 k e)
-    go false z e = (ltb-true table upto e, λ q. absurd (eqb-false table 0 z q))
+may_end_lem upto table k low e = (grind arith, λ q. grind arith)
 
 -- the blank line
 next_after : (u i : ℕ) (v : Sofar) → After u i v → may_end u v.stage.table v.read.k ≡ true → After u (suc i) (record { stage = next_table v.stage; read = v.read })
@@ -184,7 +179,7 @@ module _ (u i fields n : ℕ) (v : Sofar) (p : After u i v) where
   abbrev Still : Tables → Type 0
   Still w = After u (suc i) (record { stage = v.stage; read = w })
 
-  sizes_after : (k h : ℕ) (r : Deduction) → Says v.stage.table fields n (Sizes k h r) → h ≤ k → Still (with_sizes v.read k h r)
+  sizes_after : (k h : ℕ) (r : Deduction) → Says v.stage.table fields n (Ok (Sizes k h r)) → h ≤ k → Still (with_sizes v.read k h r)
   sizes_after k h r s l =
       let no_steps : length v.read.steps ≡ 0 = p.no_steps (omega arith) in
       let no_acts : length v.read.acts ≡ 0 = p.no_acts (omega arith) in
@@ -208,7 +203,7 @@ module _ (u i fields n : ℕ) (v : Sofar) (p : After u i v) where
 
   item_after :
       (number b l w : ℕ) →
-      Says v.stage.table fields n (ItemLine number b l w) →
+      Says v.stage.table fields n (Ok (ItemLine number b l w)) →
       number ≡ length v.read.catalog →
       Still (with_item v.read b l w)
   item_after number b l w s e =
@@ -239,7 +234,7 @@ module _ (u i fields n : ℕ) (v : Sofar) (p : After u i v) where
 
   step_after :
       (s : Step) →
-      Says v.stage.table fields n (StepLine s) →
+      Says v.stage.table fields n (Ok (StepLine s)) →
       item_refusal v.read.k (catalog_after v.read.catalog v.read.steps) s ≡ 0 →
       Still (with_step v.read s)
   step_after s r e =
@@ -330,7 +325,7 @@ module _ (u i fields n : ℕ) (v : Sofar) (p : After u i v) where
           rw (get_or-append t.acts (a ∷ []) _ i c, get_or-append t.acts (a ∷ []) _ j b) (p.fits.in_order i j m b)
 
   -- any value line
-  takes_after : (x : Line) → Says v.stage.table fields n x → Leading Still (takes v.read x n)
+  takes_after : (x : Line) → Says v.stage.table fields n (Ok x) → Leading Still (takes v.read x n)
   unfolding takes
   takes_after (Sizes k h r) s = either (Leading Still) (leb h k) _ _ (λ e. sizes_after k h r s (leb-true h k e)) (λ e. tt)
   takes_after (ItemLine number b l w) s =
@@ -344,39 +339,42 @@ module _ (u i fields n : ℕ) (v : Sofar) (p : After u i v) where
       either (Leading Still) (in_turn v.read place) _ _
       (λ e. either (Leading Still) (eqb number 0) _ _ (λ k. act_after place act t.0 e (eqb-true number 0 k)) (λ k. tt))
       (λ e. tt)
-  takes_after (Refused r) s = tt
 
 -- ## Any line
 
 pub goes_on_lem :
-    {A B : Type 0} (P : A → Type 0) (Q : B → Type 0) (x : OrRefusal A) (next : A → OrRefusal B) →
+    {A B : Type 0} (P : A → Type 0) (Q : B → Type 0) (x : Result A Refusal) (next : A → Result B Refusal) →
     Leading P x →
     ((v : A) → P v → Leading Q (next v)) →
     Leading Q (goes_on x next)
-goes_on_lem P Q (gives v) next p f = f v p
-goes_on_lem P Q (stops r) next p f = tt
+goes_on_lem P Q (Ok v) next p f = f v p
+goes_on_lem P Q (Err r) next p f = tt
 
-blank : (a b : Bool) → cond a b false ≡ true → b ≡ true
-blank true b e = e
-blank false b e = absurd (false≢true e)
+-- what a line says, if it is not refused
+says_leads : (table fields n : ℕ) (x : Result Line Refusal) → Says table fields n x → Leading (λ line. Says table fields n (Ok line)) x
+says_leads table fields n (Ok line) s = s
+says_leads table fields n (Err r) s = tt
 
 line_after : (u i n : ℕ) (v : Sofar) (l : List ℕ) → After u i v → Leading (After u (suc i)) (read_line u v l n)
-unfolding read_line
-line_after u i n v l p =
-    either Q v.stage.named _ _
-    (λ e. either Q (cond (is_blank l) (may_end u v.stage.table v.read.k) false) _ _
-    (λ b. next_after u i v p (blank (is_blank l) (may_end u v.stage.table v.read.k) b))
-    (λ b. either Q (must_end v.stage.table v.read.k) _ _ (λ m. tt)
-    (λ m. goes_on_lem _ (After u (suc i)) (takes v.read _ n) _
-    (takes_after u i (length (fields_of l)) n v p _ (line_says v.stage.table v.stage.heading (fields_of l) n)) (λ w q. q))))
-    (λ e. names (heading_of v.stage.table l))
+unfolding read_line read_under
+line_after u i n v l p = behind v.stage.heading
   where
-    Q : OrRefusal Sofar → Type 0
+    Q : Result Sofar Refusal → Type 0
     Q = Leading (After u (suc i))
 
-    names : (x : Names) → Q (goes_on (named_by v.stage x n) (λ q. gives (record { stage = q; read = v.read })))
-    names (Known f) = named_after u i v f p
-    names Unknown = tt
+    names : (x : Option ℕ) → Q (goes_on (named_by v.stage x n) (λ q. Ok (record { stage = q; read = v.read })))
+    names (Some f) = named_after u i v f p
+    names None = tt
+
+    behind : (heading : Option ℕ) → Q (read_under heading u v l n)
+    behind None = names (heading_of v.stage.table l)
+    behind (Some f) =
+        either Q (is_blank l && may_end u v.stage.table v.read.k) _ _
+        (λ b. next_after u i v p (and_parts (is_blank l) (may_end u v.stage.table v.read.k) b).1)
+        (λ b. either Q (must_end v.stage.table v.read.k) _ _ (λ m. tt)
+        (λ m. goes_on_lem (λ line. Says v.stage.table (length (fields_of l)) n (Ok line)) (After u (suc i)) (line_in v.stage.table f (fields_of l) n) _
+        (says_leads v.stage.table (length (fields_of l)) n _ (line_says v.stage.table f (fields_of l) n))
+        (λ line says. goes_on_lem _ (After u (suc i)) (takes v.read line n) _ (takes_after u i (length (fields_of l)) n v p line says) (λ w q. q))))
 
 -- ## The whole text
 
@@ -388,8 +386,8 @@ record Ended (b : ℕ) (v : Tables) : Type 0 where
 
 end_after : (u i b n : ℕ) (v : Sofar) → i ≤ b → After u i v → Leading (Ended b) (at_end u v n)
 end_after u i b n v l p =
-    either (Leading (Ended b)) (v.stage.named && eqb v.stage.table u) _ _
-    (λ e. done (eqb-true v.stage.table u (and_parts v.stage.named (eqb v.stage.table u) e).1)) (λ e. tt)
+    either (Leading (Ended b)) (is_some v.stage.heading && eqb v.stage.table u) _ _
+    (λ e. done (eqb-true v.stage.table u (and_parts (is_some v.stage.heading) (eqb v.stage.table u) e).1)) (λ e. tt)
   where
     done : v.stage.table ≡ u → Ended b v.read
     done e = record { few = omega (arith, p.few); sized = p.sized (omega (arith, p.low)); fits = p.fits }
@@ -419,14 +417,10 @@ split_few b (x ∷ s) =
     ahead [] l = omega arith
     ahead (p ∷ ps) l = omega arith
 
-accepted : (u : ℕ) (s : List ℕ) (v : Tables) → 1 ≤ u → reading_to u s ≡ gives v → Ended (length s) v
+accepted : (u : ℕ) (s : List ℕ) (v : Tables) → 1 ≤ u → reading_to u s ≡ Ok v → Ended (length s) v
 accepted u s v low e =
     subst (Leading (Ended (length s))) e
     (read_after u 0 (length s) 1 (split 10 s) at_start (omega (arith, split_few 10 s)) (start_after u low))
-
--- it has no more steps and acts than bytes
-pub accepted_few : (s : List ℕ) (v : Tables) → reading_of s ≡ gives v → length v.steps + length v.acts ≤ length s
-accepted_few s v e = (accepted 3 s v (omega arith) e).few
 
 -- the table lets a step through that is in range, not refused by its item, and not behind too many others
 fits_through : (k : ℕ) (cat : Catalog) (j : ℕ) (s : Step) → j < 1000000 → StepFits k cat s → step_refusal k cat j (numbers_of s) ≡ 0
@@ -435,7 +429,7 @@ fits_through k cat j s l f =
     (record { few = l; range = range_free (numbers_of s) f.ranged; item = ap (item_refusal k cat) (same_step s) ∙ f.taken })
 
 -- and what it says is sound
-pub accepted_sound : (s : List ℕ) (v : Tables) → length s ≤ 65536 → reading_of s ≡ gives v → Sound v
+pub accepted_sound : (s : List ℕ) (v : Tables) → length s ≤ 65536 → reading_of s ≡ Ok v → Sound v
 accepted_sound s v l e =
     let a = accepted 3 s v (omega arith) e in
     let p = a.fits in

@@ -4,13 +4,13 @@
 use lib.{ListN.{length, take, drop}, Dec.{eqb, leb}}
 use Rattle.types.specs.{declared.{Step.Step, Act.Act, Deduction.TheVariants.WriteFirst, Refusal.{Refusal, TheVariants.Heading}}, Types.{numbers_of, act_kind, act_item}}
 use Rattle.landlord.specs.{Fold.fold, Catalog.catalog_after, Steps.in_range}
-use mathlib.Core.{Bool.{Bool, true, false, cond, not, ◌&&◌}, List.{List, [], ◌∷◌, map}, Path.◌≡◌}
-use Rattle.season_tables.specs.declared.{Stage.Stage, Seen.Seen, Scanned.Scanned, LineRead.LineRead, Verdict.{Verdict, TheVariants.{Taken, Refused}}}
-use Rattle.season_tables.specs.Tables.{Placed, Tables, Sofar, OrRefusal, gives, stops, may_end, must_end, read_line}
-use Rattle.std.specs.Prelude.{ℕ, ◌*◌, ◌≤◌}
+use mathlib.Core.{Bool.{Bool, true, cond, not, ◌&&◌}, List.{List, [], ◌∷◌, map}, Path.◌≡◌}
+use Rattle.season_tables.specs.declared.{Stage.Stage, Seen.Seen}
+use Rattle.season_tables.specs.Tables.{Placed, Tables, Sofar, may_end, must_end, read_line}
+use Rattle.std.specs.Prelude.{ℕ, ◌*◌, ◌≤◌, Result, Ok, Err, OnErr, is_some}
 use Rattle.catalog_bytes.specs.Inner.{catalog_of_first}
-use Rattle.line_fields.specs.{declared.Field.Field, Fields.fields_of, Inner.held_field}
-use Rattle.season_lines.specs.{declared.Line.{Line, TheVariants.{Sizes, Item as ItemLine, Step as StepLine, Act as ActLine, Refused as RefusedLine}}, Inner.Judgeable}
+use Rattle.line_fields.specs.{declared.Field.Field, Fields.{fields_of, none_empty}, Inner.held_field}
+use Rattle.season_lines.specs.declared.Line.{Line, TheVariants.{Sizes, Item as ItemLine, Step as StepLine, Act as ActLine}}
 use Rattle.landlord.specs.CallNumbers.{call_numbers}
 use Rattle.season_items.specs.Inner.{call_width, act_width, most_noted, item_room, call_room, act_room, HasItems, Tells, none_present}
 
@@ -55,92 +55,86 @@ abbrev pub nothing_read : Seen
 nothing_read =
     record { k = 0; h = 0; rule = WriteFirst; n = 0; steps = 0; acts = 0; last = 0; present = none_present; earlier = none_present }
 
--- the verdict at the end of an input whose last table is the one numbered `upto`, on line n
-abbrev pub end_verdict : ℕ → Stage → ℕ → Verdict
-end_verdict upto p n = cond (p.named && eqb p.table upto) Taken (Refused (Heading n))
+-- the answer at the end of an input whose last table is the one numbered `upto`, on line n
+abbrev pub end_answer : ℕ → Stage → ℕ → Result (Unit {0}) Refusal
+end_answer upto p n = cond (is_some p.heading && eqb p.table upto) (Ok tt) (Err (Heading n))
 
 -- the answer to a value line, or to all lines: taken, with what has been read then; or the refusal
-abbrev pub Leads : OrRefusal Tables → Scanned → List ℕ → List ℕ → List ℕ → Type 0
-Leads (gives v) r catalog calls acts = (r.verdict ≡ Taken) × Holds r.seen catalog calls acts v
-Leads (stops x) r catalog calls acts = r.verdict ≡ Refused x
+abbrev pub Leads : Result Tables Refusal → Result (Unit {0}) Refusal → Seen → List ℕ → List ℕ → List ℕ → Type 0
+Leads (Ok v) r q catalog calls acts = (r ≡ Ok tt) × Holds q catalog calls acts v
+Leads (Err x) r q catalog calls acts = r ≡ Err x
 
 -- The answer leads where `led` says from what has been read, items, steps and acts being noted in these slices before and after.
-abbrev pub LeadsFrom : Seen → List ℕ → List ℕ → List ℕ → (Tables → OrRefusal Tables) → Scanned → List ℕ → List ℕ → List ℕ → Type 0
-LeadsFrom q catalog calls acts led r catalog_after calls-after acts-after =
-    (v : Tables) → Holds q catalog calls acts v → Leads (led v) r catalog_after calls-after acts-after
+abbrev pub LeadsFrom : Seen → List ℕ → List ℕ → List ℕ → (Tables → Result Tables Refusal) → Result (Unit {0}) Refusal → Seen → List ℕ → List ℕ → List ℕ → Type 0
+LeadsFrom q catalog calls acts led r p catalog_then calls_then acts_then =
+    (v : Tables) → Holds q catalog calls acts v → Leads (led v) r p catalog_then calls_then acts_then
 
 -- and nothing is noted
-abbrev pub LeadsBy : Seen → (Tables → OrRefusal Tables) → Scanned → Type 0
-LeadsBy q led r = (catalog calls acts : List ℕ) → LeadsFrom q catalog calls acts led r catalog calls acts
+abbrev pub LeadsBy : Seen → (Tables → Result Tables Refusal) → Result (Unit {0}) Refusal → Seen → Type 0
+LeadsBy q led r p = (catalog calls acts : List ℕ) → LeadsFrom q catalog calls acts led r p catalog calls acts
 
 -- and only an item is
-abbrev pub NotesItem : Seen → List ℕ → (Tables → OrRefusal Tables) → Scanned → List ℕ → Type 0
-NotesItem q catalog led r after = (calls acts : List ℕ) → LeadsFrom q catalog calls acts led r after calls acts
+abbrev pub NotesItem : Seen → List ℕ → (Tables → Result Tables Refusal) → Result (Unit {0}) Refusal → Seen → List ℕ → Type 0
+NotesItem q catalog led r p after = (calls acts : List ℕ) → LeadsFrom q catalog calls acts led r p after calls acts
 
 -- and only a step is, with the item that arrives
-abbrev pub NotesStep : Seen → List ℕ → List ℕ → (Tables → OrRefusal Tables) → Scanned → List ℕ → List ℕ → Type 0
-NotesStep q catalog calls led r catalog_after calls-after =
-    (acts : List ℕ) → LeadsFrom q catalog calls acts led r catalog_after calls-after acts
+abbrev pub NotesStep : Seen → List ℕ → List ℕ → (Tables → Result Tables Refusal) → Result (Unit {0}) Refusal → Seen → List ℕ → List ℕ → Type 0
+NotesStep q catalog calls led r p catalog_then calls_then =
+    (acts : List ℕ) → LeadsFrom q catalog calls acts led r p catalog_then calls_then acts
 
 -- and only an act is
-abbrev pub NotesAct : Seen → List ℕ → List ℕ → (Tables → OrRefusal Tables) → Scanned → List ℕ → Type 0
-NotesAct q calls acts led r after = (catalog : List ℕ) → LeadsFrom q catalog calls acts led r catalog calls after
-
--- a refusal hands back the struct that was handed in
-abbrev pub KeepsSeen : Seen → Scanned → Type 0
-KeepsSeen q r = (x : Refusal) → r.verdict ≡ Refused x → r.seen ≡ q
+abbrev pub NotesAct : Seen → List ℕ → List ℕ → (Tables → Result Tables Refusal) → Result (Unit {0}) Refusal → Seen → List ℕ → Type 0
+NotesAct q calls acts led r p after = (catalog : List ℕ) → LeadsFrom q catalog calls acts led r p catalog calls after
 
 -- A slice that is noted in: past its first m numbers it is as it was; after a refusal all of it is, and the struct too.
-abbrev pub KeepsPast : ℕ → Seen → List ℕ → Scanned → List ℕ → Type 0
-KeepsPast m q before r after =
-    (drop m after ≡ drop m before) × ((x : Refusal) → r.verdict ≡ Refused x → (r.seen ≡ q) × (after ≡ before))
+abbrev pub KeepsPast : ℕ → Seen → List ℕ → Result (Unit {0}) Refusal → Seen → List ℕ → Type 0
+KeepsPast m q before r p after = (drop m after ≡ drop m before) × OnErr r ((p ≡ q) × (after ≡ before))
 
 -- past what has been noted the slices are as they were
-pub record Untouched (q : Seen) (catalog calls acts catalog_after calls-after acts-after : List ℕ) : Type 0 where
-  pub past_items : drop (5 * q.present.n) catalog_after ≡ drop (5 * q.present.n) catalog
-  pub past_steps : drop (call_width * q.steps) calls-after ≡ drop (call_width * q.steps) calls
-  pub past_acts : drop (act_width * q.acts) acts-after ≡ drop (act_width * q.acts) acts
+pub record Untouched (q : Seen) (catalog calls acts catalog_then calls_then acts_then : List ℕ) : Type 0 where
+  pub past_items : drop (5 * q.present.n) catalog_then ≡ drop (5 * q.present.n) catalog
+  pub past_steps : drop (call_width * q.steps) calls_then ≡ drop (call_width * q.steps) calls
+  pub past_acts : drop (act_width * q.acts) acts_then ≡ drop (act_width * q.acts) acts
 
 -- the struct and the slices are all as they were
-pub record Unchanged (q : Seen) (catalog calls acts : List ℕ) (p : Seen) (catalog_after calls-after acts-after : List ℕ) : Type 0 where
+pub record Unchanged (q : Seen) (catalog calls acts : List ℕ) (p : Seen) (catalog_then calls_then acts_then : List ℕ) : Type 0 where
   pub same_seen : p ≡ q
-  pub same_items : catalog_after ≡ catalog
-  pub same_steps : calls-after ≡ calls
-  pub same_acts : acts-after ≡ acts
+  pub same_items : catalog_then ≡ catalog
+  pub same_steps : calls_then ≡ calls
+  pub same_acts : acts_then ≡ acts
 
 -- What a line leaves as it was: the slices past what has been noted then; after a refusal, all.
-pub record Keeps (q : Seen) (catalog calls acts : List ℕ) (r : Scanned) (catalog_after calls-after acts-after : List ℕ) : Type 0 where
-  pub past : Untouched r.seen catalog calls acts catalog_after calls-after acts-after
-  pub refused : (x : Refusal) → r.verdict ≡ Refused x → Unchanged q catalog calls acts r.seen catalog_after calls-after acts-after
+pub record Keeps (q : Seen) (catalog calls acts : List ℕ) (r : Result (Unit {0}) Refusal) (p : Seen) (catalog_then calls_then acts_then : List ℕ) : Type 0 where
+  pub past : Untouched p catalog calls acts catalog_then calls_then acts_then
+  pub refused : OnErr r (Unchanged q catalog calls acts p catalog_then calls_then acts_then)
 
 -- ## Any line, with the stage of the reading
 
--- the answer to a line that only leads to another stage, or is refused
-abbrev pub moved : Stage → Seen → OrRefusal Stage → LineRead
-moved p q (gives to) = record { stage = to; scanned = record { verdict = Taken; seen = q } }
-moved p q (stops x) = record { stage = p; scanned = record { verdict = Refused x; seen = q } }
+-- a line that only leads to another stage, or is refused
+abbrev pub Moves : Stage → Result Stage Refusal → Result (Unit {0}) Refusal → Stage → Type 0
+Moves p (Ok to) r q = (r ≡ Ok tt) × (q ≡ to)
+Moves p (Err x) r q = (r ≡ Err x) × (q ≡ p)
 
 -- the answer to any line: taken, with the stage and what has been read then; or the refusal
-abbrev pub LeadsTo : OrRefusal Sofar → LineRead → List ℕ → List ℕ → List ℕ → Type 0
-LeadsTo (gives v) r catalog calls acts = (r.stage ≡ v.stage) × Leads (gives v.read) r.scanned catalog calls acts
-LeadsTo (stops x) r catalog calls acts = r.scanned.verdict ≡ Refused x
+abbrev pub LeadsTo : Result Sofar Refusal → Result (Unit {0}) Refusal → Stage → Seen → List ℕ → List ℕ → List ℕ → Type 0
+LeadsTo (Ok v) r p q catalog calls acts = (r ≡ Ok tt) × (p ≡ v.stage) × Holds q catalog calls acts v.read
+LeadsTo (Err x) r p q catalog calls acts = r ≡ Err x
 
 -- and so from a stage, for line l, the n-th, of a text whose last table is the one numbered `upto`
-abbrev pub ReadsLine : ℕ → Stage → Seen → List ℕ → List ℕ → List ℕ → List ℕ → ℕ → LineRead → List ℕ → List ℕ → List ℕ → Type 0
-ReadsLine upto p q catalog calls acts l n r catalog_after calls-after acts-after =
+abbrev pub ReadsLine : ℕ → Stage → Seen → List ℕ → List ℕ → List ℕ → List ℕ → ℕ → Result (Unit {0}) Refusal → Stage → Seen → List ℕ → List ℕ → List ℕ → Type 0
+ReadsLine upto p q catalog calls acts l n r p_then q_then catalog_then calls_then acts_then =
     (v : Tables) →
     Holds q catalog calls acts v →
-    LeadsTo (read_line upto (record { stage = p; read = v }) l n) r catalog_after calls-after acts-after
+    LeadsTo (read_line upto (record { stage = p; read = v }) l n) r p_then q_then catalog_then calls_then acts_then
 
 -- What it leaves as it was; after a refusal the stage too.
-pub record KeepsLine (p : Stage) (q : Seen) (catalog calls acts : List ℕ) (r : LineRead) (catalog_after calls-after acts-after : List ℕ) : Type 0 where
-  pub kept : Keeps q catalog calls acts r.scanned catalog_after calls-after acts-after
-  pub refused : (x : Refusal) → r.scanned.verdict ≡ Refused x → r.stage ≡ p
+pub record KeepsLine (p : Stage) (q : Seen) (catalog calls acts : List ℕ) (r : Result (Unit {0}) Refusal) (p_then : Stage) (q_then : Seen) (catalog_then calls_then acts_then : List ℕ) : Type 0 where
+  pub kept : Keeps q catalog calls acts r q_then catalog_then calls_then acts_then
+  pub refused : OnErr r (p_then ≡ p)
 
 -- whether the fields of a line of so many bytes are looked at: a value line is due, and this is not the blank line
 unfoldable pub wants_values : ℕ → Stage → ℕ → ℕ → Bool
-wants_values upto p k bytes =
-    cond p.named (cond (cond (eqb bytes 0) (may_end upto p.table k) false) false (not (must_end p.table k))) false
+wants_values upto p k bytes = is_some p.heading && not (eqb bytes 0 && may_end upto p.table k) && not (must_end p.table k)
 
 -- if a line is one with values, these are its fields, as the program holds them
 abbrev pub Looked : ℕ → Stage → ℕ → List ℕ → List Field → Type 0
@@ -170,7 +164,6 @@ Sayable q (Sizes k h r) = Unit {0}
 Sayable q (ItemLine i b l w) = (i ≤ 255) × (q.steps ≡ 0)
 Sayable q (StepLine s) = in_range (numbers_of s) ≡ true
 Sayable q (ActLine place act) = Unit {0}
-Sayable q (RefusedLine r) = Unit {0}
 
 -- a line that a line writer may take
 pub record Takeable (q : Seen) (line : Line) (catalog calls acts : List ℕ) : Type 0 where
@@ -190,11 +183,11 @@ pub record ActTakeable (q : Seen) (place : ℕ) (act : Act) (calls acts : List �
   pub line : Takeable q (ActLine place act) catalog calls acts
 
 -- what a line asks: the struct and the slices hold what has been read, no step before the end of the catalog, and its fields were looked at
-pub record LineReadable (upto : ℕ) (p : Stage) (q : Seen) (l : List ℕ) (fields : List Field) (count : ℕ) (catalog calls acts : List ℕ) : Type 0 where
+pub record LineReadable (upto : ℕ) (p : Stage) (q : Seen) (l : List ℕ) (fields : List Field) (catalog calls acts : List ℕ) : Type 0 where
   pub room : Room q catalog calls acts
-  pub judgeable : Judgeable fields count
+  pub judgeable : none_empty fields ≡ true
   pub table : p.table ≤ 3
-  pub looked : Looked upto p q.k l (take count fields)
+  pub looked : Looked upto p q.k l fields
   pub unstepped : p.table ≤ 1 → q.steps ≡ 0
   pub read : Tables
   pub holds : Holds q catalog calls acts read

@@ -11,24 +11,25 @@ use borrow.Author.Tests.{leb-true, eqb-true, eqb-false, le-leb, eq-eqb, ne_eqb, 
 use lib.Dec.{leb, ltb, eqb}
 use lib.ListN.{length, get_or, take, drop, length-append, take-append-drop, get_or-eq_default}
 use Rattle.std.specs.List.{position_or_len}
+use Rattle.std.proofs.lemmas.Bool.{cases_lt}
 use Rattle.std.proofs.lemmas.Bool.Decides.{nat_tests}
 use Rattle.std.proofs.Common.{drop-cons, Option, Some, None, MatchOption, SomeIff, unwrap_or}
 use Rattle.decimal.specs.Decimal.{text_of, same_text, digits_of, all_digits}
 use Rattle.decimal.specs.InnerPages.{text_over, labelled}
-use Rattle.decimal.proofs.Laws.{less_or_not, digits_all, digits_length}
+use Rattle.decimal.proofs.Laws.{digits_all, digits_length}
 use Rattle.decimal.proofs.Texts.{same_true}
 use Rattle.decimal.proofs.Pages.{TextGoing, go_first}
 use Rattle.types.specs.Types.{names_item}
 use Rattle.basis.proofs.Tables.{every, every_at}
 use Rattle.sentence.specs.Sentences.{words, word_of, in_table, line_part, item_part, sentence_of, longest_sentence}
 use Rattle.sentence.specs.InnerSentences.{is_stop, piece_of, place_of}
+use Rattle.std.proofs.lemmas.Grind.{common_steps}
 
 -- ## Tests
 
 -- one of two tests passes, and it is not the first
 the_other : (a b : Bool) → (a || b) ≡ true → a ≡ false → b ≡ true
-the_other true b h e = absurd (false≢true (sym e))
-the_other false b h e = h
+the_other a b h e = grind (arith, common_steps)
 
 -- ## The table
 
@@ -42,11 +43,11 @@ no_row n h = rw (word_none n h)
 
 -- a number of the table is below 28
 row_below : (n : ℕ) → in_table n ≡ true → n < 28
-row_below n t = ⊎_elim (λ l. l) (λ l. absurd (false≢true (sym (no_row n l) ∙ t))) (less_or_not n 28)
+row_below n t = ⊎_elim (λ l. l) (λ l. absurd (false≢true (sym (no_row n l) ∙ t))) (cases_lt n 28)
 
 -- a test that passes at each number below 28, by computing it, and past them, where there is no word, passes for every number
 in_rows : (f : ℕ → Bool) → every f 28 ≡ true → ((n : ℕ) → 28 ≤ n → f n ≡ true) → (n : ℕ) → f n ≡ true
-in_rows f t past n = ⊎_elim (every_at f 28 t n) (past n) (less_or_not n 28)
+in_rows f t past n = ⊎_elim (every_at f 28 t n) (past n) (cases_lt n 28)
 
 -- the letters of each word of the table, and that there are none past it
 abbrev pub Spelled : List String → ℕ → Type 0
@@ -142,24 +143,14 @@ word_item_size n i h = go (names_item n) refl
 pub sentence_count :
     (n l i : ℕ) → length (sentence_of n l i) ≡ length (word_of n) + length (line_part l) + length (item_part n i) + 2
 unfolding sentence_of
-sentence_count n l i =
-    omega (
-      arith,
-      length-append (word_of n) (line_part l ++ (item_part n i ++ text_of ".\n")),
-      length-append (line_part l) (item_part n i ++ text_of ".\n"),
-      length-append (item_part n i) (text_of ".\n"),
-    )
+sentence_count n l i = grind (arith, common_steps)
 
 pub parts_size :
     (n l i : ℕ) → l ≤ 4294967295 → i ≤ 4294967295 → length (word_of n) + length (line_part l) + length (item_part n i) + 2 ≤ longest_sentence
 parts_size n l i h k = omega (arith, line_size l h, word_item_size n i k)
 
 pub word_few : (n : ℕ) → length (word_of n) ≤ 28
-word_few n = go (names_item n) (word_size n)
-  where
-    go : (t : Bool) → length (word_of n) ≤ cond t 11 28 → length (word_of n) ≤ 28
-    go true h = omega (arith, h)
-    go false h = h
+word_few n = grind (arith, word_size n)
 
 pub item_size : (n i : ℕ) → i ≤ 4294967295 → length (item_part n i) ≤ 28
 item_size n i h = omega (arith, word_item_size n i h)

@@ -1,19 +1,16 @@
 -- A step and its numbers: the numbers of a step mean that step, and the kind tells which step numbers mean. Assumes nothing.
-use mathlib.Core.Path.{◌≡◌, refl}
+use mathlib.Core.Path.{◌≡◌}
 use borrow.Author.Tests.{eq-eqb, ne_eqb}
 use Rattle.types.specs.declared.Step.{Step}
 use Rattle.types.specs.declared.Step.TheVariants.{Read, Write, Flush, Arrive, Retire}
 use Rattle.types.specs.declared.Numbers.{Numbers}
 use Rattle.types.specs.Types.{numbers_of, step_of}
+use native.Mathlib.Omega.{arith}
 
 -- a step is the one that its numbers mean
 pub same_step : (s : Step) → step_of (numbers_of s) ≡ s
 unfolding step_of
-same_step (Read i) = refl
-same_step (Write i m) = refl
-same_step Flush = refl
-same_step (Arrive i b l w) = refl
-same_step (Retire i) = refl
+same_step s = grind arith
 
 pub step_read : (n : Numbers) → n.kind ≡ 82 → step_of n ≡ Read n.item
 unfolding step_of

@@ -178,7 +178,8 @@ impl Step {
     }
 }
 
-// The step of a known kind; every other kind is a flush here: whoever takes numbers asks first whether the kind is one.
+// The step of a known kind; every other kind is a flush here: whoever takes numbers asks first whether the kind is one. Kept by hand: a
+// `TryFrom` would ask again what the range of a step's numbers, tested before, has told.
 #[tactic(auto, unfolding(crate::specs::Types::step_of))]
 pub fn step_of(n: Numbers) -> Step
     ensures { result ≡ step_of n }
@@ -233,8 +234,8 @@ impl Deduction {
     }
 }
 
-// The rule of deduction of a number: 0 is write-first. Every other is load-first here; whoever takes a number asks first whether it is a
-// rule's.
+// The rule of deduction of a number: 0 is write-first. Every other is load-first here; whoever takes a number from a call asks first
+// whether it is a rule's. Kept by hand: a state's bytes may hold any number, and what they hold is a rule all the same.
 pub fn deduction_of(number: u32) -> Deduction
     ensures { result ≡ deduction_of number }
 {

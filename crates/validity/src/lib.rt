@@ -8,70 +8,75 @@ ghost use Rattle.landlord.specs.Figures.{totals_of};
 ghost use Rattle.basis.specs.InnerDecided.{Decided};
 ghost use Rattle.validity.specs.Inner.{CreditOk, MarksOk, EntryOk, KeyFits, Creditable, CountsOk, SumsOk};
 
+// One item of the catalog, by its numbers.
+#[derive(Clone, Copy)]
+pub struct Entry {
+    pub blocks: u8,
+    pub load: u16,
+    pub write: u16,
+    pub held: bool,
+    pub dirty: bool,
+    pub load_credit: u64,
+    pub write_credit: u64,
+    pub minutes: u32,
+}
+
+// What a season has counted so far.
+#[derive(Clone, Copy)]
+pub struct Totals {
+    pub steps: u32,
+    pub hits: u32,
+    pub loads: u32,
+    pub load_cost: u64,
+    pub evictions: u32,
+    pub dirty_evictions: u32,
+    pub writebacks: u32,
+    pub write_cost: u64,
+    pub flushes: u32,
+    pub arrivals: u32,
+    pub retirements: u32,
+}
+
+// The sums over the items: the blocks of those that are held and their count, how many are marked dirty, how many have left, and what
+// the loads and the writebacks counted for each come to.
+#[derive(Clone, Copy)]
+pub struct Sums {
+    pub blocks: u32,
+    pub held: u32,
+    pub marked: u32,
+    pub left: u32,
+    pub loads: u64,
+    pub writebacks: u64,
+}
+
 // Whether a credit is a multiple of the item's blocks, and no more than the cost in shares. Most are 0, and nothing is divided then.
 fn credit_ok(blocks: u8, cost: u16, credit: u64) -> bool
     requires { 1 ≤ blocks }
     ensures { Decided (CreditOk blocks cost credit) result }
 {
-    if credit == 0 {
-        return true;
-    }
-    if credit % (blocks as u64) != 0 {
-        return false;
-    }
-    credit <= (cost as u64) * 720720
+    credit == 0 || (credit % (blocks as u64) == 0 && credit <= (cost as u64) * 720720)
 }
 
 // Whether an item's marks go together with each other, with its credits and with the closing.
-fn marks_ok(held: bool, dirty: bool, closed: bool, loadcredit: u64, writecredit: u64) -> bool
-    ensures { Decided (MarksOk held dirty closed loadcredit writecredit) result }
+fn marks_ok(e: &Entry, closed: bool) -> bool
+    ensures { Decided (MarksOk e.now.held e.now.dirty closed e.now.load_credit e.now.write_credit) result }
 {
-    if dirty {
-        if closed {
-            return false;
-        }
-        return held;
+    if e.dirty {
+        return !closed && e.held;
     }
-    if writecredit > 0 {
-        return false;
-    }
-    if !held {
-        return loadcredit == 0;
-    }
-    true
+    e.write_credit == 0 && (e.held || e.load_credit == 0)
 }
 
-// Whether an item of the catalog is as it should be, by its numbers.
-pub fn entry_ok(
-    blocks: u8,
-    load: u16,
-    write: u16,
-    held: bool,
-    dirty: bool,
-    closed: bool,
-    loadcredit: u64,
-    writecredit: u64,
-    minutes: u32,
-    steps: u32,
-) -> bool
-    ensures { Decided (EntryOk blocks load write held dirty closed loadcredit writecredit minutes steps) result }
+// Whether an item of the catalog is as it should be after so many steps, in a log that is open or closed.
+pub fn entry_ok(e: &Entry, closed: bool, steps: u32) -> bool
+    ensures { Decided (EntryOk e.now.blocks e.now.load e.now.write e.now.held e.now.dirty closed e.now.load_credit e.now.write_credit e.now.minutes steps) result }
 {
-    if blocks < 1 {
-        return false;
-    }
-    if blocks > 16 {
-        return false;
-    }
-    if !marks_ok(held, dirty, closed, loadcredit, writecredit) {
-        return false;
-    }
-    if !credit_ok(blocks, load, loadcredit) {
-        return false;
-    }
-    if !credit_ok(blocks, write, writecredit) {
-        return false;
-    }
-    (minutes as u64) <= 1440 * (steps as u64)
+    1 <= e.blocks
+        && e.blocks <= 16
+        && marks_ok(e, closed)
+        && credit_ok(e.blocks, e.load, e.load_credit)
+        && credit_ok(e.blocks, e.write, e.write_credit)
+        && (e.minutes as u64) <= 1440 * (steps as u64)
 }
 
 // Whether an item's key fits its credits and the level. Both are any numbers of 64 bits: nothing is added to them, and what is
@@ -87,10 +92,7 @@ pub fn key_ok(held: bool, level: u64, key: u64, credits: u64, blocks: u8) -> boo
         return false;
     }
     let due = key - level;
-    if due > credits {
-        return false;
-    }
-    due * (blocks as u64) <= credits
+    due <= credits && due * (blocks as u64) <= credits
 }
 
 // Whether the level is no more than so many evictions can have raised it.
@@ -102,79 +104,32 @@ pub fn level_ok(level: u64, evictions: u32) -> bool
 }
 
 // Whether the capacity is in range, and the totals go together with each other.
-pub fn counts_ok(
-    k: u32,
-    steps: u32,
-    hits: u32,
-    loads: u32,
-    loadcost: u64,
-    evictions: u32,
-    dirtyevictions: u32,
-    writebacks: u32,
-    writecost: u64,
-    flushes: u32,
-    arrivals: u32,
-    retirements: u32,
-) -> bool
-    ensures { Decided (CountsOk k (totals_of steps hits loads loadcost evictions dirtyevictions writebacks writecost flushes arrivals retirements)) result }
+pub fn counts_ok(k: u32, t: &Totals) -> bool
+    ensures { Decided (CountsOk k (totals_of t.now.steps t.now.hits t.now.loads t.now.load_cost t.now.evictions t.now.dirty_evictions t.now.writebacks t.now.write_cost t.now.flushes t.now.arrivals t.now.retirements)) result }
 {
-    if k < 1 {
-        return false;
-    }
-    if k > 4096 {
-        return false;
-    }
-    if steps > 1000000 {
-        return false;
-    }
-    if (hits as u64) + (loads as u64) + (flushes as u64) + (arrivals as u64) + (retirements as u64)
-        != (steps as u64)
-    {
-        return false;
-    }
-    if dirtyevictions > evictions {
-        return false;
-    }
-    if dirtyevictions > writebacks {
-        return false;
-    }
-    if loadcost > 65535 * (loads as u64) {
-        return false;
-    }
-    writecost <= 65535 * (writebacks as u64)
+    let counted = (t.hits as u64)
+        + (t.loads as u64)
+        + (t.flushes as u64)
+        + (t.arrivals as u64)
+        + (t.retirements as u64);
+    1 <= k
+        && k <= 4096
+        && t.steps <= 1000000
+        && counted == (t.steps as u64)
+        && t.dirty_evictions <= t.evictions
+        && t.dirty_evictions <= t.writebacks
+        && t.load_cost <= 65535 * (t.loads as u64)
+        && t.write_cost <= 65535 * (t.writebacks as u64)
 }
 
 // Whether the sums over the items are what the capacity and the totals say.
-pub fn balanced(
-    k: u32,
-    blocks: u32,
-    evictions: u32,
-    held: u32,
-    loads: u32,
-    writebacks: u32,
-    marked: u32,
-    steps: u32,
-    itemloads: u64,
-    itemwritebacks: u64,
-    retirements: u32,
-    left: u32,
-) -> bool
-    ensures { Decided (SumsOk k blocks evictions held loads writebacks marked steps itemloads itemwritebacks retirements left) result }
+pub fn balanced(k: u32, t: &Totals, s: &Sums) -> bool
+    ensures { Decided (SumsOk k s.now.blocks t.now.evictions s.now.held t.now.loads t.now.writebacks s.now.marked t.now.steps s.now.loads s.now.writebacks t.now.retirements s.now.left) result }
 {
-    if blocks > k {
-        return false;
-    }
-    if (evictions as u64) + (held as u64) != (loads as u64) {
-        return false;
-    }
-    if (writebacks as u64) + (marked as u64) > (steps as u64) {
-        return false;
-    }
-    if itemloads != (loads as u64) {
-        return false;
-    }
-    if itemwritebacks != (writebacks as u64) {
-        return false;
-    }
-    retirements == left
+    s.blocks <= k
+        && (t.evictions as u64) + (s.held as u64) == (t.loads as u64)
+        && (t.writebacks as u64) + (s.marked as u64) <= (t.steps as u64)
+        && s.loads == (t.loads as u64)
+        && s.writebacks == (t.writebacks as u64)
+        && t.retirements == s.left
 }

@@ -1,44 +1,14 @@
--- `cache_check::used` meets its contract: the loop adds up the blocks of the items held. Assumes nothing.
-use mathlib.Core.Path.{sym, ◌∙◌}
-use mathlib.Core.Bool.{cond}
-use native.Mathlib.Omega.{arith}
+use Rattle.std.proofs.Common.{ℕ, false, cond, get_or, rules, tests, arith, sym, ◌∙◌}
 use Rattle.cache_state.proofs.Views.{used_is}
 use Rattle.layout.specs.Layout.{cache_of}
-use Rattle.cache_check.proofs.Sums.{adding_none, adding_more, adding_all}
-use Rattle.cache_check.proofs.used.Invariants.{term}
+use Rattle.cache_check.proofs.Adding.{summable, summed}
 use Rattle.cache_check.proofs.used.Goals as goal
 
-pub loop-i-init : goal.loop-i-init
-loop-i-init c =
-    adding_none 255 (term c.args.b.now) c.args.n
-
-pub held-requires : goal.held-requires
-held-requires c =
-    (c.requires.size, omega (arith, c.requires.few))
-
-pub blocks-requires : goal.blocks-requires
-blocks-requires c =
-    (c.requires.size, omega (arith, c.requires.few))
-
-pub overflow_add-sum : goal.overflow_add-sum
-overflow_add-sum c =
-    omega arith
-
-pub overflow_add-i : goal.overflow_add-i
-overflow_add-i c =
-    omega arith
-
-pub loop-i-smaller : goal.loop-i-smaller
-loop-i-smaller c =
-    omega arith
-
-pub loop-i-preserved : goal.loop-i-preserved
-loop-i-preserved c =
-    let l = c.loop-i in
-    adding_more 255 (term c.args.b.now) c.args.n l.i l.sum c.if_held-sum.result l.invariant (omega arith) (omega (arith, c.if_held-sum.ensures.1))
-    (c.if_held-sum.ensures.0 ∙ (λ z. cond (c.held.ensures z) (c.blocks-in-loop-i.ensures z) 0))
+pub sum-requires-clause-fits : goal.sum-requires-clause-fits
+sum-requires-clause-fits c = summable _ c.args.n c.map.ensures.source c.map.ensures.closure c.requires.few _ (omega arith) (λ x r q k. search (rules, tests))
 
 pub returns : goal.returns
 returns c =
-    let b = c.args.b.now in
-    rw c.requires.count at (adding_all 255 (term b) c.args.n c.loop-i.i c.loop-i.sum c.loop-i.invariant (omega arith)) ∙ sym (used_is (cache_of b))
+    let each : ℕ → ℕ = λ i. cond (get_or (cache_of c.args.b.now).held i false) (get_or (cache_of c.args.b.now).blocks i 0) 0 in
+    rw c.requires.count at (summed _ c.args.n c.map.ensures.source c.map.ensures.closure each (λ x r q k. search rules) c.sum.result c.sum.ensures.ran)
+    ∙ sym (used_is (cache_of c.args.b.now))

@@ -1,10 +1,6 @@
 -- `cache_check::zeros_three` meets its contract. The loop's invariant: `all` is 0 exactly if every byte passed is. Assumes nothing.
-use Prim.Native.Nat.{◌-◌, ◌≤◌}
 use Rattle.cache_check.proofs.Blanks.{PassedThree}
 use Rattle.cache_check.proofs.zeros_three.Given as goal
 
 abbrev pub invariant-loop-i : goal.invariant-loop-i
-invariant-loop-i l = (l.i ≤ l.to) × PassedThree l.b l.x l.y l.z l.from l.i l.all
-
-abbrev pub decreases-loop-i : goal.decreases-loop-i
-decreases-loop-i l = l.to - l.i
+invariant-loop-i l = PassedThree l.b l.x l.y l.z l.from l.i l.all

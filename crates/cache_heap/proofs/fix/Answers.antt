@@ -10,4 +10,4 @@ fix-requires c =
 
 pub returns : goal.returns
 returns c =
-    sifted_back c.args.b.now _ _ (λ j. byte_fits (c.slice_known-1.given j)) (λ j. byte_fits (c.type_inv.b j)) c.requires.reads c.fix.ensures.kept refl c.args.n c.fix.ensures
+    sifted_back c.args.b.now _ _ c.slice_known-1.given (λ j. byte_fits (c.type_inv.b j)) c.requires.reads c.fix.ensures.kept refl c.args.n c.fix.ensures

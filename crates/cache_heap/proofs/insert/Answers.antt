@@ -10,4 +10,4 @@ insert-requires c =
 
 pub returns : goal.returns
 returns c =
-    inserted_back c.args.b.now _ _ (λ j. byte_fits (c.slice_known-1.given j)) (λ j. byte_fits (c.type_inv.b j)) c.requires.reads c.insert.ensures.kept refl c.args.n c.args.i c.insert.ensures
+    inserted_back c.args.b.now _ _ c.slice_known-1.given (λ j. byte_fits (c.type_inv.b j)) c.requires.reads c.insert.ensures.kept refl c.args.n c.args.i c.insert.ensures

@@ -10,4 +10,4 @@ remove-requires c =
 
 pub returns : goal.returns
 returns c =
-    removed_back c.args.b.now _ _ (λ j. byte_fits (c.slice_known-1.given j)) (λ j. byte_fits (c.type_inv.b j)) c.requires.reads c.remove.ensures.kept refl c.args.n c.args.at c.remove.ensures
+    removed_back c.args.b.now _ _ c.slice_known-1.given (λ j. byte_fits (c.type_inv.b j)) c.requires.reads c.remove.ensures.kept refl c.args.n c.args.at c.remove.ensures

@@ -1,13 +1,7 @@
 -- `heap::cut` meets its contract: two stores of 0. Assumes nothing.
-use lib.ListN.{length-set}
 use Rattle.heap.proofs.Moving.{cut_put}
 use Prim.Native.Nat.{◌+◌}
-use borrow.Author.Rules.{rules}
 use Rattle.heap.proofs.cut.Goals as goal
-
-pub bounds-s-gone : goal.bounds-s-gone
-bounds-s-gone c =
-    rw length-set (search rules)
 
 pub returns : goal.returns
 returns c =

@@ -5,10 +5,6 @@ use mathlib.Core.Path.{sym}
 use native.Mathlib.Omega.{arith}
 use Rattle.heap.proofs.item.Goals as goal
 
-pub overflow_cast-result : goal.overflow_cast-result
-overflow_cast-result c =
-    omega (arith, c.shared_slice_known-1.given (2048 + c.args.j))
-
 pub returns : goal.returns
 returns c =
-    (sym (items_at c.args.s.now c.args.j c.requires.1), omega (arith, c.shared_slice_known-1.given (2048 + c.args.j)))
+    (sym (items_at c.args.s.now c.args.j c.requires.1), omega (arith, c.type_inv.s (2048 + c.args.j)))

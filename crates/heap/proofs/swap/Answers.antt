@@ -1,20 +1,6 @@
 -- `heap::swap` meets its contract: four stores, of which the last decides where both items are one. Assumes nothing.
 use Rattle.heap.proofs.Moving.{swap_stores}
-use lib.ListN.{length-set}
-use borrow.Author.Rules.{rules}
 use Rattle.heap.proofs.swap.Goals as goal
-
-pub bounds-s-j : goal.bounds-s-j
-bounds-s-j c =
-    rw length-set (search rules)
-
-pub bounds-s-b : goal.bounds-s-b
-bounds-s-b c =
-    rw (length-set, length-set) (search rules)
-
-pub bounds-s-a : goal.bounds-s-a
-bounds-s-a c =
-    rw (length-set, length-set, length-set) (search rules)
 
 pub returns : goal.returns
 returns c =

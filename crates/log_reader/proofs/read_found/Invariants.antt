@@ -4,8 +4,8 @@ use lib.ListN.{length}
 use Rattle.log_reader.proofs.Reading.{Going}
 use Rattle.log_reader.proofs.read_found.Given as goal
 
-abbrev pub invariant-loop-at : goal.invariant-loop-at
-invariant-loop-at l = Going l.heading l.text l.initial.list l.initial.at l.initial.count l.list l.at l.count
+abbrev pub invariant-loop-place : goal.invariant-loop-place
+invariant-loop-place l = Going l.heading l.text l.initial.list l.initial.place.at l.initial.place.count l.list l.place.at l.place.count
 
-abbrev pub decreases-loop-at : goal.decreases-loop-at
-decreases-loop-at l = length l.text - l.at
+abbrev pub decreases-loop-place : goal.decreases-loop-place
+decreases-loop-place l = length l.text - l.place.at

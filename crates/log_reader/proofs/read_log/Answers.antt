@@ -1,59 +1,36 @@
--- `log_reader::read_log` meets its contract. Assumes nothing.
+-- `log_reader::read_log` meets its contract: the answer, and the list then. Assumes nothing.
 use mathlib.Core.Path.{sym}
-use Prim.Native.Nat.{◌*◌, ◌≤◌}
 use native.Mathlib.Omega.{arith}
 use lib.Seq.{length-take-le}
-use Rattle.log_reader.proofs.Answers.{log_read}
-use Rattle.log_reader.proofs.Reading.{answer_long, answer_refused, answer_few, answer_short, answer_stored}
+use Rattle.std.proofs.lemmas.Result.{err_from_is_err_and}
+use Rattle.log_reader.proofs.Answers.{answer_long, answer_refused, answer_short, answer_stored, read_few}
 use Rattle.log_reader.proofs.read_log.Goals as goal
 
 pub returns-then-text-gt-LIMIT : goal.returns-then-text-gt-LIMIT
-returns-then-text-gt-LIMIT c =
-    let a = c.args in log_read (answer_long a.text.now a.list.now c.if-text-gt-LIMIT.true)
+returns-then-text-gt-LIMIT c = answer_long c.args.text.now c.args.list.now c.if-text-gt-LIMIT.true
+
+pub returns-in_err-steps : goal.returns-in_err-steps
+returns-in_err-steps c =
+    let p = err_from_is_err_and c.from_residual.result c.from_residual.ensures.1 in
+    rw (p.1, p.2) (answer_refused c.args.text.now c.args.list.now _ _ c.if-text-gt-LIMIT.false _ c.in_err-steps.ensures)
 
 pub overflow_mul-bytes : goal.overflow_mul-bytes
 overflow_mul-bytes c =
-    let few : c.in-Steps.count ≤ 10922 = let a = c.args in
-    let r = c.read_table in
-    answer_few a.text.now a.list.now _ _ r.result c.if-text-gt-LIMIT.false r.ensures _ _ c.in-Steps.is in
-    record { fits = omega (arith, few) }
+    omega (arith, read_few c.args.text.now _ _ c.in_ok-steps.steps c.in_ok-steps.ensures)
 
 pub returns-then-list-bytes : goal.returns-then-list-bytes
 returns-then-list-bytes c =
-    let a = c.args in
-    let r = c.read_table in
-    log_read (answer_short a.text.now a.list.now _ _ r.result c.if-text-gt-LIMIT.false r.ensures _ _ c.in-Steps.is c.if-list-bytes.true)
+    answer_short c.args.text.now c.args.list.now _ _ c.if-text-gt-LIMIT.false c.in_ok-steps.steps c.in_ok-steps.ensures c.if-list-bytes.true
 
 pub slice_bounds-room-end : goal.slice_bounds-room-end
 slice_bounds-room-end c =
-    let few : c.in-Steps.count ≤ 10922 = let a = c.args in
-    let r = c.read_table in
-    answer_few a.text.now a.list.now _ _ r.result c.if-text-gt-LIMIT.false r.ensures _ _ c.in-Steps.is in
-    omega (arith, few)
+    omega (arith, read_few c.args.text.now _ _ c.in_ok-steps.steps c.in_ok-steps.ensures)
 
 pub slice_bounds-put_text-end : goal.slice_bounds-put_text-end
 slice_bounds-put_text-end c =
-    let few : c.in-Steps.count ≤ 10922 = let a = c.args in
-    let r = c.read_table in
-    answer_few a.text.now a.list.now _ _ r.result c.if-text-gt-LIMIT.false r.ensures _ _ c.in-Steps.is in
+    let few = read_few c.args.text.now _ _ c.in_ok-steps.steps c.in_ok-steps.ensures in
     sym (length-take-le _ _ (omega (arith, few)))
 
-pub put_text-requires : goal.put_text-requires
-put_text-requires c =
-    let few : c.in-Steps.count ≤ 10922 = let a = c.args in
-    let r = c.read_table in
-    answer_few a.text.now a.list.now _ _ r.result c.if-text-gt-LIMIT.false r.ensures _ _ c.in-Steps.is in
-    let n = c.in-Steps.count in
-    omega (arith, length-take-le (24 * n) c.read_table.new.list (omega (arith, few)))
-
-pub returns-in-Refused : goal.returns-in-Refused
-returns-in-Refused c =
-    let a = c.args in
-    let r = c.read_table in
-    log_read (answer_refused a.text.now a.list.now _ _ r.result c.if-text-gt-LIMIT.false r.ensures _ c.in-Refused.is)
-
-pub returns-else-list-bytes : goal.returns-else-list-bytes
-returns-else-list-bytes c =
-    let a = c.args in
-    let r = c.read_table in
-    log_read (answer_stored a.text.now a.list.now _ _ r.result c.if-text-gt-LIMIT.false r.ensures _ _ c.in-Steps.is _ c.if-list-bytes.false c.put_text.ensures.page_after)
+pub returns : goal.returns
+returns c =
+    answer_stored c.args.text.now c.args.list.now _ _ c.if-text-gt-LIMIT.false c.in_ok-steps.steps c.in_ok-steps.ensures c.if-list-bytes.false c.put_text.ensures.page_after
