@@ -2,16 +2,15 @@
 // its arrivals and retirements, through the methods, each with what it answers.
 #![tactic(auto)]
 
-use cache_value::{Answer, Answered, Cache};
-use report::Written;
+use cache_value::{Answered, Cache};
 use std::io;
-use types::Step;
+use types::{Refusal, Step};
 
 // The paper's number for an answer: 0 if the call was taken.
-fn number(a: Answer) -> u32 {
-    match a {
-        Answer::Taken => 0,
-        Answer::Refused(r) => r.number(),
+fn number(answer: Result<(), Refusal>) -> u32 {
+    match answer {
+        Ok(()) => 0,
+        Err(refusal) => refusal.number(),
     }
 }
 
@@ -30,10 +29,7 @@ fn read_row(rt: &impl Print, k: u32) -> io::Result<()> {
 
 // A write of so many minutes.
 fn write_row(rt: &impl Print, minutes: u32) -> io::Result<()> {
-    let wrote = one_item(rt, 1, 1)?.step(Step::Write {
-        item: 0,
-        minutes: minutes,
-    });
+    let wrote = one_item(rt, 1, 1)?.step(Step::Write { item: 0, minutes });
     let kept = wrote.cache.minutes[0];
     println!(rt;
         "W of minutes {minutes}: {}, minutes {kept}",
@@ -45,8 +41,8 @@ fn write_row(rt: &impl Print, minutes: u32) -> io::Result<()> {
 fn print_report(rt: &impl Print, c: Cache) -> io::Result<()> {
     let mut page = report::longest_page();
     match c.report(&mut page) {
-        Written::Text(n) => rt.write_all(&page[..n]),
-        Written::Refused(r) => println!(rt; "report: {}", r.number()),
+        Ok(n) => rt.write_all(&page[..n]),
+        Err(refusal) => println!(rt; "report: {}", refusal.number()),
     }
 }
 
@@ -94,7 +90,7 @@ fn total(c: Cache) -> u64 {
 }
 
 fn read(c: Cache, item: u32) -> Cache {
-    c.step(Step::Read { item: item }).cache
+    c.step(Step::Read { item }).cache
 }
 
 // A cache of 2 blocks for four items of one block, of which one is dear to write back.

@@ -1,5 +1,6 @@
 -- Laws of a step that the table does not refuse: what has been asked of it, and that what is done in place is one step of the rule.
 -- Assumes nothing.
+use mathlib.Core.Logic.{◌⊎◌, inl, inr, ⊎_elim}
 use mathlib.Core.Path.{◌≡◌, refl, sym, ap, subst, ◌∙◌}
 use mathlib.Core.Bool.{Bool, true, false, cond, ◌&&◌, false≢true}
 use mathlib.Core.List.{List}
@@ -107,16 +108,13 @@ module _ (b : List ℕ) (s : Step) (p : TablePasses b s) where
 
   -- ---- that of a read or a write too, and it has room
 
-  pub read_asked : (i : ℕ) → s ≡ Read i → request_refusal c.k (catalog_of c) i ≡ 0
-  read_asked i is = free_as (Read i) is
-
-  pub write_asked : (i minutes : ℕ) → s ≡ Write i minutes → request_refusal c.k (catalog_of c) i ≡ 0
-  write_asked i minutes is = free_as (Write i minutes) is
-
   pub write_minutes : (i minutes : ℕ) → s ≡ Write i minutes → minutes ≤ 1440
   write_minutes i minutes is = leb-true minutes 1440 (both (is_item_number i) _ (ranged_as (Write i minutes) is)).1
 
-  module _ (i : ℕ) (free : request_refusal c.k (catalog_of c) i ≡ 0) where
+  module _ (i : ℕ) (is : (s ≡ Read i) ⊎ ((minutes : ℕ) × (s ≡ Write i minutes))) where
+    free : request_refusal c.k (catalog_of c) i ≡ 0
+    free = ⊎_elim (λ e. free_as (Read i) e) (λ w. free_as (Write i w.0) w.1) is
+
     asked : Known c i × ◌≡◌ {A = ℕ} (cond (leb (item_at (catalog_of c) i).blocks c.k) 0 7) 0
     asked = let_in c i _ free
 
@@ -174,16 +172,20 @@ module _ (b : List ℕ) (s : Step) (p : TablePasses b s) where
 
       pub read_took :
           (after : List ℕ) →
-          s ≡ Read i →
+          ((j minutes : ℕ) → s ≡ Write j minutes → ⊥) →
           BecomesAt (moved_in (lazy (cache_of room)) (serve_read_in (split_of (cache_of room).rule) i (queue_of (cache_of room))) (cache_of room).closed) after →
           BecomesAt (took_in (lazy c) s) after
       unfolding took_in step_in
-      read_took after is h = request_took (λ r q. serve_read_in r i q) (Read i) after is refl h
+      read_took after none h = request_took (λ r q. serve_read_in r i q) (Read i) after (⊎_elim (λ e. e) (λ w. absurd (none i w.0 w.1)) is) refl h
 
       pub write_took :
-          (minutes : ℕ) (after : List ℕ) →
-          s ≡ Write i minutes →
+          (j minutes : ℕ) (after : List ℕ) →
+          s ≡ Write j minutes →
           BecomesAt (moved_in (lazy (cache_of room)) (serve_write_in (split_of (cache_of room).rule) i minutes (queue_of (cache_of room))) (cache_of room).closed) after →
           BecomesAt (took_in (lazy c) s) after
       unfolding took_in step_in
-      write_took minutes after is h = request_took (λ r q. serve_write_in r i minutes q) (Write i minutes) after is refl h
+      write_took j minutes after e h = request_took (λ r q. serve_write_in r i minutes q) (Write i minutes) after (same is) refl h
+        where
+          same : (s ≡ Read i) ⊎ ((m : ℕ) × (s ≡ Write i m)) → s ≡ Write i minutes
+          same (inl r) = cc
+          same (inr w) = cc

@@ -93,7 +93,7 @@ fn checked(b: &[u8], n: Numbers) -> Result<Step, Refusal>
     Ok(step)
 }
 
-// A step that the table does not refuse. For a read and a write room is made first.
+// A step that the table does not refuse. For a read and a write room is made first, by one call: the compiler then needs no frame for it.
 fn serve(b: &mut [u8], step: Step)
     requires { TablePasses b.old step }
     ensures { BecomesAt (took_in (lazy (cache_of b.old)) step) b.new }
@@ -107,13 +107,14 @@ fn serve(b: &mut [u8], step: Step)
             ..
         } => cache_arrivals::arrive(b, blocks as u8, load as u16, write as u16),
         Step::Retire { item } => cache_arrivals::retire(b, item as usize),
-        Step::Read { item } => {
-            cache_room::make_room(b, item as usize);
-            cache_serve::serve_read(b, item as usize);
-        }
-        Step::Write { item, minutes } => {
-            cache_room::make_room(b, item as usize);
-            cache_serve::serve_write(b, item as usize, minutes);
+        Step::Read { item } | Step::Write { item, .. } => {
+            let i = item as usize;
+            cache_room::make_room(b, i);
+            if let Step::Write { minutes, .. } = step {
+                cache_serve::serve_write(b, i, minutes);
+            } else {
+                cache_serve::serve_read(b, i);
+            }
         }
     }
 }

@@ -4,7 +4,10 @@ use mathlib.Core.Path.{◌≡◌, refl, sym, ap, subst, ◌∙◌}
 use mathlib.Core.Logic.{◌≢◌}
 use mathlib.Core.List.{List, []}
 use Prim.Native.Nat.{ℕ}
-use Rattle.types.specs.Types.{telling}
+use mathlib.Core.Bool.{true, false≢true}
+use Rattle.std.specs.Prelude.{Ok, Err}
+use Rattle.std.specs.Result.{is_ok}
+use Rattle.types.specs.Types.{telling, answer_number}
 use Rattle.landlord.specs.Catalog.{Catalog}
 use Rattle.landlord.specs.Figures.{Standing, total_cost}
 use Rattle.landlord.specs.Calls.{Opening, Call}
@@ -18,27 +21,14 @@ use Rattle.cache_run.specs.Inner.{BeginsAt, RanCalls}
 use Rattle.cache_run.proofs.Season.{season_theorem}
 use Rattle.cache_value.specs.declared.Cache.{Cache}
 use Rattle.cache_value.specs.declared.Answered.{Answered}
-use Rattle.cache_value.specs.declared.Answer.TheVariants.{Taken}
 use Rattle.cache_value.specs.Inner.{Opened}
-use Rattle.cache_value.specs.Contract.{record_of, by_value, answer_told, SeasonByValue, Ran}
+use Rattle.cache_value.specs.Contract.{Answer, record_of, by_value, OpenedBy, SeasonByValue, Ran}
 use Rattle.cache_value.proofs.Openings.{at_opening, lazy_opened}
-use Rattle.cache_value.proofs.Answers.{number_told, opened_as}
+use Rattle.cache_value.proofs.Answers.{opened_by}
 use Rattle.cache_value.proofs.Calls.{valid_there, same_view, same_lazy}
 
-pub run_refused :
-    (o : Opening Catalog) (calls : List Call) (before : List ℕ) (n : ℕ) (c : Cache) (r : Answered) →
-    Opened o n c →
-    n ≢ 0 →
-    answer_told r.answer ≡ telling n 0 0 →
-    r.cache ≡ c →
-    Ran o calls before before r
-run_refused o calls before n c r h d t e =
-    record {
-      tells = t ∙ ap (λ (m : ℕ). telling m 0 0) h.answer;
-      refused = λ z. (refl, opened_as o n c r h t e);
-      numbers = [];
-      season = λ z. absurd (d (sym (number_told 0 t) ∙ z));
-    }
+pub run_refused : (o : Opening Catalog) (calls : List Call) (before : List ℕ) (r : Answered) → OpenedBy o r → answer_number r.answer ≢ 0 → Ran o calls before before r
+run_refused o calls before r h d = record { tells = h.tells; refused = λ z. (refl, h); numbers = []; season = λ z. absurd (d z) }
 
 -- the bytes of an opened cache begin a season in place
 bytes_begin : (o : Opening Catalog) (n : ℕ) (c : Cache) (b : List ℕ) → Opened o n c → n ≡ 0 → Stands b (record_of c) → BeginsAt lent o b
@@ -68,18 +58,24 @@ season_carried o calls numbers last d e s = record { season = season; cost = sea
           cost = λ closing. subst (λ (v : Standing). Bounded o calls (total_cost v.figures)) (sym (ap view e)) (s.cost closing);
         }
 
+taken_number : (a : Answer) → is_ok a ≡ true → answer_number a ≡ 0
+taken_number (Ok _) e = refl
+taken_number (Err r) e = absurd (false≢true e)
+
 pub run_taken :
-    (o : Opening Catalog) (calls : List Call) (before : List ℕ) (n : ℕ) (c d : Cache) {after b last : List ℕ} →
-    Opened o n c →
-    n ≡ 0 →
-    Stands b (record_of c) →
+    (o : Opening Catalog) (calls : List Call) (before : List ℕ) (r : Answered) (d : Cache) {after b last : List ℕ} →
+    OpenedBy o r →
+    is_ok r.answer ≡ true →
+    Stands b (record_of r.cache) →
     RanCalls lent b calls before after last →
     record_of d ≡ cache_of last →
-    Ran o calls before after (record { answer = Taken; cache = d })
-run_taken o calls before n c d {b = b} {last = last} h z s ran e =
+    Ran o calls before after (record { answer = Ok tt; cache = d })
+run_taken o calls before r d {b = b} {last = last} h ok s ran e =
+    let first = opened_by o r h in
+    let z = taken_number r.answer ok in
     record {
-      tells = ap (λ (m : ℕ). telling m 0 0) (sym z ∙ h.answer);
+      tells = ap (λ (m : ℕ). telling m 0 0) (sym z ∙ first.answer);
       refused = λ w. absurd (w refl);
       numbers = ran.numbers;
-      season = λ w. (season_carried o calls ran.numbers last d e (season_theorem lent (bytes_begin o n c b h z s) ran.follows), ran.noted);
+      season = λ w. (season_carried o calls ran.numbers last d e (season_theorem lent (bytes_begin o (answer_number r.answer) r.cache b first z s) ran.follows), ran.noted);
     }

@@ -3,7 +3,7 @@ use mathlib.Core.Path.{◌≡◌, refl, sym, ap, subst, ◌∙◌}
 use mathlib.Core.List.{List, map}
 use Prim.Native.Nat.{ℕ, zero, suc}
 use lib.ListN.{get_or, length-map}
-use Rattle.types.specs.Types.{telling}
+use Rattle.types.specs.Types.{telling, answer_told, answer_number}
 use Rattle.landlord.specs.Catalog.{Catalog}
 use Rattle.landlord.proofs.Ranges.{opening_taken}
 use Rattle.landlord.specs.Calls.{Opening, Call, close, call_item}
@@ -11,9 +11,8 @@ use Rattle.cache_run.specs.Season.{Follows, none, then, Season, Prefix}
 use Rattle.cache_run.specs.Inner.{BeginsAt}
 use Rattle.cache_run.proofs.Season.{season_theorem, season_prefix}
 use Rattle.cache_value.specs.declared.Cache.{Cache}
-use Rattle.cache_value.specs.declared.Answer.{Answer}
-use Rattle.cache_value.specs.declared.Answer.TheVariants.{Taken}
-use Rattle.cache_value.specs.Contract.{by_value, answer_told, answer_number, SeasonByValue, FollowsBy, no_call, then_call, ChainBy, SeasonByMethods}
+use Rattle.std.specs.Prelude.{Ok}
+use Rattle.cache_value.specs.Contract.{by_value, Answer, SeasonByValue, FollowsBy, no_call, then_call, ChainBy, SeasonByMethods}
 use Rattle.cache_value.specs.Inner.{Opened, Chain}
 use Rattle.cache_value.proofs.Answers.{opened_by}
 
@@ -46,7 +45,7 @@ told_at :
     {c d : Cache} {calls : List Call} {answers : List Answer} →
     FollowsBy c calls answers d →
     (i : ℕ) →
-    answer_told (get_or answers i Taken) ≡ telling (get_or (map answer_number answers) i 0) 0 (call_item (get_or calls i close))
+    answer_told (get_or answers i (Ok tt)) ≡ telling (get_or (map answer_number answers) i 0) 0 (call_item (get_or calls i close))
 told_at no_call i = refl
 told_at (then_call m f) zero = m.tells
 told_at (then_call m f) (suc i) = told_at f i

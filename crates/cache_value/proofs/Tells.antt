@@ -1,29 +1,25 @@
 -- The contracts of the methods leave no choice but how the heap is arranged: for each arrangement there is exactly one valid struct where
 -- the lazy form stands; and there is one answer that tells so much. At an opening the heap is empty, and nothing is free. And a report's
 -- text is within its page. Assumes nothing.
-use mathlib.Core.Path.{◌≡◌, refl, sym, ap, subst, ◌∙◌}
+use mathlib.Core.Path.{◌≡◌, refl, sym, ap, ◌∙◌}
 use mathlib.Core.Logic.{⊎_elim}
 use mathlib.Core.List.{List}
 use Prim.Native.Nat.{ℕ, ◌≤◌, ◌<◌}
 use native.Mathlib.Omega.{arith}
 use lib.ListN.{length}
-use Rattle.types.specs.Types.{Told, telling}
+use Rattle.types.specs.Types.{Told, telling, answer_told}
 use Rattle.landlord.specs.Catalog.{Catalog}
 use Rattle.landlord.specs.Calls.{Call, call_item, Opening}
 use Rattle.types.proofs.Refusals.{refusal_one, refused_some}
 use Rattle.cache_state.proofs.Tells.{Sizes}
 use Rattle.cache_state.proofs.Tells as records
 use Rattle.decimal.proofs.Laws.{less_or_not, wrote_fits, page_length}
-use Rattle.report_lines.specs.declared.Rival.TheVariants.{Absent}
-use Rattle.report.specs.declared.Written.{Written}
-use Rattle.report.specs.declared.Written.TheVariants.{Text}
 use Rattle.report.specs.Report.{report_of}
 use Rattle.cache.specs.Contract.{Answers}
 use Rattle.cache_value.specs.declared.Cache.{Cache}
-use Rattle.cache_value.specs.declared.Answer.{Answer}
-use Rattle.cache_value.specs.declared.Answer.TheVariants.{Taken, Refused}
+use Rattle.std.specs.Prelude.{Ok, Err, None}
 use Rattle.cache_value.specs.declared.Answered.{Answered}
-use Rattle.cache_value.specs.Contract.{record_of, by_value, answer_told, CalledBy, OpenedBy, ReportedBy}
+use Rattle.cache_value.specs.Contract.{record_of, by_value, Answer, CalledBy, OpenedBy, ReportedBy}
 
 -- structs that are one record are one struct
 pub record_one : (c d : Cache) → record_of c ≡ record_of d → c ≡ d
@@ -79,10 +75,10 @@ answers_one c d e call n m sd se p q =
 -- ---- answers
 
 pub answer_one : (a b : Answer) → answer_told a ≡ answer_told b → a ≡ b
-answer_one Taken Taken e = refl
-answer_one Taken (Refused r) e = absurd (refused_some r (λ j. (sym e j).number))
-answer_one (Refused r) Taken e = absurd (refused_some r (λ j. (e j).number))
-answer_one (Refused r) (Refused z) e = ap Refused (refusal_one r z e)
+answer_one (Ok _) (Ok _) e = refl
+answer_one (Ok _) (Err r) e = absurd (refused_some r (λ j. (sym e j).number))
+answer_one (Err r) (Ok _) e = absurd (refused_some r (λ j. (e j).number))
+answer_one (Err r) (Err z) e = ap Err (refusal_one r z e)
 
 -- so of a method on a valid struct: one answer, and one struct handed back for each arrangement of the heap
 pub method_one :
@@ -119,18 +115,14 @@ opening_one o r s sr ss lr ls p q = (
 -- ---- the report
 
 -- a text that was written is within the page as it is then: of a struct that is not valid none is
-text_within : (c : Cache) (page after : List ℕ) (n : ℕ) → ReportedBy c page (Text n) after → n ≤ length after
-text_within c page after n h = ⊎_elim (λ long. absurd (none long)) (λ few. few) (less_or_not (length after) n)
+pub report_within : (c : Cache) (page after : List ℕ) (n : ℕ) → ReportedBy c page (Ok n) after → n ≤ length after
+report_within c page after n h = ⊎_elim (λ long. absurd (none long)) (λ few. few) (less_or_not (length after) n)
   where
     t : List ℕ
-    t = report_of (by_value.view c) Absent
+    t = report_of (by_value.view c) None
 
     none : length after < n → ⊥
     none long =
         let bad = h.invalid (λ ok. let put = h.fine ok in omega (arith, long, put.size, wrote_fits t page, ap length put.page, page_length t page)) in
         let z : ◌≡◌ {A = ℕ} 0 17 = ap (λ (x : Told). x.number) bad.0 in
         omega (arith, z)
-
--- the same of an answer that is known to be a text
-pub report_within : (c : Cache) (page after : List ℕ) (w : Written) (n : ℕ) → w ≡ Text n → ReportedBy c page w after → n ≤ length after
-report_within c page after w n e h = text_within c page after n (subst (λ (z : Written). ReportedBy c page z after) e h)

@@ -1,16 +1,15 @@
 -- The cache as a struct, its calls and its report as methods: what each promises, and the season theorem by value. Assumes nothing.
 use mathlib.Core.{Path.{◌≡◌, refl}, Bool.{true, cond}, List.{List, [], ◌∷◌, map}, Logic.◌≢◌}
-use Rattle.std.specs.Prelude.{ℕ, ◌<◌, ◌+◌}
+use Rattle.std.specs.Prelude.{ℕ, ◌<◌, ◌+◌, None, Result, Ok}
 use lib.{Dec.eqb, ListN.{get_or, length, take}, Seq.sets}
-use Rattle.types.specs.Types.{telling, nothing_told, told, Told}
+use Rattle.types.specs.{declared.Refusal.Refusal, Types.{telling, answer_told, answer_number}}
 use Rattle.landlord.specs.{Fold.tab, Catalog.{Catalog, listed}, Slot.write_first, Rule.emptied, Figures.{Standing, nothing, start, opened, changed}, Calls.{Opening, Call, call_item, opening_refusal, starts_at, close, refusal}}
 use Rattle.queue.specs.Machine.{LazyStanding, empty_queue, lazy_starts_at}
 use Rattle.cache_state.specs.Cache.{Cache as Record, lazy, view, Valid, EmptyPlace}
-use Rattle.report_lines.specs.declared.Rival.TheVariants.{Absent}
-use Rattle.report.specs.{declared.Written.Written, Report.{report_of, written_told, Put}}
+use Rattle.report.specs.Report.{report_of, Put}
 use Rattle.cache.specs.Contract.{Kind, Called}
 use Rattle.cache_run.specs.Season.{Closing, Bounded, Season}
-use Rattle.cache_value.specs.declared.{Cache.Cache, Answer.{Answer, TheVariants.{Taken, Refused}}, Answered.Answered}
+use Rattle.cache_value.specs.declared.{Cache.Cache, Answered.Answered}
 
 -- the struct as the record of the specification: the same fields
 abbrev pub record_of : Cache → Record
@@ -65,14 +64,9 @@ refused_opening = changed (opened (start write_first 1 [])) (emptied []) (nothin
 abbrev pub refused_lazy : LazyStanding
 refused_lazy = record { k = 1; queue = empty_queue []; figures = nothing []; closed = true; split = write_first }
 
--- what a method's answer tells
-abbrev pub answer_told : Answer → Told
-answer_told Taken = nothing_told
-answer_told (Refused r) = told r
-
--- paper 01's number for it: 0 if the call was taken
-abbrev pub answer_number : Answer → ℕ
-answer_number a = (answer_told a).number
+-- a method's answer
+abbrev pub Answer : Type 0
+Answer = Result Unit Refusal
 
 -- A step or the closing as a method: the answer tells the call's number and its item, and no line; the next cache comes with it. What is
 -- left open is how that one's heap is arranged, and that alone (proofs/Tells.antt).
@@ -95,9 +89,9 @@ pub record OpenedBy (o : Opening Catalog) (r : Answered) : Type 0 where
 
 -- the report of the struct alone, so with no rival's figures, on a lent page: "a report 17, 15"; a struct that is not valid leaves every
 -- byte of the page as before
-pub record ReportedBy (c : Cache) (before : List ℕ) (r : Written) (after : List ℕ) : Type 0 where
-  pub fine : by_value.Valid c → Put (report_of (by_value.view c) Absent) before r after
-  pub invalid : (by_value.Valid c → ⊥) → (written_told r ≡ telling 17 0 0) × (after ≡ before)
+pub record ReportedBy (c : Cache) (before : List ℕ) (r : Result ℕ Refusal) (after : List ℕ) : Type 0 where
+  pub fine : by_value.Valid c → Put (report_of (by_value.view c) None) before r after
+  pub invalid : (by_value.Valid c → ⊥) → (answer_told r ≡ telling 17 0 0) × (after ≡ before)
 
 -- ---- the season: each call is handed the cache that the last one handed back
 
@@ -128,7 +122,7 @@ pub record SeasonByMethods (o : Opening Catalog) (calls : List Call) (answers : 
   pub count : length answers ≡ length calls
   pub each :
       (i : ℕ) → i < length calls →
-      answer_told (get_or answers i Taken) ≡ telling (refusal o.k o.catalog (take i calls) (get_or calls i close)) 0 (call_item (get_or calls i close))
+      answer_told (get_or answers i (Ok tt)) ≡ telling (refusal o.k o.catalog (take i calls) (get_or calls i close)) 0 (call_item (get_or calls i close))
   pub by_number : SeasonByValue o calls (map answer_number answers) d
 
 -- The season theorem of the arguments alone: a refused opening answers 3 or 18, notes nothing and hands back the one cache of a refused

@@ -1,14 +1,16 @@
--- What the functions of an opening give, and a cache of which some places are filled. Assumes nothing.
+-- What the functions of an opening give, what a closure is that makes a call, and a cache of which some places are filled. Assumes nothing.
 use mathlib.Core.{Path.◌≡◌, Bool.{Bool, cond, true, false}, List.{List, ◌++◌}}
 use Rattle.std.specs.Prelude.{ℕ, ◌<◌}
 use lib.{ListN.{take, drop, replicate}, Dec.eqb}
 use Rattle.types.specs.declared.Deduction.TheVariants.{WriteFirst}
-use Rattle.landlord.specs.{Catalog.Catalog, Calls.{Opening, Call, opening_refusal, starts_at}}
+use Rattle.types.specs.Types.{telling, answer_told, answer_number}
+use Rattle.landlord.specs.{Catalog.Catalog, Calls.{Opening, Call, call_item, opening_refusal, starts_at}}
 use Rattle.queue.specs.Machine.{lazy_starts_at}
 use Rattle.cache_state.specs.{Cache.{Cache as Record, EmptyPlace}, InnerView.counts_of, InnerWith.{with_catalog, with_slots, with_figures, with_queue}}
 use Rattle.cache_open.specs.Inner.{empty_with}
+use Rattle.cache.specs.Contract.{lent, Called}
 use Rattle.cache_run.specs.Season.{Follows}
-use Rattle.cache_value.specs.{declared.Cache.Cache, Contract.{record_of, by_value, refused_opening, refused_lazy}}
+use Rattle.cache_value.specs.{declared.Cache.Cache, Contract.{record_of, by_value, refused_opening, refused_lazy, Answer}}
 
 -- the fields of a refused opening's cache: 1 block, no items, closed, write-first
 abbrev pub nothing_opened : Record
@@ -27,6 +29,17 @@ pub record Chain (o : Opening Catalog) (calls : List Call) (numbers : List ℕ) 
   pub first : Cache
   pub opening : Opened o 0 first
   pub follows : Follows by_value first calls numbers d
+
+-- ---- a call in place
+
+-- so lent bytes are answered and left, where the call is made on them
+pub record MadeAt (call : Call) (b : List ℕ) (r : Answer) (d : List ℕ) : Type 0 where
+  pub called : Called lent b call (answer_number r) d
+  pub tells : answer_told r ≡ telling (answer_number r) 0 (call_item call)
+
+-- what is made of lent bytes, whatever they are, is this call
+abbrev pub Makes : Call → (List ℕ → Answer → List ℕ → Type 0) → Type 0
+Makes call made = (b : List ℕ) (r : Answer) (d : List ℕ) → made b r d → MadeAt call b r d
 
 -- ---- the struct stored and read place by place
 

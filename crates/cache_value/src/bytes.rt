@@ -44,8 +44,7 @@ pub fn encode(c: Cache, b: &mut [u8])
     ensures { Stands b.new (record_of c) }
 {
     put_own(c, b);
-    let mut i = 0;
-    while i < 256 {
+    for i in 0..256 {
         layout::put_load_credit(b, i, c.loadcredit[i]);
         layout::put_write_credit(b, i, c.writecredit[i]);
         layout::put_minutes(b, i, c.minutes[i]);
@@ -58,7 +57,6 @@ pub fn encode(c: Cache, b: &mut [u8])
         layout::put_key(b, i, c.keys[i]);
         layout::put_heap_item(b, i, c.heap[i]);
         layout::put_place(b, i, c.places[i]);
-        i += 1;
     }
 }
 
@@ -108,8 +106,7 @@ pub fn decode(b: &[u8]) -> Cache
     ensures { record_of result ≡ cache_of b.now }
 {
     let mut c = own(b);
-    let mut i = 0;
-    while i < 256 {
+    for i in 0..256 {
         c.loadcredit[i] = layout::load_credit(b, i);
         c.writecredit[i] = layout::write_credit(b, i);
         c.minutes[i] = layout::minutes(b, i);
@@ -122,7 +119,6 @@ pub fn decode(b: &[u8]) -> Cache
         c.keys[i] = layout::key(b, i);
         c.heap[i] = layout::heap_item(b, i);
         c.places[i] = layout::place(b, i);
-        i += 1;
     }
     c
 }

@@ -3,19 +3,16 @@
 // there, and a report is that of the bytes. Only this form pays for it.
 #![tactic(auto)]
 
-ghost use Rattle.std.specs.Prelude.{◌≡◌, ◌≤◌, length};
-ghost use Rattle.types.specs.Types.{telling};
-ghost use Rattle.landlord.specs.Calls.{opening, close, call_of};
+ghost use Rattle.std.specs.Prelude.{◌≡◌, ◌≤◌, Err, length};
+ghost use Rattle.std.specs.Fn.{FnOnceReturnsAtMut};
+ghost use Rattle.landlord.specs.Calls.{Call, opening, close, call_of};
+ghost use Rattle.landlord.specs.CallNumbers.{calls_of};
 ghost use Rattle.catalog_bytes.specs.Inner.{catalog_of_first};
-ghost use Rattle.cache_open.specs.Inner.{empty_with};
-ghost use Rattle.cache.specs.Contract.{lent, Called};
-ghost use Rattle.landlord.specs.CallNumbers.{call_from, calls_of};
-ghost use Rattle.cache_value.specs.Contract.{record_of, by_value, catalog_from, answer_told, CalledBy, OpenedBy, ReportedBy, Ran};
-ghost use Rattle.cache_value.specs.Inner.{nothing_opened, Opened};
+ghost use Rattle.cache_value.specs.Contract.{record_of, catalog_from, CalledBy, OpenedBy, ReportedBy, Ran};
+ghost use Rattle.cache_value.specs.Inner.{nothing_opened, MadeAt, Makes};
 
-use report::Written;
-use report_lines::Rival;
-use types::{Deduction, Numbers, Refusal, Step};
+use catalog_bytes::Item;
+use types::{Deduction, Refusal, Step};
 
 mod bytes;
 
@@ -63,47 +60,26 @@ pub struct Cache {
     pub used: u32,
 }
 
-// The answer to a call: taken, or why not.
-#[derive(Clone, Copy)]
-pub enum Answer {
-    Taken,
-    Refused(Refusal),
-}
-
 // What a method hands back: its answer, and the next cache.
 #[derive(Clone, Copy)]
 pub struct Answered {
-    pub answer: Answer,
+    pub answer: Result<(), Refusal>,
     pub cache: Cache,
-}
-
-// The same by the refusal's number, 0 if the call was taken.
-#[derive(Clone, Copy)]
-struct Reply {
-    number: u32,
-    cache: Cache,
 }
 
 // ---- the opening
 
-// An empty cache of these capacity, catalog and rule: in each of the 256 places nothing is held and nothing counted, and no item has left.
-fn empty(
-    k: u32,
-    n: usize,
-    blocks: [u8; 256],
-    load: [u16; 256],
-    write: [u16; 256],
-    closed: bool,
-    rule: Deduction,
-) -> Cache
-    ensures { record_of result ≡ empty_with k n blocks load write closed rule }
+// A refused opening: a closed cache of 1 block with no items, write-first; in each of the 256 places nothing is held and nothing counted.
+fn refused_opening(refusal: Refusal) -> Answered
+    ensures answer { result.answer ≡ Err refusal }
+    ensures cache { record_of result.cache ≡ nothing_opened }
 {
-    Cache {
-        k: k,
-        n: n,
-        blocks: blocks,
-        load: load,
-        write: write,
+    let cache = Cache {
+        k: 1,
+        n: 0,
+        blocks: [0; 256],
+        load: [0; 256],
+        write: [0; 256],
         held: [false; 256],
         loadcredit: [0; 256],
         writecredit: [0; 256],
@@ -120,8 +96,8 @@ fn empty(
         writebacks: 0,
         writecost: 0,
         flushes: 0,
-        closed: closed,
-        rule: rule,
+        closed: true,
+        rule: Deduction::WriteFirst,
         left: [0; 4],
         arrivals: 0,
         retirements: 0,
@@ -130,24 +106,10 @@ fn empty(
         heap: [0; 256],
         places: [0; 256],
         used: 0,
-    }
-}
-
-// A refused opening, with the refusal's number: a closed cache of 1 block with no items, write-first.
-fn refused_opening(number: u32) -> Reply
-    ensures { (result.number ≡ number) × (record_of result.cache ≡ nothing_opened) }
-{
-    Reply {
-        number: number,
-        cache: empty(
-            1,
-            0,
-            [0; 256],
-            [0; 256],
-            [0; 256],
-            true,
-            Deduction::WriteFirst,
-        ),
+    };
+    Answered {
+        answer: Err(refusal),
+        cache,
     }
 }
 
@@ -156,109 +118,47 @@ fn put_catalog(catalog: &mut [u8], n: usize, blocks: [u8; 256], load: [u16; 256]
     requires { (length catalog.old ≡ 1280) × (n ≤ 256) }
     ensures { catalog_of_first n catalog.new ≡ catalog_from n blocks load write }
 {
-    let mut i = 0;
-    while i < n {
-        catalog_bytes::put(catalog, i, blocks[i], load[i], write[i]);
-        i += 1;
-    }
-}
-
-// Opens a cache of `k` blocks, with a rule of deduction by its number, for the first `n` items of the three arrays; entries past them
-// are not looked at. More items than there are places are out of range, whatever else is.
-fn opening(
-    k: u32,
-    rule: u32,
-    n: usize,
-    blocks: [u8; 256],
-    load: [u16; 256],
-    write: [u16; 256],
-) -> Reply
-    ensures { Opened (opening k rule (catalog_from n blocks load write)) result.number result.cache }
-{
-    if n > 256 {
-        return refused_opening(3);
-    }
-    let mut catalog = [0u8; catalog_bytes::MOST_BYTES];
-    put_catalog(&mut catalog, n, blocks, load, write);
-    let mut b = [0u8; layout::STATE_BYTES];
-    let answer = cache_open::open(&mut b, k, rule, &catalog[..5 * n]);
-    if answer != 0 {
-        return refused_opening(answer);
-    }
-    // The arrays may hold anything past the `n` items. In the bytes that is blank, so blocks and costs are taken from there.
-    let stored = bytes::decode(&b);
-    let sizes = stored.blocks;
-    let loads = stored.load;
-    let writes = stored.write;
-    Reply {
-        number: 0,
-        cache: empty(k, n, sizes, loads, writes, false, types::deduction_of(rule)),
+    for i in 0..n {
+        let item = Item {
+            blocks: blocks[i],
+            load: load[i],
+            write: write[i],
+        };
+        catalog_bytes::put(catalog, i, item);
     }
 }
 
 // ---- the calls
 
-// A call, in place on any bytes: 0 and then a step's numbers; or 1 or any other number, and it is the closing.
-fn call_bytes(b: &mut [u8], which: u32, n: Numbers) -> u32
-    ensures { Called lent b.old (call_from which n) result b.new }
-{
-    if which == 0 {
-        return cache::step(b, n);
-    }
-    cache::close(b)
-}
-
-// The same by value. A cache of more items than there are places is not valid, and has no room in the bytes.
-fn call(c: Cache, which: u32, n: Numbers) -> Reply
-    ensures { Called by_value c (call_from which n) result.number result.cache }
+// A call on the cache, made in place on its bytes. A cache of more items than there are places is not valid, and has no room in the
+// bytes. Refused, the cache is handed back as it was.
+fn call<F: FnOnce(&mut [u8]) -> Result<(), Refusal>>(c: Cache, make: F) -> Answered
+    requires { F.IsAlwaysCallable make }
+    ensures { (call : Call) → Makes call (FnOnceReturnsAtMut F.FnOnce make) → CalledBy c call result }
 {
     if c.n > 256 {
-        return Reply {
-            number: 17,
+        return Answered {
+            answer: Err(Refusal::InvalidState { line: 0 }),
             cache: c,
         };
     }
     let mut b = [0u8; layout::STATE_BYTES];
     bytes::encode(c, &mut b);
-    let refusal = call_bytes(&mut b, which, n);
-    if refusal != 0 {
-        return Reply {
-            number: refusal,
+    match make(&mut b) {
+        Ok(()) => Answered {
+            answer: Ok(()),
+            cache: bytes::decode(&b),
+        },
+        Err(refusal) => Answered {
+            answer: Err(refusal),
             cache: c,
-        };
-    }
-    Reply {
-        number: 0,
-        cache: bytes::decode(&b),
-    }
-}
-
-// The answer with a call's number, about an item, and no line.
-fn answer_to(number: u32, item: u32) -> Answer
-    requires { number ≤ 20 }
-    ensures { answer_told result ≡ telling number 0 item }
-{
-    if number == 0 {
-        return Answer::Taken;
-    }
-    Answer::Refused(types::refusal_of(number, 0, item))
-}
-
-// A reply with its number as an answer, about the call's item.
-fn answer_with(r: Reply, item: u32) -> Answered
-    requires { r.number ≤ 20 }
-    ensures { (answer_told result.answer ≡ telling r.number 0 item) × (result.cache ≡ r.cache) }
-{
-    let next = r.cache;
-    let number = r.number;
-    Answered {
-        answer: answer_to(number, item),
-        cache: next,
+        },
     }
 }
 
 impl Cache {
-    // Opens a cache of `k` blocks, with a rule of deduction by its number, for the first `n` items of the arrays.
+    // Opens a cache of `k` blocks, with a rule of deduction by its number, for the first `n` items of the arrays; entries past them are
+    // not looked at. More items than there are places are out of range, whatever else is.
     pub fn open(
         k: u32,
         rule: u32,
@@ -269,35 +169,56 @@ impl Cache {
     ) -> Answered
         ensures { OpenedBy (opening k rule (catalog_from n blocks load write)) result }
     {
-        answer_with(opening(k, rule, n, blocks, load, write), 0)
+        if n > 256 {
+            return refused_opening(Refusal::OutOfRange { line: 0 });
+        }
+        let mut catalog = [0u8; catalog_bytes::MOST_BYTES];
+        put_catalog(&mut catalog, n, blocks, load, write);
+        let mut b = [0u8; layout::STATE_BYTES];
+        match cache_open::open(&mut b, k, rule, &catalog[..catalog_bytes::ITEM_BYTES * n]) {
+            Ok(()) => Answered {
+                answer: Ok(()),
+                cache: bytes::decode(&b),
+            },
+            Err(refusal) => refused_opening(refusal),
+        }
     }
 
     // Takes one step.
     pub fn step(self, s: Step) -> Answered
         ensures { CalledBy self (call_of s) result }
     {
-        let n = s.numbers();
-        answer_with(call(self, 0, n), n.item)
+        call(
+            self,
+            |b|
+                ensures { MadeAt (call_of s) b.old result b.new }
+            { cache::step(b, s.numbers()) },
+        )
     }
 
     // Closes the log: what is dirty is written back.
     pub fn close(self) -> Answered
         ensures { CalledBy self close result }
     {
-        answer_with(call(self, 1, Step::Flush.numbers()), 0)
+        call(
+            self,
+            |b|
+                ensures { MadeAt close b.old result b.new }
+            { cache::close(b) },
+        )
     }
 
     // Writes the report of the cache alone, with no rival's figures, at the start of the page: 17 if the cache is not valid, 15 if the
     // page is too short. Refused, every byte of the page is as before. More items than there are places have no room in the bytes.
-    pub fn report(self, page: &mut [u8]) -> Written
+    pub fn report(self, page: &mut [u8]) -> Result<usize, Refusal>
         ensures { ReportedBy self page.old result page.new }
     {
         if self.n > 256 {
-            return Written::Refused(Refusal::InvalidState { line: 0 });
+            return Err(Refusal::InvalidState { line: 0 });
         }
         let mut b = [0u8; layout::STATE_BYTES];
         bytes::encode(self, &mut b);
-        report::report(&b, Rival::Absent, page)
+        report::report(&b, None, page)
     }
 }
 
@@ -317,18 +238,16 @@ pub fn run(
 ) -> Answered
     ensures { Ran (opening k rule (catalog_from n blocks load write)) (calls_of calls.now) answers.old answers.new result }
 {
-    let first = opening(k, rule, n, blocks, load, write);
-    let number = first.number;
-    let c = first.cache;
-    if number != 0 {
-        return answer_with(first, 0);
+    let first = Cache::open(k, rule, n, blocks, load, write);
+    if first.answer.is_err() {
+        return first;
     }
     let mut b = [0u8; layout::STATE_BYTES];
-    bytes::encode(c, &mut b);
+    bytes::encode(first.cache, &mut b);
     cache_run::run_calls(&mut b, calls, answers);
     let end = bytes::decode(&b);
     Answered {
-        answer: Answer::Taken,
+        answer: Ok(()),
         cache: end,
     }
 }

@@ -1,11 +1,10 @@
 -- What the exported report, sentence and log promise of the bytes that C lends. Assumes nothing.
 use mathlib.Core.{Bool.{true, false, cond}, Path.◌≡◌, List.List}
 use Rattle.sentence.specs.Sentences.{in_table, sentence_of}
-use Rattle.std.specs.Prelude.{ℕ, ◌+◌, ◌*◌, length}
+use Rattle.std.specs.Prelude.{ℕ, ◌+◌, ◌*◌, length, None}
 use Rattle.decimal.specs.Decimal.{fits, page_of}
 use Rattle.cache_state.specs.Cache.{view}
 use Rattle.layout.specs.Layout.{cache_of, ValidBytes}
-use Rattle.report_lines.specs.declared.Rival.TheVariants.{Absent}
 use Rattle.report.specs.Report.{report_of}
 use Rattle.types.specs.Types.{refusal_number, refusal_line}
 use Rattle.season_log.specs.{declared.LogAnswer.{LogAnswer, TheVariants.{Count, Refused}}, Log.{lent_log, write_answer, written_page}}
@@ -18,7 +17,7 @@ pub record PutLent (t before : List ℕ) (was number : ℕ) (after : List ℕ) (
 
 -- the report of a state alone: "a report 17, 15"
 pub record ReportedLent (b before : List ℕ) (was number : ℕ) (after : List ℕ) (written : ℕ) : Type 0 where
-  pub fine : ValidBytes b → PutLent (report_of (view (cache_of b)) Absent) before was number after written
+  pub fine : ValidBytes b → PutLent (report_of (view (cache_of b)) None) before was number after written
   pub invalid : (ValidBytes b → ⊥) → (number ≡ 17) × (after ≡ before) × (written ≡ was)
 
 -- the sentence of a refusal's numbers: "3 off the tape" if the number is in no row of the table, then 15

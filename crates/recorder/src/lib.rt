@@ -8,8 +8,6 @@ ghost use Rattle.cache_open.specs.Opening.{OpenedLent};
 ghost use Rattle.cache.specs.Contract.{lent, Called};
 ghost use Rattle.recorder.specs.Reports.{ReportedLent, SaidLent, LoggedLent};
 
-use report::Written;
-use report_lines::Rival;
 use season_log::LogAnswer;
 use types::Numbers;
 
@@ -18,7 +16,7 @@ use types::Numbers;
 pub fn recorder_open(state: &mut [u8], k: u32, rule: u32, catalog: &[u8]) -> u32
     ensures { OpenedLent state.old (opening k rule catalog.now) result state.new }
 {
-    cache_open::open(state, k, rule, catalog)
+    cache::number_of(cache_open::open(state, k, rule, catalog))
 }
 
 // Takes one step by its numbers: `kind` is the code of its letter, 82 for R, 87 for W, 76 for L, 65 for A, 81 for Q.
@@ -34,33 +32,33 @@ pub fn recorder_step(
     ensures { Called lent state.old (step_call (numbers_from kind item minutes blocks load write)) result state.new }
 {
     let n = Numbers {
-        kind: kind,
-        item: item,
-        minutes: minutes,
-        blocks: blocks,
-        load: load,
-        write: write,
+        kind,
+        item,
+        minutes,
+        blocks,
+        load,
+        write,
     };
-    cache::step(state, n)
+    cache::number_of(cache::step(state, n))
 }
 
 // Closes the log.
 pub fn recorder_close(state: &mut [u8]) -> u32
     ensures { Called lent state.old close result state.new }
 {
-    cache::close(state)
+    cache::number_of(cache::close(state))
 }
 
 // Writes the report of the state on the page, and how long it is in the length's place.
 pub fn recorder_report(state: &[u8], page: &mut [u8], written: &mut usize) -> u32
     ensures { ReportedLent state.now page.old written.old result page.new written.new }
 {
-    match report::report(state, Rival::Absent, page) {
-        Written::Text(n) => {
-            *written = n;
+    match report::report(state, None, page) {
+        Ok(bytes) => {
+            *written = bytes;
             0
         }
-        Written::Refused(r) => r.number(),
+        Err(refusal) => refusal.number(),
     }
 }
 

@@ -1,6 +1,6 @@
 -- `cache::serve` meets its contract: each need is a law of proofs/Steps.antt. Assumes nothing.
-use Rattle.std.proofs.Common.{arith}
-use Rattle.cache.proofs.Steps.{passed_steps, arrival_values, arrival_ready, arrival_took, retirement_ready, read_asked, write_asked, write_minutes, request_wanted, room_servable, read_took, write_took}
+use Rattle.std.proofs.Common.{◌∙◌, sym, arith}
+use Rattle.cache.proofs.Steps.{passed_steps, arrival_values, arrival_ready, arrival_took, retirement_ready, request_wanted, room_servable, write_minutes, read_took, write_took}
 use Rattle.cache.proofs.serve.Goals as goal
 
 pub flush_step-requires : goal.flush_step-requires
@@ -36,38 +36,28 @@ retire-requires c =
 
 pub make_room-requires : goal.make_room-requires
 make_room-requires c =
-    let b = c.args.b.now in
-    let s = c.args.step in
-    request_wanted b s c.requires _ (read_asked b s c.requires _ c.in-Read.is)
-
-pub serve_read-requires : goal.serve_read-requires
-serve_read-requires c =
-    let b = c.args.b.now in
-    let s = c.args.step in
-    room_servable b s c.requires _ (read_asked b s c.requires _ c.in-Read.is) _ c.make_room.ensures
-
-pub returns-in-Read : goal.returns-in-Read
-returns-in-Read c =
-    let b = c.args.b.now in
-    let s = c.args.step in
-    read_took b s c.requires _ (read_asked b s c.requires _ c.in-Read.is) _ c.make_room.ensures _ c.in-Read.is c.serve_read.ensures
-
-pub make_room-requires-in-Write : goal.make_room-requires-in-Write
-make_room-requires-in-Write c =
-    let b = c.args.b.now in
-    let s = c.args.step in
-    request_wanted b s c.requires _ (write_asked b s c.requires _ _ c.in-Write.is)
+    request_wanted c.args.b.now c.args.step c.requires _ c.in-Read.is
 
 pub serve_write-requires : goal.serve_write-requires
 serve_write-requires c =
     let b = c.args.b.now in
     let s = c.args.step in (
-      room_servable b s c.requires _ (write_asked b s c.requires _ _ c.in-Write.is) _ c.make_room-in-Write.ensures,
-      write_minutes b s c.requires _ _ c.in-Write.is,
+      room_servable b s c.requires _ c.in-Read.is _ c.make_room.ensures,
+      write_minutes b s c.requires _ _ (sym c.in-Read.step-is ∙ c.in-Write.is),
     )
 
 pub returns-in-Write : goal.returns-in-Write
 returns-in-Write c =
     let b = c.args.b.now in
     let s = c.args.step in
-    write_took b s c.requires _ (write_asked b s c.requires _ _ c.in-Write.is) _ c.make_room-in-Write.ensures _ _ c.in-Write.is c.serve_write.ensures
+    write_took b s c.requires _ c.in-Read.is _ c.make_room.ensures _ _ _ (sym c.in-Read.step-is ∙ c.in-Write.is) c.serve_write.ensures
+
+pub serve_read-requires : goal.serve_read-requires
+serve_read-requires c =
+    room_servable c.args.b.now c.args.step c.requires _ c.in-Read.is _ c.make_room.ensures
+
+pub returns-in_default : goal.returns-in_default
+returns-in_default c =
+    let b = c.args.b.now in
+    let s = c.args.step in
+    read_took b s c.requires _ c.in-Read.is _ c.make_room.ensures _ (λ j m e. c.in_default.not-Write j m (c.in-Read.step-is ∙ e)) c.serve_read.ensures

@@ -1,19 +1,16 @@
 -- `cache_value::call` meets its contract: the call in place on the struct's bytes, as the call by value. Assumes nothing.
-use native.Mathlib.Omega.{arith}
-use Rattle.landlord.specs.CallNumbers.{call_from}
-use Rattle.cache_value.proofs.Calls.{many_called, refused_called, taken_called}
+use Rattle.std.proofs.Common.{refl}
+use Rattle.std.specs.Prelude.{Ok, Err}
+use Rattle.cache_value.proofs.Calls.{made_refused, made_taken}
 use Rattle.cache_value.proofs.call.Goals as goal
 
-pub returns-then-c-gt256 : goal.returns-then-c-gt256
-returns-then-c-gt256 c =
-    let a = c.args in many_called a.c (call_from a.which a.n) (omega arith)
+pub returns-in-Ok : goal.returns-in-Ok
+returns-in-Ok g c call makes =
+    made_taken c.args.c c.encode.ensures call c.decode.result
+    (makes c.encode.new.b (Ok tt) c.make.new.arg2 (record { shown = _; shows = refl; left = _; met = c.in-Ok.ensures; leaves = refl }))
+    c.decode.ensures
 
-pub returns-then-refusal-ne0 : goal.returns-then-refusal-ne0
-returns-then-refusal-ne0 c =
-    let a = c.args in
-    refused_called a.c c.encode.ensures (call_from a.which a.n) _ c.call_bytes-refusal.ensures c.if-refusal-ne0.true
-
-pub returns : goal.returns
-returns c =
-    let a = c.args in
-    taken_called a.c c.encode.ensures (call_from a.which a.n) _ c.decode.result c.call_bytes-refusal.ensures c.if-refusal-ne0.false c.decode.ensures
+pub returns-in-Err : goal.returns-in-Err
+returns-in-Err g c call makes =
+    made_refused c.args.c c.encode.ensures call c.in-Err.refusal
+    (makes c.encode.new.b (Err c.in-Err.refusal) c.make.new.arg2 (record { shown = _; shows = refl; left = _; met = c.in-Err.ensures; leaves = refl }))

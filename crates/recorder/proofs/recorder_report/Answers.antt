@@ -1,19 +1,14 @@
 -- `recorder::recorder_report` meets its contract: each arm is the law of proofs/Reported.antt. Assumes nothing.
-use Rattle.report.specs.declared.Written.TheVariants.{Text, Refused}
+use Rattle.std.specs.Prelude.{Ok, Err}
 use Rattle.recorder.proofs.Reported.{lent_report}
 use Rattle.recorder.proofs.recorder_report.Goals as goal
 
-pub report-requires : goal.report-requires
-report-requires c =
-    λ v. tt
-
-pub returns-in-Text : goal.returns-in-Text
-returns-in-Text c =
+pub returns-in-Ok : goal.returns-in-Ok
+returns-in-Ok c =
     let a = c.args in
-    lent_report a.state.now a.page.now _ a.written.now c.report.result (Text c.in-Text.n) c.in-Text.is c.report.ensures
+    lent_report a.state.now a.page.now _ a.written.now (Ok c.in-Ok.bytes) c.in-Ok.ensures
 
-pub returns-in-Refused : goal.returns-in-Refused
-returns-in-Refused c =
+pub returns-in-Err : goal.returns-in-Err
+returns-in-Err c =
     let a = c.args in
-    rw c.number.ensures
-    (lent_report a.state.now a.page.now _ a.written.now c.report.result (Refused c.in-Refused.r) c.in-Refused.is c.report.ensures)
+    rw c.number.ensures (lent_report a.state.now a.page.now _ a.written.now (Err c.in-Err.refusal) c.in-Err.ensures)

@@ -1,11 +1,30 @@
--- `cache_value::Cache::open` meets its contract: the opening, its number as an answer. Assumes nothing.
-use Rattle.cache_value.proofs.Answers.{opening_number_lem, opened_as}
+-- `cache_value::Cache::open` meets its contract: the opening in place, of the catalog in bytes. Assumes nothing.
+use Rattle.std.proofs.Common.{refl, ap, ◌∙◌, rules}
+use Rattle.std.specs.Prelude.{Ok}
+use Rattle.types.specs.Types.{answer_told}
+use Rattle.types.proofs.Refusals.{refused_some}
+use Rattle.cache_value.proofs.Answers.{opened_as}
+use Rattle.cache_value.proofs.Openings.{open_many, open_refused, open_taken}
 use Rattle.cache_value.proofs.Cache.open.Goals as goal
 
-pub answer_with-requires : goal.answer_with-requires
-answer_with-requires c =
-    opening_number_lem c.opening.ensures
+pub returns-then-n-gt256 : goal.returns-then-n-gt256
+returns-then-n-gt256 c =
+    let a = c.args in
+    opened_as _ 3 c.refused_opening.result (open_many a.k a.rule a.n a.blocks a.load a.write c.refused_opening.result.cache c.if-n-gt256.true c.refused_opening.ensures.cache)
+    (ap answer_told c.refused_opening.ensures.answer)
 
-pub returns : goal.returns
-returns c =
-    opened_as _ c.opening.result.number c.opening.result.cache _ c.opening.ensures c.answer_with.ensures.0 c.answer_with.ensures.1
+pub returns-in-Ok : goal.returns-in-Ok
+returns-in-Ok c =
+    let a = c.args in
+    opened_as _ 0 (record { answer = Ok tt; cache = c.decode.result })
+    (open_taken a.k a.rule a.n a.blocks a.load a.write _ c.put_catalog.new.catalog c.if-n-gt256.false (search rules) (search rules) c.put_catalog.ensures c.in-Ok.ensures.opened c.decode.result refl c.decode.ensures)
+    refl
+
+pub returns-in-Err : goal.returns-in-Err
+returns-in-Err c =
+    let a = c.args in
+    let r = c.in-Err.refusal in
+    let d = c.refused_opening-in-Err in
+    opened_as _ _ d.result
+    (open_refused a.k a.rule a.n a.blocks a.load a.write _ c.put_catalog.new.catalog c.if-n-gt256.false (search rules) (search rules) c.put_catalog.ensures c.in-Err.ensures.opened d.result.cache (refused_some r) d.ensures.cache)
+    (ap answer_told d.ensures.answer ∙ c.in-Err.ensures.tells)

@@ -7,39 +7,25 @@ use Rattle.layout.proofs.Rounds.{whole}
 use Rattle.cache_value.proofs.Places.{reads_on, place_more, place_all}
 use Rattle.cache_value.proofs.bytes.decode.Goals as goal
 
-pub loop-i-init : goal.loop-i-init
-loop-i-init c =
-    (omega arith, c.own-c.ensures)
-
-pub overflow_add-i : goal.overflow_add-i
-overflow_add-i c =
-    omega arith
-
-pub loop-i-smaller : goal.loop-i-smaller
-loop-i-smaller c =
-    omega arith
-
 pub loop-i-preserved : goal.loop-i-preserved
 loop-i-preserved c =
     let b = c.args.b.now in
-    let i = c.loop-i.i in (
-      omega arith,
-      reads_on (λ d v. with_place d i v) c.place.ensures
-          (reads_on (λ d v. with_heap_item d i v) c.heap_item.ensures
-          (reads_on (λ d v. with_key d i v) c.key.ensures
-          (reads_on (λ d v. with_held d i v) c.held.ensures
-          (reads_on (λ d v. with_blocks d i v) c.blocks-in-loop-i.ensures
-          (reads_on (λ d v. with_item_write_cost d i v) c.item_write_cost.ensures
-          (reads_on (λ d v. with_item_load_cost d i v) c.item_load_cost.ensures
-          (reads_on (λ d v. with_item_writebacks d i v) c.item_writebacks.ensures
-          (reads_on (λ d v. with_item_loads d i v) c.item_loads.ensures
-          (reads_on (λ d v. with_minutes d i v) c.minutes.ensures
-          (reads_on (λ d v. with_write_credit d i v) c.write_credit.ensures
-          (reads_on (λ d v. with_load_credit d i v) c.load_credit.ensures c.loop-i.invariant.1)))))))))))
-          ∙ place_more (cache_of b) (whole b) i c.loop-i-test.true,
-    )
+    let i = c.loop-i.i in
+    reads_on (λ d v. with_place d i v) c.place.ensures
+    (reads_on (λ d v. with_heap_item d i v) c.heap_item.ensures
+    (reads_on (λ d v. with_key d i v) c.key.ensures
+    (reads_on (λ d v. with_held d i v) c.held.ensures
+    (reads_on (λ d v. with_blocks d i v) c.blocks-in-loop-i.ensures
+    (reads_on (λ d v. with_item_write_cost d i v) c.item_write_cost.ensures
+    (reads_on (λ d v. with_item_load_cost d i v) c.item_load_cost.ensures
+    (reads_on (λ d v. with_item_writebacks d i v) c.item_writebacks.ensures
+    (reads_on (λ d v. with_item_loads d i v) c.item_loads.ensures
+    (reads_on (λ d v. with_minutes d i v) c.minutes.ensures
+    (reads_on (λ d v. with_write_credit d i v) c.write_credit.ensures
+    (reads_on (λ d v. with_load_credit d i v) c.load_credit.ensures c.loop-i.invariant)))))))))))
+    ∙ place_more (cache_of b) (whole b) i c.loop-i-test.true
 
 pub returns : goal.returns
 returns c =
     let b = c.args.b.now in
-    c.loop-i.invariant.1 ∙ place_all (cache_of b) (whole b) c.loop-i.i (omega arith)
+    c.loop-i.invariant ∙ place_all (cache_of b) (whole b) c.loop-i.i (omega arith)
