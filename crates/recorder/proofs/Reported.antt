@@ -1,5 +1,5 @@
 -- Laws of the exported report: a report's answer, told as a number and a length. Assumes nothing.
-use mathlib.Core.Path.{◌≡◌, refl, ap, ◌∙◌}
+use mathlib.Core.Path.{◌≡◌, refl, ap}
 use mathlib.Core.Bool.{Bool, true, false, cond}
 use mathlib.Core.List.{List}
 use Prim.Native.Nat.{ℕ}
@@ -13,11 +13,7 @@ use Rattle.report.specs.Report.{report_of, written_length, Reported}
 use Rattle.types.specs.declared.Refusal.{Refusal}
 use Rattle.types.specs.Types.{Told, answer_number}
 use Rattle.types.proofs.Refusals.{refused_some}
-use Rattle.recorder.specs.Reports.{ReportedLent}
-
-abbrev length_told : Result ℕ Refusal → ℕ → ℕ
-length_told (Ok n) was = n
-length_told (Err r) was = was
+use Rattle.recorder.specs.Reports.{length_told, ReportedLent}
 
 number_is : {t u : Told} → t ≡ u → t.number ≡ u.number
 number_is e = ap (λ (t : Told). t.number) e

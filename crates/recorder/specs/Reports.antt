@@ -1,13 +1,13 @@
 -- What the exported report, sentence and log promise of the bytes that C lends. Assumes nothing.
 use mathlib.Core.{Bool.{true, false, cond}, Path.◌≡◌, List.List}
 use Rattle.sentence.specs.Sentences.{in_table, sentence_of}
-use Rattle.std.specs.Prelude.{ℕ, ◌+◌, ◌*◌, length, None}
+use Rattle.std.specs.Prelude.{ℕ, ◌+◌, ◌*◌, length, None, Result, Ok, Err}
 use Rattle.decimal.specs.Decimal.{fits, page_of}
 use Rattle.cache_state.specs.Cache.{view}
 use Rattle.layout.specs.Layout.{cache_of, ValidBytes}
 use Rattle.report.specs.Report.{report_of}
-use Rattle.types.specs.Types.{refusal_number, refusal_line}
-use Rattle.season_log.specs.{declared.LogAnswer.{LogAnswer, TheVariants.{Count, Refused}}, Log.{lent_log, write_answer, written_page}}
+use Rattle.types.specs.{declared.Refusal.Refusal, Types.{refusal_number, refusal_line}}
+use Rattle.season_log.specs.Log.{lent_log, write_answer, written_page}
 
 -- A text put on the page: 0 and its length in the length's place, or 15 with page and place as before.
 pub record PutLent (t before : List ℕ) (was number : ℕ) (after : List ℕ) (written : ℕ) : Type 0 where
@@ -26,14 +26,14 @@ pub record SaidLent (number line item : ℕ) (before : List ℕ) (was answer : �
   pub none : in_table number ≡ false → (answer ≡ 3) × (after ≡ before) × (written ≡ was)
 
 -- 0, or a refusal's number in the low half of 64 bits and its line in the high half
-abbrev pub both_halves : LogAnswer → ℕ
-both_halves (Count n) = 0
-both_halves (Refused r) = refusal_number r + 4294967296 * refusal_line r
+abbrev pub both_halves : Result ℕ Refusal → ℕ
+both_halves (Ok n) = 0
+both_halves (Err r) = refusal_number r + 4294967296 * refusal_line r
 
 -- the length's place: the bytes that were written, or what it held
-abbrev pub length_told : LogAnswer → ℕ → ℕ
-length_told (Count n) was = n
-length_told (Refused r) was = was
+abbrev pub length_told : Result ℕ Refusal → ℕ → ℕ
+length_told (Ok n) was = n
+length_told (Err r) was = was
 
 -- the log of a list of steps under a heading: "off the tape", then "the short page", with the line, else the text
 pub record LoggedLent (heading : ℕ) (list before : List ℕ) (was answer : ℕ) (after : List ℕ) (written : ℕ) : Type 0 where

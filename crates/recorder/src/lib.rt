@@ -8,7 +8,6 @@ ghost use Rattle.cache_open.specs.Opening.{OpenedLent};
 ghost use Rattle.cache.specs.Contract.{lent, Called};
 ghost use Rattle.recorder.specs.Reports.{ReportedLent, SaidLent, LoggedLent};
 
-use season_log::LogAnswer;
 use types::Numbers;
 
 // Opens the state for a cache of `k` blocks, a rule of deduction, 0 for write-first and 1 for load-first, and the items of the catalog,
@@ -54,8 +53,8 @@ pub fn recorder_report(state: &[u8], page: &mut [u8], written: &mut usize) -> u3
     ensures { ReportedLent state.now page.old written.old result page.new written.new }
 {
     match report::report(state, None, page) {
-        Ok(bytes) => {
-            *written = bytes;
+        Ok(n) => {
+            *written = n;
             0
         }
         Err(refusal) => refusal.number(),
@@ -92,14 +91,10 @@ pub fn recorder_log(heading: u32, list: &[u8], page: &mut [u8], written: &mut us
     ensures { LoggedLent heading list.now page.old written.old result page.new written.new }
 {
     match season_log::write_log(heading, list, page) {
-        LogAnswer::Count(length) => {
+        Ok(length) => {
             *written = length;
             0
         }
-        LogAnswer::Refused(r) => {
-            let number = r.number() as u64;
-            let line = r.line() as u64;
-            number + line * 4294967296
-        }
+        Err(refusal) => u64::from(refusal.number()) + (u64::from(refusal.line()) << 32),
     }
 }

@@ -1,14 +1,15 @@
--- `recorder::recorder_log` meets its contract: each arm is a law of proofs/Logged.antt. Assumes nothing.
-use Rattle.season_log.proofs.Answers.{log_one}
-use Rattle.recorder.proofs.Logged.{lent_text, lent_refusal}
+-- `recorder::recorder_log` meets its contract: each arm is the law of proofs/Logged.antt. Assumes nothing.
+use Rattle.std.proofs.Common.{refl, arith}
+use Rattle.std.specs.Prelude.{Ok, Err}
+use Rattle.recorder.proofs.Logged.{lent_written}
 use Rattle.recorder.proofs.recorder_log.Goals as goal
 
-pub returns-in-Count : goal.returns-in-Count
-returns-in-Count c =
+pub returns-in-Ok : goal.returns-in-Ok
+returns-in-Ok c =
     let a = c.args in
-    lent_text a.heading a.list.now a.page.now _ a.written.now c.write_log.result (log_one c.write_log.ensures) c.write_log.ensures.page c.in-Count.length c.in-Count.is
+    lent_written a.heading a.list.now a.page.now _ a.written.now 0 (Ok c.in-Ok.length) refl c.in-Ok.ensures
 
-pub returns-in-Refused : goal.returns-in-Refused
-returns-in-Refused c =
+pub returns-in-Err : goal.returns-in-Err
+returns-in-Err c =
     let a = c.args in
-    lent_refusal a.heading a.list.now a.page.now _ a.written.now c.write_log.result (log_one c.write_log.ensures) c.write_log.ensures.page c.in-Refused.r c.number-number.result c.line-line.result c.in-Refused.is c.number-number.ensures c.line-line.ensures
+    lent_written a.heading a.list.now a.page.now _ a.written.now _ (Err c.in-Err.refusal) (omega arith) c.in-Err.ensures

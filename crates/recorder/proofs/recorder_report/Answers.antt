@@ -6,7 +6,7 @@ use Rattle.recorder.proofs.recorder_report.Goals as goal
 pub returns-in-Ok : goal.returns-in-Ok
 returns-in-Ok c =
     let a = c.args in
-    lent_report a.state.now a.page.now _ a.written.now (Ok c.in-Ok.bytes) c.in-Ok.ensures
+    lent_report a.state.now a.page.now _ a.written.now (Ok c.in-Ok.n) c.in-Ok.ensures
 
 pub returns-in-Err : goal.returns-in-Err
 returns-in-Err c =
