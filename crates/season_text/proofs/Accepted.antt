@@ -6,10 +6,11 @@ use Prim.Native.Nat.{ℕ, ◌≤◌}
 use lib.ListN.{length}
 use lib.Dec.{leb}
 use borrow.Author.Tests.{leb-true}
+use Rattle.std.specs.Prelude.{Result, Ok, Err}
 use Rattle.types.specs.declared.Refusal.{Refusal}
 use Rattle.types.specs.declared.Refusal.TheVariants.{InputTooLong}
 use Rattle.landlord.specs.Plan.{Priced, costs, fault}
-use Rattle.season_tables.specs.Tables.{Tables, OrRefusal, gives, stops, reading_of}
+use Rattle.season_tables.specs.Tables.{Tables, reading_of}
 use Rattle.season_tables.proofs.Sound.{accepted_sound}
 use Rattle.season_plan.specs.Plans.{price_of}
 use Rattle.printed.specs.Printed.{Outcome, refused, prints}
@@ -39,7 +40,7 @@ report_accepted s t e =
     let fits = short (leb (length s) 65536) (reading_outcome (reading_of s)) t e in
     read (reading_of s) refl (leb-true (length s) 65536 fits.0) fits.1
   where
-    price : (v : Tables) → reading_of s ≡ gives v → length s ≤ 65536 → (p : Priced) → price_of v ≡ p → priced v p ≡ prints t → Accepted s t
+    price : (v : Tables) → reading_of s ≡ Ok v → length s ≤ 65536 → (p : Priced) → price_of v ≡ p → priced v p ≡ prints t → Accepted s t
     price v is few (costs c) same h =
         let ok = accepted_sound s v few is in
         record {
@@ -53,6 +54,6 @@ report_accepted s t e =
         }
     price v is few (fault f) same h = absurd (not_refused _ t h)
 
-    read : (led : OrRefusal Tables) → reading_of s ≡ led → length s ≤ 65536 → reading_outcome led ≡ prints t → Accepted s t
-    read (gives v) is few h = price v is few (price_of v) refl h
-    read (stops r) is few h = absurd (not_refused r t h)
+    read : (led : Result Tables Refusal) → reading_of s ≡ led → length s ≤ 65536 → reading_outcome led ≡ prints t → Accepted s t
+    read (Ok v) is few h = price v is few (price_of v) refl h
+    read (Err r) is few h = absurd (not_refused r t h)

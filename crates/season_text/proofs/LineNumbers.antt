@@ -6,12 +6,13 @@ use Prim.Native.Nat.{ℕ, ◌+◌, ◌≤◌}
 use native.Mathlib.Omega.{arith}
 use lib.ListN.{length}
 use lib.Dec.{leb}
+use Rattle.std.specs.Prelude.{Result, Ok, Err}
 use Rattle.types.specs.declared.Refusal.{Refusal}
 use Rattle.types.specs.declared.Refusal.TheVariants.{InputTooLong}
 use Rattle.types.specs.Types.{Told, refusal_line}
 use Rattle.landlord.proofs.Faults.{fault_tells}
 use Rattle.landlord.specs.Plan.{Priced, costs, fault}
-use Rattle.season_tables.specs.Tables.{Tables, OrRefusal, gives, stops, reading_of}
+use Rattle.season_tables.specs.Tables.{Tables, reading_of}
 use Rattle.season_tables.proofs.LineNumbers.{stop_line}
 use Rattle.season_plan.specs.Plans.{fault_line, price_of}
 use Rattle.season_plan.proofs.FaultLines.{fault_line_lem}
@@ -24,13 +25,13 @@ lines_few : (s : List ℕ) → outcome_line (outcome_of s) ≤ length s + 1
 unfolding outcome_of
 lines_few s = whole (leb (length s) 65536) (reading_outcome (reading_of s)) (reading (reading_of s) refl)
   where
-    price : (v : Tables) → reading_of s ≡ gives v → (p : Priced) → price_of v ≡ p → outcome_line (priced v p) ≤ length s + 1
+    price : (v : Tables) → reading_of s ≡ Ok v → (p : Priced) → price_of v ≡ p → outcome_line (priced v p) ≤ length s + 1
     price v is (costs c) same = omega arith
     price v is (fault f) same = subst (λ (n : ℕ). n ≤ length s + 1) (ap (λ (t : Told). t.line) (sym (fault_tells f (fault_line v f)))) (fault_line_lem s v f is same)
 
-    reading : (led : OrRefusal Tables) → reading_of s ≡ led → outcome_line (reading_outcome led) ≤ length s + 1
-    reading (gives v) is = price v is (price_of v) refl
-    reading (stops r) is = stop_line s r is
+    reading : (led : Result Tables Refusal) → reading_of s ≡ led → outcome_line (reading_outcome led) ≤ length s + 1
+    reading (Ok v) is = price v is (price_of v) refl
+    reading (Err r) is = stop_line s r is
 
     whole : (b : Bool) (o : Outcome) → outcome_line o ≤ length s + 1 → outcome_line (cond b o (refused (InputTooLong 0))) ≤ length s + 1
     whole true o h = h

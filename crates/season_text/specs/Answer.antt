@@ -1,15 +1,14 @@
 -- What the office answers to a text: a refusal, or the report of the closed season against the text's plan; and what is claimed of every
 -- accepted text. Paper 01, 'The text input', 'When the library says no' and 'The season as one list'. Assumes nothing.
 use mathlib.Core.{Path.◌≡◌, Bool.cond, List.{List, ◌++◌, [], ◌∷◌, map}}
-use Rattle.std.specs.Prelude.{ℕ, ◌≤◌, ◌<◌}
+use Rattle.std.specs.Prelude.{ℕ, ◌≤◌, ◌<◌, Some, Result, Ok, Err}
 use lib.{ListN.{length, get_or, take}, Dec.leb}
-use Rattle.types.specs.declared.Refusal.TheVariants.{InputTooLong}
+use Rattle.types.specs.declared.Refusal.{Refusal, TheVariants.{InputTooLong}}
 use Rattle.types.specs.Types.{deduction_number}
 use Rattle.landlord.specs.{Slot.split_of, Figures.{Standing, start, season, total_cost, left_side, right_side}, Plan.{fault_refusal, Priced, costs, fault}, Calls.{Opening, opening, Call, close, call_of, opening_refusal, refusal}}
-use Rattle.report_lines.specs.declared.Rival.TheVariants.{Against}
 use Rattle.report.specs.Report.{report_of}
 use Rattle.printed.specs.Printed.{Outcome, refused, prints}
-use Rattle.season_tables.specs.Tables.{Tables, OrRefusal, gives, stops, reading_of}
+use Rattle.season_tables.specs.Tables.{Tables, reading_of}
 use Rattle.season_plan.specs.Plans.{fault_line, price_of}
 use Rattle.catalog_bytes.specs.Catalogs.{catalog_in}
 use Rattle.cache.specs.Contract.{lent}
@@ -21,7 +20,7 @@ closed_season v = season (start (split_of v.rule) v.k v.catalog) v.steps
 
 -- the report of an accepted text whose plan costs so much
 abbrev pub report_against : Tables → ℕ → List ℕ
-report_against v cost = report_of (closed_season v) (Against v.h cost)
+report_against v cost = report_of (closed_season v) (Some (record { blocks = v.h; cost = cost }))
 
 -- "Once all lines pass, the plan runs; its first fault decides"
 abbrev pub priced : Tables → Priced → Outcome
@@ -29,9 +28,9 @@ priced v (costs c) = prints (report_against v c)
 priced v (fault f) = refused (fault_refusal f (fault_line v f))
 
 -- a text whose lines all pass, or that stops at a faulty one
-abbrev pub reading_outcome : OrRefusal Tables → Outcome
-reading_outcome (gives v) = priced v (price_of v)
-reading_outcome (stops r) = refused r
+abbrev pub reading_outcome : Result Tables Refusal → Outcome
+reading_outcome (Ok v) = priced v (price_of v)
+reading_outcome (Err r) = refused r
 
 -- "Text: 16 first. Then the first faulty line decides"
 unfoldable pub outcome_of : List ℕ → Outcome
@@ -67,7 +66,7 @@ pub record Compared (v : Tables) (cost : ℕ) : Type 0 where
 pub record Accepted (s t : List ℕ) : Type 0 where
   pub text : Tables
   pub cost : ℕ
-  pub reads : reading_of s ≡ gives text
+  pub reads : reading_of s ≡ Ok text
   pub price : price_of text ≡ costs cost
   pub report : t ≡ report_against text cost
   pub calls : AllAccepted text

@@ -1,11 +1,12 @@
 -- What the inner functions ask and give. Assumes nothing.
 use mathlib.Core.{Path.◌≡◌, List.List}
-use Rattle.std.specs.Prelude.{ℕ, ◌≤◌, length}
+use Rattle.std.specs.Prelude.{ℕ, ◌≤◌, length, Result}
+use Rattle.types.specs.declared.Refusal.{Refusal}
 use Rattle.cache_state.specs.Cache.{view}
 use Rattle.types.specs.Types.{refusal_line}
 use Rattle.landlord.specs.Figures.{Standing}
 use Rattle.layout.specs.Layout.{state_bytes, cache_of, ValidBytes}
-use Rattle.report.specs.{declared.Written.Written, Report.{Put, longest}}
+use Rattle.report.specs.Report.{Put, longest}
 use Rattle.season_tables.specs.{declared.Seen.Seen, Tables.Tables, Inner.{Holds, Roomy, FewRead}, InnerSound.Sound}
 use Rattle.printed.specs.Printed.{Outcome, refused, prints}
 use Rattle.season_text.specs.Answer.{closed_season, report_against}
@@ -44,7 +45,7 @@ pub record Reportable (x : Seen) (xs calls : List ℕ) (cost : ℕ) : Type 0 whe
   pub small : cost ≤ 1000000000000
 
 -- and this is its report, on the page
-abbrev pub Reports : Seen → List ℕ → List ℕ → ℕ → List ℕ → Written → List ℕ → Type 0
+abbrev pub Reports : Seen → List ℕ → List ℕ → ℕ → List ℕ → Result ℕ Refusal → List ℕ → Type 0
 Reports x xs calls cost before r after =
     (acts : List ℕ) (v : Tables) →
     Holds x xs calls acts v →

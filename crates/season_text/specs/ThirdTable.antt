@@ -1,11 +1,11 @@
 -- The third table of an input, taken alone: the log's reader finds in it its heading and the steps that the reader of four tables found.
 -- Paper 02, 'Two' and 'Six'. Assumes nothing.
 use mathlib.Core.{Path.◌≡◌, Bool.cond, List.{List, [], ◌∷◌, ◌++◌}}
-use Rattle.std.specs.Prelude.{ℕ, ◌≤◌}
+use Rattle.std.specs.Prelude.{ℕ, ◌≤◌, Option, Some, None, Ok}
 use lib.{ListN.length, Dec.eqb}
 use Rattle.line_fields.specs.Fields.{split}
-use Rattle.season_lines.specs.{declared.Names.{Names, TheVariants.{Known, Unknown}}, Lines.heading_of}
-use Rattle.season_tables.specs.Tables.{Tables, gives, reading_of}
+use Rattle.season_lines.specs.Lines.{heading_of}
+use Rattle.season_tables.specs.Tables.{Tables, reading_of}
 use Rattle.season_log.specs.Log.{steps, read_log}
 
 -- a table: the lines up to the first blank one, each with its line feed
@@ -23,9 +23,9 @@ abbrev pub third_table : List ℕ → List ℕ
 third_table s = table_text (behind_blank (behind_blank (split 10 s)))
 
 -- the number of a heading; a line that is none has 0
-abbrev pub heading_number : Names → ℕ
-heading_number (Known f) = f
-heading_number Unknown = 0
+abbrev pub heading_number : Option ℕ → ℕ
+heading_number (Some f) = f
+heading_number None = 0
 
 -- which heading of the log stands on the first line
 abbrev pub first_heading : List (List ℕ) → ℕ
@@ -41,5 +41,5 @@ abbrev pub TwoReaders : Type 0
 TwoReaders =
     (s : List ℕ) (v : Tables) →
     length s ≤ 65536 →
-    reading_of s ≡ gives v →
+    reading_of s ≡ Ok v →
     read_log (third_table s) ≡ steps (heading_in (third_table s)) v.steps

@@ -8,77 +8,68 @@ ghost use Rattle.printed.specs.Inner.{OutcomeFits};
 ghost use Rattle.season_text.specs.Answer.{outcome_of};
 ghost use Rattle.season_text.specs.Inner.{Closable, Closes, Reportable, Reports};
 
-use report::Written;
 use report_lines::Rival;
 use season_items::CALL_NUMBERS;
-use season_plan::Price;
-use season_tables::{Seen, Verdict};
+use season_tables::Seen;
 use types::Refusal;
 
 // Runs the steps of an accepted text and the closing, as calls on a new state. The opening takes the items of the text's catalogue; behind
 // them in `catalog` stand those that arrive.
-fn close_season(seen: Seen, catalog: &[u8], calls: &mut [u32], state: &mut [u8])
-    requires { Closable seen catalog.now calls.old state.old }
-    ensures { Closes seen catalog.now calls.old state.new }
+fn close_season(seen: &Seen, catalog: &[u8], calls: &mut [u32], state: &mut [u8])
+    requires { Closable seen.now catalog.now calls.old state.old }
+    ensures { Closes seen.now catalog.now calls.old state.new }
 {
-    let steps = seen.steps;
-    let end = CALL_NUMBERS * steps;
+    let end = CALL_NUMBERS * seen.steps;
     // The closing stands behind the steps, as a call's seven numbers of which the first is not 0.
     calls[end] = 1;
     // Every call is accepted, so no answer is kept.
-    let mut answers = [0u32; 1];
-    let rule = seen.rule;
-    cache_run::run(
+    let _ = cache_run::run(
         state,
         seen.k,
-        rule.number(),
+        seen.rule.number(),
         &catalog[..catalog_bytes::ITEM_BYTES * seen.n],
         &calls[..end + CALL_NUMBERS],
-        &mut answers,
+        &mut [],
     );
 }
 
 // The report of an accepted text whose plan costs so much.
 fn report_season(
-    seen: Seen,
+    seen: &Seen,
     catalog: &[u8],
     cost: u64,
     calls: &mut [u32],
     page: &mut [u8],
-) -> Written
-    requires { Reportable seen catalog.now calls.old cost }
-    ensures { Reports seen catalog.now calls.old cost page.old result page.new }
+) -> Result<usize, Refusal>
+    requires { Reportable seen.now catalog.now calls.old cost }
+    ensures { Reports seen.now catalog.now calls.old cost page.old result page.new }
 {
-    let mut state = [0u8; layout::STATE_BYTES];
+    let mut state = [0; layout::STATE_BYTES];
     close_season(seen, catalog, calls, &mut state);
-    let rival = Rival::Against {
+    let rival = Rival {
         blocks: seen.h,
-        cost: cost,
+        cost,
     };
-    report::report(&state, rival, page)
+    report::report(&state, Some(rival), page)
 }
 
-// The answer to a text: refused, with every byte of the page as before; or accepted, with its report at the start of the page.
-pub fn answer(text: &[u8], page: &mut [u8]) -> Written
+// The answer to a text: refused, with every byte of the page as before; or accepted, with its report at the start of the page, and how
+// long that is.
+#[tactic(auto, using(crate::proofs::Answers::too_long, crate::proofs::Answers::line_refused))]
+pub fn answer(text: &[u8], page: &mut [u8]) -> Result<usize, Refusal>
     ensures yields { Yields (outcome_of text.now) page.old result page.new }
     ensures outcome_fits { OutcomeFits longest (outcome_of text.now) }
 {
     if 65536 < text.len() {
-        return Written::Refused(Refusal::InputTooLong { line: 0 });
+        return Err(Refusal::InputTooLong { line: 0 });
     }
-    let mut catalog = [0u8; catalog_bytes::MOST_BYTES];
-    let mut calls = [0u32; season_items::CALL_ROOM];
-    let mut acts = [0u32; season_items::ACT_ROOM];
-    let scanned = season_scan::scan(text, 3, &mut catalog, &mut calls, &mut acts);
-    let verdict = scanned.verdict;
-    let seen = scanned.seen;
-    match verdict {
-        Verdict::Refused(r) => Written::Refused(r),
-        Verdict::Taken => match season_plan::price_plan(seen, &catalog, &calls, &acts) {
-            Price::Refused(r) => Written::Refused(r),
-            Price::Cost(cost) => report_season(seen, &catalog, cost, &mut calls, page),
-        },
-    }
+    let mut seen = season_tables::nothing_read();
+    let mut catalog = [0; catalog_bytes::MOST_BYTES];
+    let mut calls = [0; season_items::CALL_ROOM];
+    let mut acts = [0; season_items::ACT_ROOM];
+    season_scan::scan(text, 3, &mut seen, &mut catalog, &mut calls, &mut acts)?;
+    let cost = season_plan::price_plan(&seen, &catalog, &calls, &acts)?;
+    report_season(&seen, &catalog, cost, &mut calls, page)
 }
 
 // What is printed for a text, at the start of the page: its report, or the refusal's two numbers and sentence. Answers how
