@@ -1,6 +1,6 @@
 -- How many bytes the parts of a step's line have. Assumes nothing.
 use mathlib.Core.Path.{◌≡◌, refl, sym, ap, ◌∙◌}
-use mathlib.Core.Bool.{true, cond}
+use mathlib.Core.Bool.{Bool, true, false, cond, false≢true}
 use mathlib.Core.List.{List, [], ◌++◌, append-nil}
 use mathlib.Core.Logic.{◌≢◌}
 use Prim.Native.Nat.{ℕ, zero, suc, ◌+◌, ◌-◌, ◌≤◌}
@@ -15,7 +15,7 @@ use Rattle.decimal.proofs.Pages.{TextGoing, go_as, go_next, go_end}
 use Rattle.types.specs.declared.Numbers.{Numbers}
 use Rattle.types.specs.declared.Step.TheVariants.{Flush, Write}
 use Rattle.types.specs.Types.{step_of}
-use Rattle.landlord.specs.Steps.{in_range}
+use Rattle.landlord.specs.Steps.{in_range, range_refusal}
 use Rattle.landlord.proofs.Steps.{free_range}
 use Rattle.season_log.proofs.Lines.{kind_kept, under_same}
 use Rattle.season_lines.specs.Lines.{headings, numbers_under, range_under}
@@ -25,6 +25,16 @@ use Rattle.season_log.specs.Inner.{names_text, named_text, arrival_text, range_a
 -- numbers in range under a heading are so as they are
 pub range_kept : (heading : ℕ) (n : Numbers) → in_range (numbers_under heading n) ≡ true → in_range n ≡ true
 range_kept heading n r = grind arith
+
+-- and what is out of range as it is, is so under a heading, and told by the same number
+pub range_stays : (heading : ℕ) (n : Numbers) → range_refusal n ≢ 0 → range_refusal n ≡ range_under heading n
+unfolding range_refusal
+range_stays heading n some = go (in_range n) (in_range (numbers_under heading n)) refl refl
+  where
+    go : (t u : Bool) → in_range n ≡ t → in_range (numbers_under heading n) ≡ u → ◌≡◌ {A = ℕ} (cond (in_range n) 0 3) (cond (in_range (numbers_under heading n)) 0 3)
+    go true u e d = absurd (some (rw e))
+    go false true e d = absurd (false≢true (sym e ∙ range_kept heading n d))
+    go false false e d = rw (e, d)
 
 pub joined_length : (s t : List ℕ) → length (s ++ t) ≡ length s + length t
 joined_length s t = length-append s t
