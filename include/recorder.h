@@ -25,10 +25,10 @@
  *     nothing wider (memset uses what yours does). SSE has to be switched on (CR4.OSFXSR). What comes in the middle of
  *     a call must leave these registers as they were: a task switch saves and restores them, and so does an interrupt handler,
  *     unless it is compiled without them (-mgeneral-regs-only) and calls nothing that uses them, as the recorder does.
- *   - recorder_report, recorder_sentence and recorder_log use the red zone: up to 128 bytes below the stack pointer. A handler on
+ *   - recorder_sentence and recorder_log use the red zone: up to 128 bytes below the stack pointer. A handler on
  *     the same stack must begin below them. Where the processor takes an interrupt without a change of stack (in ring 0, with no
  *     IST entry), it writes its own frame into them before the handler runs. There, give the interrupts stacks of their own, or
- *     make these three calls in ring 3, or where no interrupt can come.
+ *     make these two calls in ring 3, or where no interrupt can come.
  *   - The stack pointer has to be a multiple of 16 at the call, as the convention says: recorder_step, recorder_close and
  *     recorder_report fault otherwise. A C compiler sees to it; a handler in assembly that calls the
  *     recorder, or C, has to do so itself.
@@ -58,22 +58,22 @@
  * them), by the count of items in the catalog:
  *
  *                                                      3        30       256
- *     recorder_open                                  150       550     4,400
- *     recorder_step, refused                       2,900     5,200    24,200
- *     recorder_step, refused, all have left        2,900     4,500    18,400
- *     recorder_step, hit                           3,100     5,300    24,300
- *     recorder_step, arrival                       2,900     5,100    24,300
- *     recorder_step, retirement                    3,100     5,300    24,500
- *     recorder_step, miss, one eviction            3,100     5,000    19,700
- *     recorder_step, miss, 16 evictions                               31,500
- *     recorder_step, flush, all dirty              3,500    10,900    73,700
- *     recorder_step, flush, at most                                   96,400
- *     recorder_close, all dirty                    3,500    10,900    73,600
- *     recorder_report, long figures                7,200    27,300   188,200
- *     recorder_is_valid, long figures              4,000    10,700    64,900
- *     recorder_sentence, at most                     700
- *     recorder_log, a step of any kind               150
- *     recorder_log, a step, at most                  510
+ *     recorder_open                                  140       550     4,400
+ *     recorder_step, refused                       2,900     5,200    24,700
+ *     recorder_step, refused, all have left        2,800     4,400    16,800
+ *     recorder_step, hit                           3,100     5,400    24,900
+ *     recorder_step, arrival                       2,900     5,200    24,800
+ *     recorder_step, retirement                    3,100     5,300    25,000
+ *     recorder_step, miss, one eviction            3,100     4,900    19,100
+ *     recorder_step, miss, 16 evictions                               31,700
+ *     recorder_step, flush, all dirty              3,500    10,700    72,500
+ *     recorder_step, flush, at most                                   95,100
+ *     recorder_close, all dirty                    3,500    10,700    72,400
+ *     recorder_report, long figures                5,600    19,500   132,800
+ *     recorder_is_valid, long figures              3,300     6,900    38,200
+ *     recorder_sentence, at most                     450
+ *     recorder_log, a step of any kind               130
+ *     recorder_log, a step, at most                  370
  *
  * What memset takes for the RECORDER_STATE_BYTES bytes of an opening comes on top.
  *

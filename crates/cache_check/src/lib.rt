@@ -17,6 +17,8 @@ ghost use Rattle.cache_check.specs.Inner.{Zeros, ThreeAt, ZerosThree, BlankMarks
 use validity::{Entry, Sums, Totals};
 
 // Whether every byte from one place to another is 0.
+// A call of its own: what calls takes its room below the stack pointer at once, and no red zone (include/recorder.h, INTERRUPTS).
+#[inline(never)]
 fn zeros(b: &[u8], from: usize, to: usize) -> bool
     requires { (from ≤ to) × (to ≤ length b.now) }
     ensures { Decided (Zeros b.now from to) result }

@@ -2,14 +2,16 @@
 -- every word of the table is a test that is computed over its numbers, and one law for all such tests (`in_rows`). Assumes nothing.
 use mathlib.Core.Path.{◌≡◌, refl, sym, ap, ◌∙◌}
 use mathlib.Core.Bool.{Bool, true, false, cond, not, ◌&&◌, ◌||◌, and-eq-true_iff, false≢true}
-use mathlib.Core.List.{List, [], ◌∷◌, ◌++◌}
+use mathlib.Core.List.{List, [], ◌∷◌, ◌++◌, append_assoc, append-nil}
 use mathlib.Core.Logic.{⊎_elim}
-use Prim.Native.Nat.{ℕ, zero, suc, ◌+◌, ◌≤◌, ◌<◌}
+use Prim.Native.Nat.{ℕ, zero, suc, ◌+◌, ◌-◌, ◌≤◌, ◌<◌}
 use Prim.Native.String.{String}
+use native.Mathlib.Numerals.{add-one}
 use native.Mathlib.Omega.{arith}
 use borrow.Author.Tests.{leb-true, eqb-true, le-leb, eq-eqb, ne_eqb, not-true}
 use lib.Dec.{leb, ltb, eqb}
 use lib.ListN.{length, get_or, take, drop, length-append, take-append-drop, get_or-eq_default}
+use lib.Seq.{take_at, drop_at, take_all}
 use Rattle.std.specs.List.{position_or_len}
 use Rattle.std.proofs.lemmas.Bool.{cases_lt}
 use Rattle.std.proofs.lemmas.Bool.Decides.{nat_tests}
@@ -22,7 +24,7 @@ use Rattle.decimal.proofs.Pages.{TextGoing, go_first}
 use Rattle.types.specs.Types.{names_item}
 use Rattle.basis.proofs.Tables.{every, every_at}
 use Rattle.sentence.specs.Sentences.{words, word_of, in_table, line_part, item_part, sentence_of, longest_sentence}
-use Rattle.sentence.specs.InnerSentences.{is_stop, piece_of, place_of}
+use Rattle.sentence.specs.InnerSentences.{in_one_text, start_of, WordAt, is_stop, piece_of, place_of}
 use Rattle.std.proofs.lemmas.Grind.{common_steps}
 
 -- ## Tests
@@ -49,23 +51,6 @@ row_below n t = ⊎_elim (λ l. l) (λ l. absurd (false≢true (sym (no_row n l)
 in_rows : (f : ℕ → Bool) → every f 28 ≡ true → ((n : ℕ) → 28 ≤ n → f n ≡ true) → (n : ℕ) → f n ≡ true
 in_rows f t past n = ⊎_elim (every_at f 28 t n) (past n) (cases_lt n 28)
 
--- the letters of each word of the table, and that there are none past it
-abbrev pub Spelled : List String → ℕ → Type 0
-Spelled [] n = (m : ℕ) → n ≤ m → word_of m ≡ []
-Spelled (w ∷ rest) n = (word_of n ≡ text_of w) × Spelled rest (suc n)
-
-spelled_from : (n : ℕ) (rest : List String) → drop n words ≡ rest → n + length rest ≡ 28 → Spelled rest n
-unfolding word_of
-spelled_from n [] e h = λ m l. word_none m (omega (arith, h))
-spelled_from n (w ∷ rest) e h =
-    let split : drop n words ≡ get_or words n "" ∷ drop (suc n) words = drop-cons words n "" (omega (arith, h)) in
-    let first : get_or words n "" ≡ w = cc in
-    let later : drop (suc n) words ≡ rest = cc in
-    (ap text_of first, spelled_from (suc n) rest later (omega (arith, h)))
-
-pub spelled : Spelled words 0
-spelled = spelled_from 0 words refl refl
-
 -- a word has no comma and no full stop
 unfoldable pub plain : List ℕ → Bool
 plain [] = true
@@ -90,6 +75,48 @@ word_size n =
     (in_rows (λ m. leb (length (word_of m)) (cond (names_item m) 11 28)) refl
     (λ m h. rw (word_none m h) (le-leb 0 (cond (names_item m) 11 28) (omega arith)))
     n)
+
+-- ## The words as one text
+
+-- past the last of them there is nothing more
+pub start_past : (n : ℕ) → 28 ≤ n → 224 ≡ start_of n
+unfolding start_of in_one_text
+start_past n h = rw (take_all n words h)
+
+-- the words before a word, the word, and those behind it
+parted : (table : List String) (n : ℕ) → in_one_text table ≡ in_one_text (take n table) ++ (text_of (get_or table n "") ++ in_one_text (drop (suc n) table))
+unfolding in_one_text
+parted [] zero = refl
+parted [] (suc n) = refl
+parted (w ∷ rest) zero = refl
+parted (w ∷ rest) (suc n) = ap (λ (l : List ℕ). text_of w ++ l) (parted rest n) ∙ sym (append_assoc (text_of w) (in_one_text (take n rest)) _)
+
+parted_next : (table : List String) (n : ℕ) → in_one_text (take (suc n) table) ≡ in_one_text (take n table) ++ text_of (get_or table n "")
+unfolding in_one_text
+parted_next [] zero = refl
+parted_next [] (suc n) = refl
+parted_next (w ∷ rest) zero = append-nil (text_of w)
+parted_next (w ∷ rest) (suc n) = ap (λ (l : List ℕ). text_of w ++ l) (parted_next rest n) ∙ sym (append_assoc (text_of w) (in_one_text (take n rest)) _)
+
+-- a word stands from its own start to the next one's
+pub word_at : (n a e : ℕ) → a ≡ start_of n → e ≡ start_of (n + 1) → WordAt n a e
+unfolding start_of in_one_text word_of
+word_at n a e p q =
+    let front = in_one_text (take n words) in
+    let back = in_one_text (drop (suc n) words) in
+    let all : in_one_text words ≡ front ++ (word_of n ++ back) = parted words n in
+    let next : e ≡ length front + length (word_of n) =
+    (rw add-one at q) ∙ ap length (parted_next words n) ∙ length-append front (word_of n) in
+    let whole : 224 ≡ length front + (length (word_of n) + length back) =
+    ap length all ∙ length-append front (word_of n ++ back) ∙ ap (λ (k : ℕ). length front + k) (length-append (word_of n) back) in
+    let size : e - a ≡ length (word_of n) = omega arith in
+    let here : drop a (in_one_text words) ≡ word_of n ++ back = ap (drop a) all ∙ drop_at front (word_of n ++ back) a (sym p) in
+    record {
+      grows = omega arith;
+      within = omega arith;
+      size = size;
+      text = ap (take (e - a)) here ∙ take_at (word_of n) back (e - a) (sym size);
+    }
 
 -- ## The parts of a sentence, and their lengths
 

@@ -1,14 +1,30 @@
 -- What the inner functions of `sentence` ask and give: a text put on a page, and a text taken apart from its front. Assumes nothing.
-use mathlib.Core.{Path.◌≡◌, Bool.{Bool, cond, ◌||◌}, List.{List, [], ◌∷◌}}
-use Prim.Native.{Nat.{ℕ, suc, ◌+◌}, String.String}
+use mathlib.Core.{Path.◌≡◌, Bool.{Bool, cond, ◌||◌}, List.{List, [], ◌∷◌, ◌++◌}}
+use Prim.Native.{Nat.{ℕ, suc, ◌+◌, ◌-◌, ◌≤◌}, String.String}
 use lib.{Dec.eqb, ListN.{length, take, drop}}
 use Rattle.std.specs.Prelude.{Option, Some, None, Result, Ok, Err}
 use Rattle.decimal.specs.{declared.NumberError.NumberError, Decimal.{text_of, same_text}, InnerReads.read_of, InnerPages.text_over}
 use Rattle.types.specs.Types.{names_item}
 use Rattle.sentence.specs.declared.{Part.Part, Sentence.Sentence}
-use Rattle.sentence.specs.Sentences.{words, in_table}
+use Rattle.sentence.specs.Sentences.{words, word_of, in_table}
 
 -- ## Writing
+
+-- the letters of words, one word behind the other
+unfoldable pub in_one_text : List String → List ℕ
+in_one_text [] = []
+in_one_text (word ∷ rest) = text_of word ++ in_one_text rest
+
+-- where the word of a number begins among them all
+unfoldable pub start_of : ℕ → ℕ
+start_of number = length (in_one_text (take number words))
+
+-- among them the word of a number stands from a to e
+pub record WordAt (number a e : ℕ) : Type 0 where
+  pub grows : a ≤ e
+  pub within : e ≤ 224
+  pub size : e - a ≡ length (word_of number)
+  pub text : take (e - a) (drop a (in_one_text words)) ≡ word_of number
 
 -- a text put at the start of a page, in so many bytes
 pub record OnPage (t before : List ℕ) (bytes : ℕ) (page : List ℕ) : Type 0 where

@@ -6,7 +6,43 @@ ghost use Rattle.std.specs.Prelude.{◌≡◌, ◌≤◌, ◌<◌, length, SomeI
 ghost use Rattle.decimal.specs.Decimal.{text_of, wrote_of, page_of};
 ghost use Rattle.types.specs.Types.{names_item};
 ghost use Rattle.sentence.specs.Sentences.{words, word_of, in_table, line_part, item_part, sentence_of, SaysThat};
-ghost use Rattle.sentence.specs.InnerSentences.{OnPage, piece_of, place_of, part_of, end_of, rest_of, behind_word};
+ghost use Rattle.sentence.specs.InnerSentences.{start_of, WordAt, OnPage, piece_of, place_of, part_of, end_of, rest_of, behind_word};
+
+// The words of the refusals, one behind the other in the order of their numbers. 0 and 23 have none. Kept by hand: a table of texts holds
+// their addresses, and in an archive for C that is data which may be written.
+const LETTERS: [u8; 224] = *b"\
+    torn\
+    heading\
+    off the tape\
+    miscounted\
+    outsized rival\
+    stranger\
+    too bulky\
+    log full\
+    closed\
+    out of turn\
+    not aboard\
+    aboard\
+    overstowed\
+    missing\
+    short page\
+    long roll\
+    foul locker\
+    odd rule\
+    misnumbered\
+    gone\
+    idle\
+    unpaired\
+    given up\
+    many sails\
+    long passage\
+    no plan";
+
+// Where the word of each number begins among them.
+const STARTS: [usize; 28] = [
+    0, 0, 4, 11, 23, 33, 47, 55, 64, 72, 78, 89, 99, 105, 115, 122, 132, 141, 152, 160, 171, 175,
+    179, 187, 187, 195, 205, 217,
+];
 
 // The largest line and the largest item that 32 bits hold: a text that tells more is the sentence of no refusal.
 const LIMIT: u64 = u32::MAX as u64;
@@ -17,6 +53,13 @@ pub struct Sentence {
     pub number: u32,
     pub line: u32,
     pub item: u32,
+}
+
+// Where a word begins among the letters, and where it ends.
+#[derive(Clone, Copy)]
+struct Ends {
+    from: usize,
+    to: usize,
 }
 
 // A number behind its label at the front of a text, and how many bytes both have.
@@ -33,40 +76,30 @@ fn names_item(number: u32) -> bool
     matches!(number, 6 | 7 | 11 | 12 | 14 | 19 | 20)
 }
 
+// Where the word of a number begins. That of a number past the table is empty, and stands at the end.
+fn start_of(number: usize) -> usize
+    ensures { result ≡ start_of number }
+{
+    if number < 28 { STARTS[number] } else { 224 }
+}
+
+// The two ends of the word of a number.
+fn word_at(number: u32) -> Ends
+    ensures { WordAt number result.from result.to }
+{
+    let n = number as usize;
+    Ends {
+        from: start_of(n),
+        to: start_of(n + 1),
+    }
+}
+
 // The word of a number. 0, 23 and the numbers past the table have none.
-#[tactic(auto, using(crate::proofs::Laws::spelled))]
 fn word(number: u32) -> &'static [u8]
     ensures { result.now ≡ word_of number }
 {
-    match number {
-        1 => b"torn",
-        2 => b"heading",
-        3 => b"off the tape",
-        4 => b"miscounted",
-        5 => b"outsized rival",
-        6 => b"stranger",
-        7 => b"too bulky",
-        8 => b"log full",
-        9 => b"closed",
-        10 => b"out of turn",
-        11 => b"not aboard",
-        12 => b"aboard",
-        13 => b"overstowed",
-        14 => b"missing",
-        15 => b"short page",
-        16 => b"long roll",
-        17 => b"foul locker",
-        18 => b"odd rule",
-        19 => b"misnumbered",
-        20 => b"gone",
-        21 => b"idle",
-        22 => b"unpaired",
-        24 => b"given up",
-        25 => b"many sails",
-        26 => b"long passage",
-        27 => b"no plan",
-        _ => b"",
-    }
+    let Ends { from, to } = word_at(number);
+    &LETTERS[from..to]
 }
 
 // Whether a number has a row in the table of refusals.
