@@ -8,7 +8,7 @@ use Prim.Native.Nat.{ℕ, zero, suc, ◌+◌, ◌-◌, ◌≤◌, ◌<◌}
 use Prim.Native.String.{String}
 use native.Mathlib.Numerals.{add-one}
 use native.Mathlib.Omega.{arith}
-use borrow.Author.Tests.{leb-true, eqb-true, le-leb, eq-eqb, ne_eqb, not-true}
+use borrow.Author.Tests.{leb-true, eqb-true, eqb-false, le-leb, eq-eqb, ne_eqb, not-true}
 use lib.Dec.{leb, ltb, eqb}
 use lib.ListN.{length, get_or, take, drop, length-append, take-append-drop, get_or-eq_default}
 use lib.Seq.{take_at, drop_at, take_all}
@@ -50,6 +50,24 @@ row_below n t = ⊎_elim (λ l. l) (λ l. absurd (false≢true (sym (no_row n l)
 -- a test that passes at each number below 28, by computing it, and past them, where there is no word, passes for every number
 in_rows : (f : ℕ → Bool) → every f 28 ≡ true → ((n : ℕ) → 28 ≤ n → f n ≡ true) → (n : ℕ) → f n ≡ true
 in_rows f t past n = ⊎_elim (every_at f 28 t n) (past n) (cases_lt n 28)
+
+-- 0, 23 and the numbers from 28 on have no row
+pub row_none : (n : ℕ) → ((n ≡ 0 → ⊥) → (n ≡ 23 → ⊥) → 28 ≤ n) → false ≡ in_table n
+unfolding in_table word_of
+row_none n h = go (eqb n 0) refl (eqb n 23) refl
+  where
+    go : (a : Bool) → eqb n 0 ≡ a → (b : Bool) → eqb n 23 ≡ b → false ≡ in_table n
+    go true e b f = sym (ap in_table (eqb-true n 0 e))
+    go false e true f = sym (ap in_table (eqb-true n 23 f))
+    go false e false f = sym (no_row n (h (eqb-false n 0 e) (eqb-false n 23 f)))
+
+-- the others have one
+pub row_law : (n : ℕ) → (n ≡ 0 → ⊥) → (n ≡ 23 → ⊥) → n < 28 → true ≡ in_table n
+unfolding in_table word_of
+row_law n h k l =
+    let t = every_at (λ m. (eqb m 0 || eqb m 23) || in_table m) 28 refl n l in
+    let e : (eqb n 0 || eqb n 23) ≡ false = rw (ne_eqb n 0 h) (ne_eqb n 23 k) in
+    sym (the_other _ (in_table n) t e)
 
 -- a word has no comma and no full stop
 unfoldable pub plain : List ℕ → Bool
