@@ -6,13 +6,12 @@ use mathlib.Core.List.{List, [], ◌∷◌, ◌++◌}
 use Prim.Native.Nat.{ℕ, suc, ◌+◌, ◌*◌, ◌-◌, ◌≤◌, ◌<◌}
 use native.Mathlib.Nat.{add-zero}
 use native.Mathlib.Omega.{arith}
-use borrow.Author.Tests.{ltb-true, eqb-true, le-leb, ne_eqb}
+use borrow.Author.Tests.{ltb-true, eqb-true, le-leb}
 use lib.Dec.{ltb, eqb}
 use lib.ListN.{length, get_or, take, drop, length-append, length-take, length-drop}
 use lib.Seq.{length-take-le, take-suc, drop-cons, get_or-take, get_or-drop, drop-drop, take-add}
-use Rattle.decimal.specs.Decimal.{text_of, same_text, all_digits, shaped, value_of, digits_of}
+use Rattle.decimal.specs.Decimal.{text_of, all_digits, shaped, value_of, digits_of}
 use Rattle.decimal.proofs.Laws.{value_snoc, is_digit_lem, all_snoc, all_at, digits_value, shape_one, shape_more}
-use Rattle.decimal.proofs.Texts.{same_true}
 use Rattle.types.specs.declared.Step.TheVariants.{Read, Write, Flush}
 use Rattle.types.specs.declared.Numbers.{Numbers}
 use Rattle.types.specs.Types.{numbers_of}
@@ -21,7 +20,7 @@ use Rattle.landlord.proofs.Steps.{range_free}
 use Rattle.season_lines.specs.Lines.{kind_under, range_under}
 use Rattle.season_log.specs.Log.{no_values, step_text}
 use Rattle.season_log.proofs.Lines.{under_same}
-use Rattle.std.specs.{Prelude.Some, Bool.then_some}
+use Rattle.std.specs.{Prelude.Some}
 use Rattle.log_reader.specs.Inner.{part, DigitsAt, NumberAt, TextAt, EndAt, Begins}
 
 -- ## Digits found
@@ -141,27 +140,6 @@ module _ {text : List ℕ} {from v end : ℕ} (n : NumberAt text from v end) whe
       let e : length (digits_of v) ≡ end - from = omega (arith, digits_count) in
       ap (λ (k : ℕ). take k (drop from text)) e ∙ n.number
 
--- ## The end of a line
-
-pub end_found :
-    (heading : ℕ) (text : List ℕ) (at : ℕ) (found : Bool) →
-    (heading ≡ 1 → ⊥) →
-    found ≡ cond (ltb at (length text)) (eqb (get_or text at 0) 10) false →
-    EndAt heading text at (then_some found (at + 1))
-end_found heading text at false n e = tt
-end_found heading text at true n e = rw (ne_eqb heading 1 n) (refl, stands_byte text at 10 true e refl)
-
-pub end_dashes :
-    (heading : ℕ) (text : List ℕ) (at : ℕ) →
-    heading ≡ 1 →
-    same_text (part at (at + 7) text) (text_of " - - -\n") ≡ true →
-    EndAt heading text at (Some (at + 7))
-end_dashes heading text at f h =
-    let seven : at + 7 - at ≡ 7 = omega arith in
-    let here : TextAt text at (text_of " - - -\n") =
-    ap (λ (n : ℕ). take n (drop at text)) (sym seven) ∙ same_true (part at (at + 7) text) (text_of " - - -\n") h in
-    rw f (refl, here)
-
 -- ## A line found
 
 -- a step that every heading has
@@ -222,20 +200,14 @@ module _ (heading : ℕ) (text : List ℕ) where
         ranged = ranged_under heading (numbers_of (Write v m)) refl (rw (le-leb v 255 small) (le-leb m 1440 few));
       }
 
-  pub flush_begins : (bytes : ℕ) → same_text (take 5 text) (text_of "L - -") ≡ true → EndAt heading text 5 (Some bytes) → Begins heading text Flush bytes
+  pub flush_begins : (bytes : ℕ) → take 5 text ≡ text_of "L - -" → EndAt heading text 5 (Some bytes) → Begins heading text Flush bytes
   unfolding step_text
   flush_begins bytes h feed =
       let line : TextAt text 0 (step_text heading Flush) =
-      stands_then text 0 5 (text_of "L - -") (no_values heading) (same_true (take 5 text) (text_of "L - -") h) refl feed.1 in
+      stands_then text 0 5 (text_of "L - -") (no_values heading) h refl feed.1 in
       let count : bytes ≡ length (step_text heading Flush) = omega (arith, feed.0) in
       record {
         count = count;
         line = ap (λ (n : ℕ). take n text) count ∙ line;
         ranged = ranged_under heading (numbers_of Flush) refl refl;
       }
-
--- the two bytes that a line of a read or a write begins with
-pub two_bytes : (text : List ℕ) (a b : ℕ) → 2 ≤ length text → get_or text 0 0 ≡ a → get_or text 1 0 ≡ b → take 2 text ≡ a ∷ b ∷ []
-two_bytes [] a b h k l = absurd (omega arith)
-two_bytes (x ∷ []) a b h k l = absurd (omega arith)
-two_bytes (x ∷ y ∷ s) a b h k l = (λ i. k i ∷ l i ∷ [])

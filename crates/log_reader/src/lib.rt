@@ -88,14 +88,12 @@ fn end_at(heading: u32, text: &[u8], at: usize) -> Option<usize>
     requires { at ≤ length text.now }
     ensures { EndAt heading text.now at result }
 {
-    if heading == 1 {
-        let end = at + 7;
-        if text.len() < end || !decimal::same(&text[at..end], b" - - -\n") {
-            return None;
-        }
-        return Some(end);
+    match (heading, &text[at..]) {
+        (1, [b' ', b'-', b' ', b'-', b' ', b'-', b'\n', ..]) => Some(at + 7),
+        (1, _) => None,
+        (_, [b'\n', ..]) => Some(at + 1),
+        _ => None,
     }
-    is_byte(text, at, b'\n').then_some(at + 1)
 }
 
 // The read that a text begins with, if it is written as the writer writes one.
@@ -144,13 +142,14 @@ fn write_in(heading: u32, text: &[u8]) -> Option<FirstStep>
 fn step_in(heading: u32, text: &[u8]) -> Option<FirstStep>
     ensures { FoundIn heading text.now result }
 {
-    if text.len() < 6 || text[1] != b' ' {
+    // No line has fewer bytes. Asked first, it spares each digit of an item the question whether its place is within the text.
+    if text.len() < 6 {
         return None;
     }
-    match text[0] {
-        b'R' => read_in(heading, text),
-        b'W' => write_in(heading, text),
-        b'L' if decimal::same(&text[..5], b"L - -") => {
+    match text {
+        [b'R', b' ', ..] => read_in(heading, text),
+        [b'W', b' ', ..] => write_in(heading, text),
+        [b'L', b' ', b'-', b' ', b'-', ..] => {
             let bytes = end_at(heading, text, 5)?;
             Some(FirstStep {
                 step: Step::Flush,

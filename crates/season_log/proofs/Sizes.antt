@@ -1,6 +1,6 @@
 -- How many bytes the parts of a step's line have. Assumes nothing.
 use mathlib.Core.Path.{◌≡◌, refl, sym, ap, ◌∙◌}
-use mathlib.Core.Bool.{Bool, true, false, cond, false≢true}
+use mathlib.Core.Bool.{Bool, true, false, cond, not, ◌||◌, false≢true}
 use mathlib.Core.List.{List, [], ◌++◌, append-nil}
 use mathlib.Core.Logic.{◌≢◌}
 use Prim.Native.Nat.{ℕ, zero, suc, ◌+◌, ◌-◌, ◌≤◌}
@@ -25,6 +25,10 @@ use Rattle.season_log.specs.Inner.{names_text, named_text, arrival_text, range_a
 -- numbers in range under a heading are so as they are
 pub range_kept : (heading : ℕ) (n : Numbers) → in_range (numbers_under heading n) ≡ true → in_range n ≡ true
 range_kept heading n r = grind arith
+
+-- of those that are in range as they are, the three names have no arrival and no retirement
+pub range_named : (heading : ℕ) (n : Numbers) → in_range n ≡ true → in_range (numbers_under heading n) ≡ (eqb heading 1 || not (eqb n.kind 65 || eqb n.kind 81))
+range_named heading n r = grind arith
 
 -- and what is out of range as it is, is so under a heading, and told by the same number
 pub range_stays : (heading : ℕ) (n : Numbers) → range_refusal n ≢ 0 → range_refusal n ≡ range_under heading n
