@@ -3,13 +3,14 @@ use mathlib.Core.Path.{◌≡◌, sym, ap, subst, ◌∙◌}
 use mathlib.Core.List.{List}
 use Prim.Native.Nat.{ℕ, ◌+◌}
 use native.Mathlib.Omega.{arith}
+use lib.ListN.{get_or}
 use Rattle.cache_state.specs.Cache.{Cache}
-use Rattle.cache_state.specs.InnerWith.{with_steps}
+use Rattle.cache_state.specs.InnerWith.{with_steps, with_writebacks, with_write_cost, with_item_writebacks}
 use Rattle.layout.specs.Layout.{cache_of, ValidBytes}
 use Rattle.layout.specs.Inner.{Stands}
 use Rattle.layout.proofs.Places.{stands_as, valid_reads}
 use Rattle.cache_counts.specs.declared.Total.{Total}
-use Rattle.cache_counts.specs.Inner.{total_counted, step_counted, StepReadyAt}
+use Rattle.cache_counts.specs.Inner.{total_counted, step_counted, writeback_counted, StepReadyAt}
 
 -- a total, which is known by its getter and its setter
 pub total_counted_lem :
@@ -32,6 +33,23 @@ pub step_counted_lem :
     Stands after (with_steps (cache_of b1) (steps + 1)) →
     Stands after (step_counted (cache_of b) total)
 step_counted_lem b b1 after total es s1 s2 = stands_as s2 (λ z. with_steps (s1.cache z) (es z + 1))
+
+-- every number of a writeback was read before the first store
+pub writeback_counted_lem :
+    (b b1 b2 after : List ℕ) (i : ℕ) {own writebacks paid price : ℕ} →
+    own ≡ get_or (cache_of b).itemwritebacks i 0 →
+    writebacks ≡ (cache_of b).writebacks →
+    paid ≡ (cache_of b).writecost →
+    price ≡ get_or (cache_of b).write i 0 →
+    Stands b1 (with_item_writebacks (cache_of b) i (own + 1)) →
+    Stands b2 (with_writebacks (cache_of b1) (writebacks + 1)) →
+    Stands after (with_write_cost (cache_of b2) (paid + price)) →
+    Stands after (writeback_counted (cache_of b) i)
+writeback_counted_lem b b1 b2 after i {own} {writebacks} {paid} {price} eo en ep er s1 s2 s3 =
+    stands_as s3
+    (ap (λ (q : Cache). with_write_cost q (paid + price))
+    (s2.cache ∙ ap (λ (q : Cache). with_writebacks q (writebacks + 1)) s1.cache)
+    ∙ (λ z. with_write_cost (with_writebacks (with_item_writebacks (cache_of b) i (eo z + 1)) (en z + 1)) (ep z + er z)))
 
 -- valid bytes can take one step more
 pub valid_ready : {b : List ℕ} → ValidBytes b → StepReadyAt b

@@ -15,13 +15,13 @@ use Rattle.types.specs.declared.Deduction.{Deduction}
 use Rattle.types.specs.declared.Deduction.TheVariants.{WriteFirst}
 use Rattle.types.specs.Types.{deduction_of}
 use Rattle.landlord.specs.Fold.{tab_from, fold}
-use Rattle.landlord.specs.Catalog.{Catalog, Item, listed, none_left, CapacityOk, CatalogOk, all_in_range, catalog_in_range}
+use Rattle.landlord.specs.Catalog.{Catalog, Item, item_at, no_item, listed, none_left, CapacityOk, CatalogOk, all_in_range, catalog_in_range}
 use Rattle.landlord.specs.Slot.{write_first, split_of}
 use Rattle.landlord.specs.Rule.{flush, write_backs}
 use Rattle.landlord.specs.Figures.{Standing, start, opened, closes}
 use Rattle.landlord.specs.Calls.{Opening, opening, opening_refusal, starts_at}
 use Rattle.landlord.specs.Valid.{StandingOk}
-use Rattle.landlord.proofs.Folds.{tab_more}
+use Rattle.landlord.proofs.Folds.{tab_length, tab_at, tab_more}
 use Rattle.landlord.proofs.Valid.{ok_opened, ok_closes}
 use Rattle.landlord.proofs.Ranges.{range_refused}
 use Rattle.queue.specs.Machine.{LazyStanding, LazyOk, standing, lazy_at_opening, lazy_starts_at}
@@ -29,8 +29,10 @@ use Rattle.queue.proofs.Logs.{opening_ok, opening_stands}
 use Rattle.catalog_bytes.specs.Inner.{catalog_of_first, item_bytes}
 use Rattle.catalog_bytes.proofs.Laws.{none_first, one_more}
 use Rattle.cache_state.specs.Cache.{lazy, view, Valid, EmptyPlace, Blank}
+use Rattle.cache_state.specs.InnerView.{item_of}
 use Rattle.cache_state.specs.InnerBecomes.{Becomes}
 use Rattle.cache_state.specs.Cache as records
+use Rattle.cache_state.proofs.Views.{size_is, item_is}
 use Rattle.layout.specs.Layout.{state_bytes, cache_of}
 use Rattle.cache_open.specs.Opening.{OpenedLent}
 use Rattle.cache_open.specs.Inner.{Column, empty_with}
@@ -142,8 +144,8 @@ module _ (k rule n : ℕ) (blocks load write : List ℕ) where
     open_refused c some e = refused_with number c table (ne_eqb number 0 some) e
 
     -- what the opening left in the bytes, read as a struct
-    pub open_taken : (d : Cache) → number ≡ 0 → record_of d ≡ cache_of after → Opened asked 0 d
-    open_taken d none read =
+    pub open_stored : (d : Cache) → number ≡ 0 → record_of d ≡ cache_of after → Opened asked 0 d
+    open_stored d none read =
         record {
           answer = sym none ∙ table;
           valid = subst Valid (sym read) (h.valid none).cache;
@@ -151,6 +153,34 @@ module _ (k rule n : ℕ) (blocks load write : List ℕ) where
           lazy = ap lazy read ∙ h.lazy none ∙ ap (λ (x : Catalog). lazy_at_opening (split_of (deduction_of rule)) k x) same;
           empty = λ i l. subst (λ (z : records.Cache). EmptyPlace z i) (sym read) (h.empty none i l);
         }
+
+    -- its blocks and costs are those of the items, and 0 past them
+    module _ (d : Cache) (none : number ≡ 0) (read : record_of d ≡ cache_of after) where
+      there : Opened asked 0 d
+      there = open_stored d none read
+
+      count : d.n ≡ n
+      unfolding catalog_from
+      count = sym (size_is (record_of d)) ∙ ap (λ (v : Standing). length v.state.catalog) there.stands ∙ tab_length n item
+
+      at : (i : ℕ) → i < n → item_of (record_of d) i ≡ item i
+      unfolding catalog_from
+      at i l = sym (item_is (record_of d) i (omega (arith, count))) ∙ ap (λ (v : Standing). item_at v.state.catalog i) there.stands ∙ tab_at n item i no_item l
+
+      past : (i : ℕ) → n ≤ i → i < 256 → Blank (record_of d) i
+      past i m u = there.valid.fields.past i (omega (arith, count)) u
+
+      -- so the empty cache with these stands where the rule starts
+      pub open_taken : {r : Deduction} (c : Cache) → r ≡ deduction_of rule → record_of c ≡ empty_with k n d.blocks d.load d.write false r → Opened asked 0 c
+      unfolding catalog_from
+      open_taken c is e =
+          stood asked 0 c there.answer (subst LazyOk there.lazy there.valid.lazy) (subst StandingOk there.stands there.valid.standing)
+          (empty_becomes k n item false (deduction_of rule) d.blocks d.load d.write few
+          (record { front = λ i l. ap (λ (x : Item). x.blocks) (at i l); rest = λ i m u. (past i m u).blocks })
+          (record { front = λ i l. ap (λ (x : Item). x.load) (at i l); rest = λ i m u. (past i m u).load })
+          (record { front = λ i l. ap (λ (x : Item). x.write) (at i l); rest = λ i m u. (past i m u).write })
+          (λ i. refl))
+          (e ∙ ap (empty_with k n d.blocks d.load d.write false) is)
 
 -- ---- the arrays as a catalog in bytes
 

@@ -8,6 +8,7 @@ ghost use Rattle.std.specs.Fn.{FnOnceReturnsAtMut};
 ghost use Rattle.landlord.specs.Calls.{Call, opening, close, call_of};
 ghost use Rattle.landlord.specs.CallNumbers.{calls_of};
 ghost use Rattle.catalog_bytes.specs.Inner.{catalog_of_first};
+ghost use Rattle.cache_open.specs.Inner.{empty_with};
 ghost use Rattle.cache_value.specs.Contract.{record_of, catalog_from, CalledBy, OpenedBy, ReportedBy, Ran};
 ghost use Rattle.cache_value.specs.Inner.{nothing_opened, MadeAt, Makes};
 
@@ -69,17 +70,24 @@ pub struct Answered {
 
 // ---- the opening
 
-// A refused opening: a closed cache of 1 block with no items, write-first; in each of the 256 places nothing is held and nothing counted.
-fn refused_opening(refusal: Refusal) -> Answered
-    ensures answer { result.answer ≡ Err refusal }
-    ensures cache { record_of result.cache ≡ nothing_opened }
+// An empty cache of these capacity, catalog and rule: in each of the 256 places nothing is held and nothing counted, and no item has left.
+fn empty(
+    k: u32,
+    n: usize,
+    blocks: [u8; 256],
+    load: [u16; 256],
+    write: [u16; 256],
+    closed: bool,
+    rule: Deduction,
+) -> Cache
+    ensures { record_of result ≡ empty_with k n blocks load write closed rule }
 {
-    let cache = Cache {
-        k: 1,
-        n: 0,
-        blocks: [0; 256],
-        load: [0; 256],
-        write: [0; 256],
+    Cache {
+        k,
+        n,
+        blocks,
+        load,
+        write,
         held: [false; 256],
         loadcredit: [0; 256],
         writecredit: [0; 256],
@@ -96,8 +104,8 @@ fn refused_opening(refusal: Refusal) -> Answered
         writebacks: 0,
         writecost: 0,
         flushes: 0,
-        closed: true,
-        rule: Deduction::WriteFirst,
+        closed,
+        rule,
         left: [0; 4],
         arrivals: 0,
         retirements: 0,
@@ -106,10 +114,25 @@ fn refused_opening(refusal: Refusal) -> Answered
         heap: [0; 256],
         places: [0; 256],
         used: 0,
-    };
+    }
+}
+
+// A refused opening: a closed cache of 1 block with no items, write-first.
+fn refused_opening(refusal: Refusal) -> Answered
+    ensures answer { result.answer ≡ Err refusal }
+    ensures cache { record_of result.cache ≡ nothing_opened }
+{
     Answered {
         answer: Err(refusal),
-        cache,
+        cache: empty(
+            1,
+            0,
+            [0; 256],
+            [0; 256],
+            [0; 256],
+            true,
+            Deduction::WriteFirst,
+        ),
     }
 }
 
@@ -176,10 +199,22 @@ impl Cache {
         put_catalog(&mut catalog, n, blocks, load, write);
         let mut b = [0u8; layout::STATE_BYTES];
         match cache_open::open(&mut b, k, rule, &catalog[..catalog_bytes::ITEM_BYTES * n]) {
-            Ok(()) => Answered {
-                answer: Ok(()),
-                cache: bytes::decode(&b),
-            },
+            Ok(()) => {
+                // The arrays may hold anything past the n items. In the bytes that is blank, so blocks and costs are taken from there.
+                let stored = bytes::decode(&b);
+                Answered {
+                    answer: Ok(()),
+                    cache: empty(
+                        k,
+                        n,
+                        stored.blocks,
+                        stored.load,
+                        stored.write,
+                        false,
+                        types::deduction_of(rule),
+                    ),
+                }
+            }
             Err(refusal) => refused_opening(refusal),
         }
     }

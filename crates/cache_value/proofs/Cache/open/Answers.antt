@@ -16,8 +16,9 @@ returns-then-n-gt256 c =
 pub returns-in-Ok : goal.returns-in-Ok
 returns-in-Ok c =
     let a = c.args in
-    opened_as _ 0 (record { answer = Ok tt; cache = c.decode.result })
-    (open_taken a.k a.rule a.n a.blocks a.load a.write _ c.put_catalog.new.catalog c.if-n-gt256.false (search rules) (search rules) c.put_catalog.ensures c.in-Ok.ensures.opened c.decode.result refl c.decode.ensures)
+    opened_as _ 0 (record { answer = Ok tt; cache = c.empty.result })
+    (open_taken a.k a.rule a.n a.blocks a.load a.write _ c.put_catalog.new.catalog c.if-n-gt256.false (search rules) (search rules) c.put_catalog.ensures c.in-Ok.ensures.opened
+    c.decode-stored.result refl c.decode-stored.ensures c.empty.result c.deduction_of.ensures c.empty.ensures)
     refl
 
 pub returns-in-Err : goal.returns-in-Err
